@@ -30,7 +30,8 @@ use Rattle.aom_safety.proofs.Straight.{At, Law, claim_register, fits_unowning, r
 use Rattle.aom_safety.proofs.Suiting.{all_returned, known_resting, rests_there, suits_rests}
 use Rattle.aom_semantics.specs.Calls.{result_needs}
 use Rattle.aom_safety.specs.Claims.{Dispatching, Layer, Mark, Mark_form, Method, claim, declared, declared_field, tasks_of}
-use Rattle.aom_semantics.specs.Places.{Cell, Elsewhere, Field, Place, Queued, Register, Service, Session, changed, held, moved, named, requested, same_place, seen, service_of, set_service}
+use Rattle.aom_semantics.specs.Places.{Cell, Elsewhere, Field, Place, Queued, Register, Service, Session, changed}
+use Rattle.aom_semantics.specs.Places.{held, moved, named, requested, same_place, seen, service_of, set_service}
 use Rattle.aom_safety.specs.Requests.{AllSuit}
 use Rattle.aom_semantics.specs.Servers.{has_message, has_session, is_among, opened}
 use Rattle.aom_semantics.specs.State.{word, Accepted, Accepts, Choice, Frame, Of_server, Seat, State}
@@ -133,14 +134,15 @@ module _ (p : Image) (t : Typing) (c : Choice) (s : State) (fr : Frame) (sh : Sh
     rest_free = ap (λ g. none_owns (result_moved p fr.method fr.place sh g a).registers) (sym gives) ∙ r.free
 
     fits_then : (r : Place) → Fits p (seen cs2) (held cs2 r) (claim p (declared p cs2) (Dispatching (Of_server x client Accepted) seats ∷ ls) r)
-    fits_then r =
-        rw (held_served cs1 n v r) (fits_age p (seen cs1) (seen cs2) (held cs1 r) _ (λ y e fresh age. (λ f. held_served cs1 n v (Field y.name f) ∙ age.0 f, requested_served cs1 n v y.name ∙ age.1)) (go (same_place to r) refl carried))
+    fits_then r = rw (held_served cs1 n v r) (fits_age p (seen cs1) (seen cs2) (held cs1 r) _
+        (λ y e fresh age. (λ f. held_served cs1 n v (Field y.name f) ∙ age.0 f, requested_served cs1 n v y.name ∙ age.1)) (go (same_place to r) refl carried))
       where
         k : Place → Kind
         k = claim p (declared p cs) (Method fr sh ∷ below)
 
         carried : Fits p (seen cs1) (held cs1 r) (changed (changed k q Null) to (k q) r)
-        carried = keep_fits p (seen cs) (seen cs1) k (changed (changed k q Null) to (k q)) q to (λ r. held_moved cs q to r free) (requested_moved cs q to) (λ r. refl) (λ r y e fresh f. refl) at_hand.good.fits r
+        carried = keep_fits p (seen cs) (seen cs1) k (changed (changed k q Null) to (k q)) q to
+            (λ r. held_moved cs q to r free) (requested_moved cs q to) (λ r. refl) (λ r y e fresh f. refl) at_hand.good.fits r
 
         go :
             (b : Bool) → same_place to r ≡ b → Fits p (seen cs1) (held cs1 r) (cond b (k q) (cond (same_place q r) Null (k r))) →
@@ -153,7 +155,8 @@ module _ (p : Image) (t : Typing) (c : Choice) (s : State) (fr : Frame) (sh : Sh
         go false e f =
             let bare = subst (λ y. Fits p (seen cs1) (held cs1 r) y) (sym (claim-set_register p (declared p cs) fr sh below a Null r)) f in
             let over =
-            ended p cs fr (set_register sh a Null) below at_hand.good.stack.1.holder at_hand.good.stack.1.view at_hand.good.stack.2 at_hand.good.stack.3 refl entries rest_free (λ serving. absurd (at_hand.good.stack.1.message.0 serving)) r
+            ended p cs fr (set_register sh a Null) below at_hand.good.stack.1.holder at_hand.good.stack.1.view
+            at_hand.good.stack.2 at_hand.good.stack.3 refl entries rest_free (λ serving. absurd (at_hand.good.stack.1.message.0 serving)) r
             (seen cs1) (held cs1 r) bare in
             subst (λ y. Fits p (seen cs1) (held cs1 r) y)
             (mark_claims p (declared p cs) gv (Dispatching (Of_server x client Accepts) seats ∷ ls) r ∙ sym (claims_alike (declared p cs) r)

@@ -12,7 +12,8 @@ use Rattle.aom_safety.proofs.Storing.{requested_here, requested_there, rerequest
 use Rattle.aom_semantics.specs.Enlisted.{on_request}
 use Rattle.aom_semantics.specs.Places.{Cell, Elsewhere, Object, Place, Request, Root, Service, requested, service_of, set_request}
 use Rattle.aom_semantics.specs.State.{Home, Inside}
-use Rattle.aom_semantics.specs.Tokens.{TokensApart, all_redeemed, awaited, handed_cells, handed_out, home_class, is_order, next_token, order_in, order_past, promised, redeemed_by, redeemed_request, redeemed_with, with_token}
+use Rattle.aom_semantics.specs.Tokens.{TokensApart, all_redeemed, awaited, handed_cells, handed_out, home_class, is_order, next_token}
+use Rattle.aom_semantics.specs.Tokens.{order_in, order_past, promised, redeemed_by, redeemed_request, redeemed_with, with_token}
 
 -- ---- one request, or none
 
@@ -33,8 +34,8 @@ pub redeems_none : (cs : List Cell) (code : ℤ) (k : ℕ) → ((x : ℕ) → aw
 redeems_none cs code k none x = grind (arith, nat_tests, waits_for k)
 
 -- the living token of each object is known by its place, and the object of each token by the token's: so nothing waits for a token that is no object's living one
-module _ (cs : List Cell) (apart : TokensApart cs) (live_at object_at : ℕ → Option ℕ)
-    (waits : (n k : ℕ) → awaited (requested cs n) ≡ Some k → (m : ℕ) × (live_at n ≡ Some m) × (order_in (service_of cs (4096 + m)).token ≡ Some k) × (object_at m ≡ Some n)) where
+module _ (cs : List Cell) (apart : TokensApart cs) (live_at object_at : ℕ → Option ℕ) (waits : (n k : ℕ) →
+    awaited (requested cs n) ≡ Some k → (m : ℕ) × (live_at n ≡ Some m) × (order_in (service_of cs (4096 + m)).token ≡ Some k) × (object_at m ≡ Some n)) where
   pub void_waits_none : (m n k : ℕ) → order_in (service_of cs (4096 + m)).token ≡ Some k → object_at m ≡ Some n → (live_at n ≡ Some m → ⊥) → (x : ℕ) → awaited (requested cs x) ≡ Some k → ⊥
   void_waits_none m n k told of void x e = grind (arith, nat_tests, same_Some x n)
 

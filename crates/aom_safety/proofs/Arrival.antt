@@ -14,7 +14,8 @@ use Rattle.aom_shape.specs.declared.kind.Kind.{Kind}
 use Rattle.aom_shape.specs.declared.kind.Kind.TheVariants.{Maybe, Word}
 use Rattle.aom_safety.proofs.Straight.{Fitted, next_unowning, settle, stepped, write}
 use Rattle.aom_semantics.specs.Calls.{called, result_register}
-use Rattle.aom_safety.specs.Claims.{Dispatching, Layer, Mark, Method, Unwinding, by_close, by_stage, claim, declared, forms, is_of_root, items_of, objects, tasks_of}
+use Rattle.aom_safety.specs.Claims.{Dispatching, Layer, Mark, Method, Unwinding, by_close, by_stage}
+use Rattle.aom_safety.specs.Claims.{claim, declared, forms, is_of_root, items_of, objects, tasks_of}
 use Rattle.aom_semantics.specs.Cleanup.{arrived, code_told, ended_by}
 use Rattle.aom_semantics.specs.Places.{Cell, Elsewhere, In_service, Place, Root, held, seen}
 use Rattle.aom_semantics.specs.State.{Of_server, Accepts, Serves, Dispatch, Frame, Item, Of_main, Of_object, Seat, State, Static, next, set_word}
@@ -47,9 +48,8 @@ told_same x c code fr = grind arith
 
 module _ (p : Image) (t : Typing) (s : State) (code : ℤ) (items : List Item) where
   -- at the method that set the trap
-  at_method :
-      (gv : Gives) (fr : Frame) (sh : Shape) (ls : List Layer) → forms items ≡ objects sh.entries (items_of ls) → AllUndo p items → Good p t s.cells (Unwinding code [] ∷ Mark gv ∷ Method fr sh ∷ ls) →
-      Keeps p t (arrived p code (tasks_of (Mark gv ∷ Method fr sh ∷ ls)) items s)
+  at_method : (gv : Gives) (fr : Frame) (sh : Shape) (ls : List Layer) → forms items ≡ objects sh.entries (items_of ls) → AllUndo p items →
+      Good p t s.cells (Unwinding code [] ∷ Mark gv ∷ Method fr sh ∷ ls) → Keeps p t (arrived p code (tasks_of (Mark gv ∷ Method fr sh ∷ ls)) items s)
   at_method gv fr sh ls same undos good =
       let below = good.stack.1.1 in
       let i = instr_at p fr.method fr.place in
@@ -66,10 +66,10 @@ module _ (p : Image) (t : Typing) (s : State) (code : ℤ) (items : List Item) w
       fits r = grind arith
 
   -- at a dispatch, which ends with it and claims what it did
-  ends :
-      (gv : Gives) (d : Dispatch) (seats : List Seat) (ls : List Layer) → is_of_root d ≡ is_of_root (ended_by code d) → ((n x : ℕ) (k : Kind) → by_close d n x k ≡ by_close (ended_by code d) n x k) →
-      ((k : Kind) → by_stage d k ≡ by_stage (ended_by code d) k) → Stack p t s.cells Now (Dispatching (ended_by code d) seats ∷ ls) → forms items ≡ items_of ls → AllUndo p items →
-      Good p t s.cells (Unwinding code [] ∷ Mark gv ∷ Dispatching d seats ∷ ls) → Keeps p t (arrived p code (tasks_of (Mark gv ∷ Dispatching d seats ∷ ls)) items s)
+  ends : (gv : Gives) (d : Dispatch) (seats : List Seat) (ls : List Layer) → is_of_root d ≡ is_of_root (ended_by code d) →
+      ((n x : ℕ) (k : Kind) → by_close d n x k ≡ by_close (ended_by code d) n x k) → ((k : Kind) → by_stage d k ≡ by_stage (ended_by code d) k) →
+      Stack p t s.cells Now (Dispatching (ended_by code d) seats ∷ ls) → forms items ≡ items_of ls → AllUndo p items → Good p t s.cells
+      (Unwinding code [] ∷ Mark gv ∷ Dispatching d seats ∷ ls) → Keeps p t (arrived p code (tasks_of (Mark gv ∷ Dispatching d seats ∷ ls)) items s)
   ends gv d seats ls root close stage stack same undos good = record {
     layers = Dispatching (ended_by code d) seats ∷ ls;
     tasks = refl;
@@ -84,9 +84,8 @@ module _ (p : Image) (t : Typing) (s : State) (code : ℤ) (items : List Item) w
       claims : (r : Place) → claim p (declared p s.cells) (Unwinding code [] ∷ Mark gv ∷ Dispatching d seats ∷ ls) r ≡ claim p (declared p s.cells) (Dispatching (ended_by code d) seats ∷ ls) r
       claims x = grind (arith, nat_tests, below (Elsewhere Root), below (Elsewhere In_service))
 
-  at_dispatch :
-      (gv : Gives) (d : Dispatch) (seats : List Seat) (ls : List Layer) → forms items ≡ items_of ls → AllUndo p items → Good p t s.cells (Unwinding code [] ∷ Mark gv ∷ Dispatching d seats ∷ ls) →
-      Keeps p t (arrived p code (tasks_of (Mark gv ∷ Dispatching d seats ∷ ls)) items s)
+  at_dispatch : (gv : Gives) (d : Dispatch) (seats : List Seat) (ls : List Layer) → forms items ≡ items_of ls → AllUndo p items → Good p t s.cells
+      (Unwinding code [] ∷ Mark gv ∷ Dispatching d seats ∷ ls) → Keeps p t (arrived p code (tasks_of (Mark gv ∷ Dispatching d seats ∷ ls)) items s)
   at_dispatch gv Of_main seats ls same undos good = grind (arith, nat_tests, ends gv Of_main seats ls)
   at_dispatch gv (Of_object x) seats ls same undos good = grind (arith, nat_tests, ends gv (Of_object x) seats ls)
   at_dispatch gv (Of_server x c Accepts) seats ls same undos good = grind (arith, nat_tests, ends gv (Of_server x c Accepts) seats ls)

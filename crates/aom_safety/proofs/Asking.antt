@@ -42,12 +42,10 @@ found p wired (An_object_of c) m e = (c, refl, wired.answers c m e)
 found p wired Message m e = cc
 
 module _ (p : Image) (t : Typing) (wired : IsWired p) (typed : IsTyped p t) (s : State) (x : Seat) (code : ℤ) where
-  asks_it :
-      (above : List Seat) → s.items ≡ [] → Good p t s.cells (Dispatching (Object_left x code) (x ∷ above) ∷ []) → (m : ℕ) → part_of p Error x.object.thing ≡ Some m →
-      WellTyped p t (asking p (Some m) x code s)
-  asks_it above items good m e =
-      enters p t typed s.cells x above over m (Some code ∷ []) entering (asking p (Some m) x code s) (length s.items) (ap length items) refl refl (ap forms items)
-      (rw items tt)
+  asks_it : (above : List Seat) → s.items ≡ [] → Good p t s.cells (Dispatching (Object_left x code) (x ∷ above) ∷ []) →
+      (m : ℕ) → part_of p Error x.object.thing ≡ Some m → WellTyped p t (asking p (Some m) x code s)
+  asks_it above items good m e = enters p t typed s.cells x above over m
+      (Some code ∷ []) entering (asking p (Some m) x code s) (length s.items) (ap length items) refl refl (ap forms items) (rw items tt)
     where
       over : List Layer
       over = Dispatching (Asks x) (x ∷ above) ∷ []

@@ -43,10 +43,9 @@ called_delivery : (target : Target) (class : Option ℕ) (ended : ℕ) (sh : Sha
 called_delivery x class ended sh = grind arith
 
 -- under a trap it rests
-rests_under :
-    (p : Image) (m : ℕ) (fr : Frame) (sh : Shape) (home : Home) → ((o : Object) (from : Place) → home ≡ Inside o from → thing_kind p o.thing ≡ kind_of p (method_class p m)) →
-    ((o : Object) (from : Place) → home ≡ Inside o from → works_at o.name fr.home ≡ true → sh.states ≡ resting p (method_class p m)) →
-    (o : Object) (from : Place) → home ≡ Inside o from → works_at o.name fr.home ≡ true → IsTrue (has sh.states (rests_in p o))
+rests_under : (p : Image) (m : ℕ) (fr : Frame) (sh : Shape) (home : Home) → ((o : Object) (from : Place) → home ≡ Inside o from → thing_kind p o.thing
+    ≡ kind_of p (method_class p m)) → ((o : Object) (from : Place) → home ≡ Inside o from → works_at o.name fr.home ≡ true → sh.states ≡ resting p
+    (method_class p m)) → (o : Object) (from : Place) → home ≡ Inside o from → works_at o.name fr.home ≡ true → IsTrue (has sh.states (rests_in p o))
 rests_under p m fr sh home kind settles o from e w = grind (arith, nat_tests, has_itself sh.states)
 
 -- the caller finds its object in a state in which what ran may leave it
@@ -85,7 +84,10 @@ module _ (p : Image) (t : Typing) (wired : IsWired p) (typed : IsTyped p t) (c :
       let high = same_high p t wired typed c s fr sh ls at_hand m first depth height deep called_so passed home sh' a.1 in (
         all_join (needs_target p fr (tasks_of ls) s target m (method_class p m) first (length (arguments_of p m))) _ a.0
             (parts.1.0, all_join (needs_each p fr (tasks_of ls) s (arguments_of p m) first) _ (each_met p t c s fr sh ls at_hand (arguments_of p m) first more.0) (result_met p t wired typed c s fr sh ls at_hand m first depth height deep called_so passed (gives_of p m) x more.1.1.1.0)),
-        enter p t wired typed c s fr sh ls at_hand m first depth height deep called_so passed home sh' (Method fr sh' ∷ ls) k view runs (λ x. x) a.1 refl (ap length (sym high) ∙ length_forms s.items) (λ d r. refl) (λ o. refl) a.1.housed (a.1.apart k) (caller p t wired typed c s fr sh ls at_hand m first depth height deep called_so passed home sh' (Returns k home) a.1 stands) (does p c fr (tasks_of ls) s (Call target m first x)) refl refl high at_hand.undos,
+        enter p t wired typed c s fr sh ls at_hand m first depth height deep called_so passed home sh'
+            (Method fr sh' ∷ ls) k view runs (λ x. x) a.1 refl (ap length (sym high) ∙ length_forms s.items) (λ d r. refl) (λ o. refl) a.1.housed
+            (a.1.apart k) (caller p t wired typed c s fr sh ls at_hand m first depth height deep called_so passed home sh' (Returns k home) a.1 stands)
+            (does p c fr (tasks_of ls) s (Call target m first x)) refl refl high at_hand.undos,
       )
     where
       depth : ℕ
@@ -101,9 +103,9 @@ below_mark x gv ls b = grind arith
 housed_mark : (p : Image) (cs : List Cell) (home : Home) (gv : Gives) (ls : List Layer) → IsHoused p cs ls home → IsHoused p cs (Mark gv ∷ ls) home
 housed_mark p _ x gv ls h = grind (arith, nat_tests, below_mark, mark_claims p)
 
-apart_mark :
-    (p : Image) (view : Option ℕ) (k : ℕ) (home : Home) (gv : Gives) (fr : Frame) (sh : Shape) (ls : List Layer) → IsApart p view k home (Method fr sh ∷ ls) →
-    ((o : Object) (from : Place) → home ≡ Inside o from → works_at o.name fr.home ≡ true → IsTrue (has sh.states (rests_in p o))) → IsApart p view k home (Mark gv ∷ Method fr sh ∷ ls)
+apart_mark : (p : Image) (view : Option ℕ) (k : ℕ) (home : Home) (gv : Gives) (fr : Frame) (sh : Shape) (ls : List Layer) → IsApart p view k home
+    (Method fr sh ∷ ls) → ((o : Object) (from : Place) → home ≡ Inside o from → works_at o.name fr.home ≡ true → IsTrue (has sh.states (rests_in p o))) →
+    IsApart p view k home (Mark gv ∷ Method fr sh ∷ ls)
 apart_mark p view k x gv fr sh ls a r = grind arith
 
 module _ (p : Image) (t : Typing) (wired : IsWired p) (typed : IsTyped p t) (c : Choice) (s : State) (fr : Frame) (sh : Shape) (ls : List Layer) (at_hand : At p t s fr sh ls) where
@@ -139,10 +141,13 @@ module _ (p : Image) (t : Typing) (wired : IsWired p) (typed : IsTyped p t) (c :
         all_join (needs_target p fr (tasks_of ls) s target m (method_class p m) first (length (arguments_of p m))) _ a.0 (
           parts.1.0,
           all_join (needs_each p fr (tasks_of ls) s (arguments_of p m) first) _ (each_met p t c s fr sh ls at_hand (arguments_of p m) first more.0)
-              (all_join (needs_result p fr (tasks_of ls) s gv (given_cells p fr (tasks_of ls) s (over_trap p fr (tasks_of ls) s) m first) x) _ (result_met p t wired typed c s fr sh ls at_hand m first depth height deep called_so passed gv x more.1.1.0) (free, tt)),
+              (all_join (needs_result p fr (tasks_of ls) s gv (given_cells p fr (tasks_of ls) s (over_trap p fr (tasks_of ls) s) m first) x) _
+              (result_met p t wired typed c s fr sh ls at_hand m first depth height deep called_so passed gv x more.1.1.0) (free, tt)),
         ),
-        enter p t wired typed c s fr sh ls at_hand m first depth height deep called_so passed home sh' over k view runs (λ x. x) a.1 refl (ap suc (ap length (sym high) ∙ length_forms s.items)) (λ d r. mark_claims p d gv (Method fr sh' ∷ ls) r) (λ o. refl)
-            (housed_mark p (given_cells p fr (tasks_of ls) s (over_trap p fr (tasks_of ls) s) m first) home gv (Method fr sh' ∷ ls) a.1.housed) (apart_mark p view k home gv fr sh' ls (a.1.apart k) (rests_under p m fr sh' home (grind (arith, nat_tests, kind_begun)) a.1.settles))
+        enter p t wired typed c s fr sh ls at_hand m first depth height deep called_so passed home sh' over k view runs
+            (λ x. x) a.1 refl (ap suc (ap length (sym high) ∙ length_forms s.items)) (λ d r. mark_claims p d gv (Method fr sh' ∷ ls) r) (λ o. refl)
+            (housed_mark p (given_cells p fr (tasks_of ls) s (over_trap p fr (tasks_of ls) s) m first) home gv (Method fr sh' ∷ ls) a.1.housed)
+            (apart_mark p view k home gv fr sh' ls (a.1.apart k) (rests_under p m fr sh' home (grind (arith, nat_tests, kind_begun)) a.1.settles))
             (grind (arith, nat_tests), below) (does p c fr (tasks_of ls) s (Trap target m first x)) refl refl (ap (λ fs. Mark_form ∷ fs) high) at_hand.undos,
       )
     where

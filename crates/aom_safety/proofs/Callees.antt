@@ -103,10 +103,9 @@ fits_fresh p h _ _ _ = tt
 
 -- what is no argument stays where it is
 module _ (p : Image) (s : State) (fr : Frame) (ls : List Layer) (depth : ℕ) (deep : length (tasks_of ls) < depth) where
-  pub passed_elsewhere :
-      (t : Typing) (xs : List Argument) (first to : ℕ) (cs : List Cell) (q : Place) → ((i : ℕ) → to ≤ i → held cs (upper p t fr ls depth deep i) ≡ None) →
-      ((i : ℕ) → first ≤ i → i < (first + length xs) → same_place (lower p t fr ls depth deep i) q ≡ false) → ((i : ℕ) → same_place (upper p t fr ls depth deep i) q ≡ false) →
-      held (passed_cells p fr (tasks_of ls) s depth xs first to cs) q ≡ held cs q
+  pub passed_elsewhere : (t : Typing) (xs : List Argument) (first to : ℕ) (cs : List Cell) (q : Place) → ((i : ℕ) → to ≤ i →
+      held cs (upper p t fr ls depth deep i) ≡ None) → ((i : ℕ) → first ≤ i → i < (first + length xs) → same_place (lower p t fr ls depth deep i) q ≡ false) →
+      ((i : ℕ) → same_place (upper p t fr ls depth deep i) q ≡ false) → held (passed_cells p fr (tasks_of ls) s depth xs first to cs) q ≡ held cs q
   passed_elsewhere t [] first to cs q free lo up = refl
   passed_elsewhere t (Takes_word ∷ xs) first to cs q free lo up = grind (arith, nat_tests, passed_elsewhere t xs)
   passed_elsewhere t (Takes_own x ∷ xs) first to cs q free lo up = grind (arith, nat_tests, lower, upper, passed_elsewhere t xs, held_moved, ne_eqb)

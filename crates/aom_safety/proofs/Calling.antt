@@ -1,6 +1,7 @@
 -- A method is called, plainly or under a trap: on its caller's own object, on what a register, a field or a cleanup entry owns, or on nothing.
 use Rattle.std.proofs.lemmas.Bool.Decides.{nat_tests}
-use Rattle.std.proofs.Common.{[], Bool, IsTrue, List, None, Option, Some, ap, arith, cond, false, inl, inr, length, refl, subst, suc, sym, true, ℕ, ℤ, ◌&&◌, ◌+◌, ◌-◌, ◌<◌, ◌==◌, ◌∙◌, ◌∷◌, ◌≡◌, ◌≤◌}
+use Rattle.std.proofs.Common.{[], Bool, IsTrue, List, None, Option, Some, ap, arith, cond, false, inl, inr, length}
+use Rattle.std.proofs.Common.{refl, subst, suc, sym, true, ℕ, ℤ, ◌&&◌, ◌+◌, ◌-◌, ◌<◌, ◌==◌, ◌∙◌, ◌∷◌, ◌≡◌, ◌≤◌}
 use Rattle.std.proofs.lemmas.Bool.{eq-eqb, eqb-true, ltb-true, ne_eqb, true≢false}
 use Rattle.std.specs.Prelude.{is_none, is_some, map, not, replicate, ◌⊎◌}
 use Rattle.aom_image.specs.Image.{Image}
@@ -31,7 +32,8 @@ use Rattle.aom_shape.specs.declared.kind.Filling.{Filling}
 use Rattle.aom_shape.specs.declared.kind.Filling.TheVariants.{Empty, Full, Perhaps}
 use Rattle.aom_shape.specs.declared.kind.Kind.{Kind}
 use Rattle.aom_shape.specs.declared.kind.Kind.TheVariants.{Null, Own, Unset}
-use Rattle.aom_safety.proofs.Claimed.{claim_in_view, Outside, OwnsNoMore, claim_from, claim_register_above, claim_weaker, filled_weaker, fits_weaker, outside_differs, word_fits_weaker}
+use Rattle.aom_safety.proofs.Claimed.{claim_in_view, Outside, OwnsNoMore, claim_from, claim_register_above, claim_weaker}
+use Rattle.aom_safety.proofs.Claimed.{filled_weaker, fits_weaker, outside_differs, word_fits_weaker}
 use Rattle.aom_safety.proofs.Destroying.{Untouched, at_alike, eqb_comm, other_name, untouched, untouched_method}
 use Rattle.aom_safety.proofs.Finishing.{all_join}
 use Rattle.aom_safety.proofs.Items.{begins_well, entry_claimed, entry_owns, entry_there, length_each, length_forms, readied_claim, readied_items}
@@ -39,27 +41,34 @@ use Rattle.aom_safety.proofs.Jumps.{words_kept}
 use Rattle.aom_semantics.proofs.Maps.{at-put_at, held_lives, same_place-true}
 use Rattle.aom_safety.proofs.Passing.{Passed, filled_weaker_below, filling, lower, under, upper}
 use Rattle.aom_safety.proofs.Raising.{parents_met, raised}
-use Rattle.aom_safety.proofs.Straight.{At, claim_field, claim_register, field_fits, field_not_from, field_outside, fits_unowning, kind_fits, top, word_of_object}
+use Rattle.aom_safety.proofs.Straight.{At, claim_field, claim_register, field_fits, field_not_from, field_outside}
+use Rattle.aom_safety.proofs.Straight.{fits_unowning, kind_fits, top, word_of_object}
 use Rattle.aom_safety.proofs.Overriders.{RunsFor, begins_as}
 use Rattle.aom_safety.proofs.Things.{stands_along}
 use Rattle.aom_safety.proofs.Housing.{houses_counts, houses_family, houses_field, houses_same}
 use Rattle.aom_roles.proofs.Descending.{through}
 use Rattle.aom_roles.specs.Families.{descends}
-use Rattle.aom_semantics.specs.Calls.{entry_place, home_at, needs_result, needs_target, needs_target_object, own_home, own_view, passed_cells, passed_words, target_home, target_view, works_on}
-use Rattle.aom_safety.specs.Claims.{own_field, serves, Layer, Method, claim, declared, declared_field, forms, home_claim, items_of, layer_claim, objects, tasks_of}
+use Rattle.aom_semantics.specs.Calls.{entry_place, home_at, needs_result, needs_target, needs_target_object, own_home}
+use Rattle.aom_semantics.specs.Calls.{own_view, passed_cells, passed_words, target_home, target_view, works_on}
+use Rattle.aom_safety.specs.Claims.{own_field, serves, Layer, Method, claim, declared, declared_field}
+use Rattle.aom_safety.specs.Claims.{forms, home_claim, items_of, layer_claim, objects, tasks_of}
 use Rattle.aom_safety.proofs.Waiting.{waits_in_view}
 use Rattle.aom_safety.specs.Laws.{IsCalled, IsWired}
-use Rattle.aom_semantics.specs.Places.{In_service, Cell, Elsewhere, Entry, Field, Going, Object, Place, Register, Root, held, named, requested, same_place, seen}
-use Rattle.aom_semantics.specs.State.{thing_view, AtRoot, Choice, Frame, Home, Inside, Run, State, Static, WrongKind, field_place, frame_as, home_holder, home_view, thing_holder, word}
-use Rattle.aom_safety.specs.WellTyped.{InView, CountsAs, Houses, IsServed, AllUndo, Awaits, Back, Fits, Good, Holds, IsApart, IsBelow, IsHoused, IsNoFieldOf, NotIn, Returns, Stack, Stands, WellTyped, WordFits, WorksOn}
-use Rattle.aom_safety.proofs.Callees.{apart_from, below_more, filled_ready, fits_fresh, held_own, holder_called, holder_member, holder_static, home_member, member_kind, moved_entries, moved_fields, moved_register, own_for, passed_elsewhere}
+use Rattle.aom_semantics.specs.Places.{In_service, Cell, Elsewhere, Entry, Field, Going, Object, Place}
+use Rattle.aom_semantics.specs.Places.{Register, Root, held, named, requested, same_place, seen}
+use Rattle.aom_semantics.specs.State.{thing_view, AtRoot, Choice, Frame, Home, Inside, Run, State, Static, WrongKind}
+use Rattle.aom_semantics.specs.State.{field_place, frame_as, home_holder, home_view, thing_holder, word}
+use Rattle.aom_safety.specs.WellTyped.{InView, CountsAs, Houses, IsServed, AllUndo, Awaits, Back, Fits, Good, Holds, IsApart, IsBelow}
+use Rattle.aom_safety.specs.WellTyped.{IsHoused, IsNoFieldOf, NotIn, Returns, Stack, Stands, WellTyped, WordFits, WorksOn}
+use Rattle.aom_safety.proofs.Callees.{apart_from, below_more, filled_ready, fits_fresh, held_own, holder_called, holder_member, holder_static}
+use Rattle.aom_safety.proofs.Callees.{home_member, member_kind, moved_entries, moved_fields, moved_register, own_for, passed_elsewhere}
 use Rattle.aom_safety.specs.Requests.{AllSuit, Known, Suits, Unworked, known_at, resting_in, states_claim, thing_kind, works_at}
 use Rattle.aom_roles.specs.Shapes.{kind_of}
 use Rattle.aom_safety.proofs.Suiting.{known_plain, same_object, suits_first, suits_less, unworked_rests}
 use Rattle.aom_safety.proofs.Attending.{plain_claim, called_plain}
 
-module _ (p : Image) (t : Typing) (wired : IsWired p) (typed : IsTyped p t) (c : Choice) (s : State) (fr : Frame) (sh : Shape) (ls : List Layer) (at_hand : At p t s fr sh ls)
-    (m first depth height : ℕ) (deep : length (tasks_of ls) < depth) (is_called : IsCalled p m) where
+module _ (p : Image) (t : Typing) (wired : IsWired p) (typed : IsTyped p t) (c : Choice) (s : State) (fr : Frame) (sh : Shape)
+    (ls : List Layer) (at_hand : At p t s fr sh ls) (m first depth height : ℕ) (deep : length (tasks_of ls) < depth) (is_called : IsCalled p m) where
   abbrev xs : List Argument
   xs = arguments_of p m
 
@@ -87,7 +96,8 @@ module _ (p : Image) (t : Typing) (wired : IsWired p) (typed : IsTyped p t) (c :
   abbrev FieldsBegin : Option ℕ → Home → Type 0
   FieldsBegin view Static = Unit {0}
   FieldsBegin view AtRoot = ⊥
-  FieldsBegin view (Inside o from) = (k : ℕ) → MayRun k view o → (f : ℕ) (x : Thing) → field_thing p (holder_of p k) f ≡ Some x → Fits p (seen cs) (held cs (Field o.name f)) (filled (Some x) (field (entry_shape p m) f))
+  FieldsBegin view (Inside o from) = (k : ℕ) → MayRun k view o →
+      (f : ℕ) (x : Thing) → field_thing p (holder_of p k) f ≡ Some x → Fits p (seen cs) (held cs (Field o.name f)) (filled (Some x) (field (entry_shape p m) f))
 
   -- what is known of the object that it works on as it begins, over its caller in that state
   abbrev known_there : Object → Shape → ℕ → Known
@@ -131,9 +141,9 @@ module _ (p : Image) (t : Typing) (wired : IsWired p) (typed : IsTyped p t) (c :
     claims_over k home after sh' r = layer_claim p (Method (callee k None home) after) depth [] r (claim p (declared p cs) (Method fr sh' ∷ ls) r)
 
     -- the first state of the called method over its caller
-    begins :
-        {ended : ℕ} {view : Option ℕ} (k : ℕ) (home : Home) (sh' : Shape) → Entering ended home view sh' → Houses p (home_holder home) (holder_of p k) × (method_role p m ≡ Some Construct → k ≡ m) × CountsAs p (home_holder home) view (holder_of p k) → serves p k ≡ false → (after : Shape) → SaysNoMore after (entry_shape p m) → (r : Place) →
-        Fits p (seen cs) (held cs r) (claims_over k home after sh' r)
+    begins : {ended : ℕ} {view : Option ℕ} (k : ℕ) (home : Home) (sh' : Shape) → Entering ended home view sh' →
+        Houses p (home_holder home) (holder_of p k) × (method_role p m ≡ Some Construct → k ≡ m) × CountsAs p (home_holder home) view (holder_of p k) →
+        serves p k ≡ false → (after : Shape) → SaysNoMore after (entry_shape p m) → (r : Place) → Fits p (seen cs) (held cs r) (claims_over k home after sh' r)
     begins {view = view} k home sh' e housing silent after w (Register f i) = grind (arith, nat_tests, fits_weaker p)
     begins {view = view} k home sh' e housing silent after w (Entry j) = grind (arith, nat_tests)
     begins {view = view} k home sh' e housing silent after w (Field n f) = go home housing e.fields
@@ -141,12 +151,14 @@ module _ (p : Image) (t : Typing) (wired : IsWired p) (typed : IsTyped p t) (c :
         below : Kind
         below = claim p (declared p cs) (Method fr sh' ∷ ls) (Field n f)
 
-        go : (home : Home) → Houses p (home_holder home) (holder_of p k) × (method_role p m ≡ Some Construct → k ≡ m) × CountsAs p (home_holder home) view (holder_of p k) → FieldsBegin view home → Fits p (seen cs) (held cs (Field n f)) (home_claim p (holder_of p k) home after n f below)
+        go : (home : Home) → Houses p (home_holder home) (holder_of p k) × (method_role p m ≡ Some Construct → k ≡ m) × CountsAs p (home_holder home) view
+            (holder_of p k) → FieldsBegin view home → Fits p (seen cs) (held cs (Field n f)) (home_claim p (holder_of p k) home after n f below)
         go Static may b = e.fits (Field n f)
         go AtRoot may b = e.fits (Field n f)
         go (Inside o from) may b = inside (o.name == n) refl (field_thing p (holder_of p k) f) refl
           where
-            inside : (at : Bool) → (o.name == n) ≡ at → (own : Option Thing) → field_thing p (holder_of p k) f ≡ own → Fits p (seen cs) (held cs (Field n f)) (cond at (own_field own (field after f) below) below)
+            inside : (at : Bool) → (o.name == n) ≡ at → (own : Option Thing) →
+                field_thing p (holder_of p k) f ≡ own → Fits p (seen cs) (held cs (Field n f)) (cond at (own_field own (field after f) below) below)
             inside true same (Some x) is =
                 subst (λ j. Fits p (seen cs) (held cs (Field j f)) (filled (Some x) (field after f))) (eqb-true o.name n same)
                 (fits_weaker p (seen cs) (held cs (Field o.name f)) (filled_weaker (Some x) (w.fields f)) (b k may f x is))
@@ -166,11 +178,11 @@ module _ (p : Image) (t : Typing) (wired : IsWired p) (typed : IsTyped p t) (c :
     begun_suits x sh' over after w h same b y k view plain z lives = grind (arith, nat_tests, known_plain p, suits_less, same_object)
 
     -- so what runs in its place is entered, over these layers, which claim what the caller claims
-    pub enter :
-        {ended : ℕ} (home : Home) (sh' : Shape) (over : List Layer) (k : ℕ) (view : Option ℕ) → RunsFor p m k (home_holder home) view → (IsServed over → ⊥) → Entering ended home view sh' → length (tasks_of over) ≡ depth → length (items_of over) ≡ height →
-        ((d : Place → Kind) (r : Place) → claim p d over r ≡ claim p d (Method fr sh' ∷ ls) r) → ((o : Object) → states_claim p o over ≡ states_claim p o (Method fr sh' ∷ ls)) →
-        IsHoused p cs over home → IsApart p view k home over → Stack p t cs (Returns k home) over → (s' : State) → s'.cells ≡ cs → s'.tasks ≡ Run (callee k view home) ∷ tasks_of over →
-        forms s'.items ≡ items_of over → AllUndo p s'.items → WellTyped p t s'
+    pub enter : {ended : ℕ} (home : Home) (sh' : Shape) (over : List Layer) (k : ℕ) (view : Option ℕ) → RunsFor p m k (home_holder home) view →
+        (IsServed over → ⊥) → Entering ended home view sh' → length (tasks_of over) ≡ depth → length (items_of over) ≡ height → ((d : Place → Kind)
+        (r : Place) → claim p d over r ≡ claim p d (Method fr sh' ∷ ls) r) → ((o : Object) → states_claim p o over ≡ states_claim p o (Method fr sh' ∷ ls)) →
+        IsHoused p cs over home → IsApart p view k home over → Stack p t cs (Returns k home) over → (s' : State) →
+        s'.cells ≡ cs → s'.tasks ≡ Run (callee k view home) ∷ tasks_of over → forms s'.items ≡ items_of over → AllUndo p s'.items → WellTyped p t s'
     enter home sh' over k view runs unserved e at_depth high same same_states housed apart stack s' cells tasks items undos =
         let leads = typed.entry k runs.there in
         let w = begins_as p m k (home_holder home) view runs leads.0 leads.2 in
@@ -213,11 +225,11 @@ module _ (p : Image) (t : Typing) (wired : IsWired p) (typed : IsTyped p t) (c :
     same_high home sh' e = at_hand.items ∙ sym e.items
 
     -- the fields of an object that is not under construction
-    do_fields :
-        (o : Object) (from : Place) (view : Option ℕ) (sh' : Shape) → ((r : Place) → Fits p (seen cs) (held cs r) (filling p t fr ls depth deep (declared p cs) regs sh' r)) → named cs o.name ≡ Some o →
+    do_fields : (o : Object) (from : Place) (view : Option ℕ) (sh' : Shape) →
+        ((r : Place) → Fits p (seen cs) (held cs r) (filling p t fr ls depth deep (declared p cs) regs sh' r)) → named cs o.name ≡ Some o →
         IsApart p view m (Inside o from) (Method fr sh' ∷ ls) → method_role p m ≡ Some Do → FieldsBegin view (Inside o from)
-    do_fields o from view sh' fits lives apart role k may f x is =
-        let claims = claim_in_view p (declared p cs) (Method fr sh' ∷ ls) o.name f (λ f. filled (field_thing p (thing_holder o.thing) f) Perhaps) view apart.2.0 (ap is_some (may.2.fields f x is)) (ap (λ y. declared_field p y f) lives) in
+    do_fields o from view sh' fits lives apart role k may f x is = let claims = claim_in_view p (declared p cs) (Method fr sh' ∷ ls) o.name f (λ f. filled
+        (field_thing p (thing_holder o.thing) f) Perhaps) view apart.2.0 (ap is_some (may.2.fields f x is)) (ap (λ y. declared_field p y f) lives) in
         rw (ap (λ r. at Perhaps (entry_fields r) f) role ∙ at_alike 8 Perhaps f) (rw (claims ∙ ap (λ y. filled y Perhaps) (may.0.fields f x is)) at (fits (Field o.name f)))
 
     -- the fields of the called method's class are null
@@ -233,8 +245,8 @@ module _ (p : Image) (t : Typing) (wired : IsWired p) (typed : IsTyped p t) (c :
     abbrev Starts : Object → Type 0
     Starts o = method_role p m ≡ Some Do ⊎ ((method_role p m ≡ Some Construct) × AllNull o)
 
-    start_fields :
-        (o : Object) (from : Place) (view : Option ℕ) (sh' : Shape) → ((r : Place) → Fits p (seen cs) (held cs r) (filling p t fr ls depth deep (declared p cs) regs sh' r)) → named cs o.name ≡ Some o →
+    start_fields : (o : Object) (from : Place) (view : Option ℕ) (sh' : Shape) →
+        ((r : Place) → Fits p (seen cs) (held cs r) (filling p t fr ls depth deep (declared p cs) regs sh' r)) → named cs o.name ≡ Some o →
         IsApart p view m (Inside o from) (Method fr sh' ∷ ls) → Starts o → FieldsBegin view (Inside o from)
     start_fields o from view sh' fits lives apart (inl role) = do_fields o from view sh' fits lives apart role
     start_fields o from view sh' fits lives apart (inr w) = construct_fields o from view w.1 w.0
@@ -253,13 +265,14 @@ module _ (p : Image) (t : Typing) (wired : IsWired p) (typed : IsTyped p t) (c :
 
     -- what a target asks, and how the method begins
     abbrev Begun : ℕ → Target → Type 0
-    Begun ended target = AllTrue (needs_target p fr (tasks_of ls) s target m (method_class p m) first (length xs)) × Entering ended (target_home p fr (tasks_of ls) s target (method_class p m)) (target_view p fr (tasks_of ls) s target (method_class p m)) (while_called target (method_class p m) ended after_arguments)
+    Begun ended target = AllTrue (needs_target p fr (tasks_of ls) s target m (method_class p m) first (length xs)) ×
+        Entering ended (target_home p fr (tasks_of ls) s target (method_class p m))
+        (target_view p fr (tasks_of ls) s target (method_class p m)) (while_called target (method_class p m) ended after_arguments)
 
     -- and what its object counts as
     abbrev Answer : ℕ → Target → Type 0
-    Answer ended target =
-        Begun ended target
-        × CountsAs p (home_holder (target_home p fr (tasks_of ls) s target (method_class p m))) (target_view p fr (tasks_of ls) s target (method_class p m)) (holder_of p m)
+    Answer ended target = Begun ended target × CountsAs p
+        (home_holder (target_home p fr (tasks_of ls) s target (method_class p m))) (target_view p fr (tasks_of ls) s target (method_class p m)) (holder_of p m)
 
     -- a static method
     on_nothing : (ended : ℕ) → method_class p m ≡ None → Entering ended Static None after_arguments
@@ -278,8 +291,8 @@ module _ (p : Image) (t : Typing) (wired : IsWired p) (typed : IsTyped p t) (c :
     }
 
     -- how it begins on an object on which no layer works
-    well_begun :
-        (o : Object) (sh' : Shape) → named cs o.name ≡ Some o → Unworked o.name (Method fr sh' ∷ ls) → thing_kind p o.thing ≡ kind_of p (method_class p m) → begins_there p m ≡ true →
+    well_begun : (o : Object) (sh' : Shape) →
+        named cs o.name ≡ Some o → Unworked o.name (Method fr sh' ∷ ls) → thing_kind p o.thing ≡ kind_of p (method_class p m) → begins_there p m ≡ true →
         (method_role p m ≡ Some Do) ⊎ ((method_role p m ≡ Some Construct) × (requested cs o.name ≡ None)) → BeginsWell (Inside o (Elsewhere Root)) sh'
     well_begun o sh' lives u kind may role = (grind (arith, nat_tests, unworked_rests p o (Method fr sh' ∷ ls) u, begun role), kind)
       where
@@ -296,9 +309,8 @@ module _ (p : Image) (t : Typing) (wired : IsWired p) (typed : IsTyped p t) (c :
         of_family A_message stands = cc
 
     -- it is not the caller's own
-    settles_not :
-        (ended : ℕ) (sh' : Shape) (o : Object) (q : Place) → works_at o.name fr.home ≡ false → (x : Object) (from : Place) → Inside o q ≡ Inside x from → works_at x.name fr.home ≡ true →
-        sh'.states ≡ ended
+    settles_not : (ended : ℕ) (sh' : Shape) (o : Object) (q : Place) →
+        works_at o.name fr.home ≡ false → (x : Object) (from : Place) → Inside o q ≡ Inside x from → works_at x.name fr.home ≡ true → sh'.states ≡ ended
     settles_not ended sh' o q off x from e w = grind (arith, nat_tests)
 
     abbrev worked : ℕ → Shape
@@ -318,13 +330,13 @@ module _ (p : Image) (t : Typing) (wired : IsWired p) (typed : IsTyped p t) (c :
         any Perhaps = alike_filling
 
     -- a method of the caller's own object
-    on_own :
-        (ended : ℕ) (k b : ℕ) (o : Object) (from : Place) → fr.home ≡ Inside o from → thing_holder o.thing ≡ Member b → descends p b k ≡ true → method_class p m ≡ Some k → Starts o →
-        IsTrue (has (before_of p m) after_arguments.states) → Entering ended (Inside o from) fr.view (worked ended)
+    on_own : (ended : ℕ) (k b : ℕ) (o : Object) (from : Place) → fr.home ≡ Inside o from → thing_holder o.thing ≡ Member b → descends p b k ≡ true →
+        method_class p m ≡ Some k → Starts o → IsTrue (has (before_of p m) after_arguments.states) → Entering ended (Inside o from) fr.view (worked ended)
     on_own ended k b o from eh member stands class starts before =
         let holds : Holds p cs ls o from = subst (λ h. IsHoused p cs ls h) eh passed.housed in
         let apart : IsApart p fr.view fr.method (Inside o from) ls = subst (λ h. IsApart p fr.view fr.method h ls) eh at_hand.good.stack.3 in
-        let apart' : (k : ℕ) → IsApart p fr.view k (Inside o from) (Method fr (worked ended) ∷ ls) = λ k. (apart.0, (subst (λ h. NotIn o.name h) (sym eh) apart.0, apart.1), (own_fields, tt), inl own_home_works) in
+        let apart' : (k : ℕ) → IsApart p fr.view k (Inside o from) (Method fr (worked ended) ∷ ls) =
+        λ k. (apart.0, (subst (λ h. NotIn o.name h) (sym eh) apart.0, apart.1), (own_fields, tt), inl own_home_works) in
         let fits : (r : Place) → Fits p (seen cs) (held cs r) (filling p t fr ls depth deep (declared p cs) regs (worked ended) r) =
         λ r. fits_weaker p (seen cs) (held cs r) (grind (arith, nat_tests, filled_weaker_below depth, claim_weaker p, opened ended)) (passed.fits r) in
         record {
@@ -356,7 +368,9 @@ module _ (p : Image) (t : Typing) (wired : IsWired p) (typed : IsTyped p t) (c :
         own_begun : named cs o.name ≡ Some o → Suits (thing_kind p o.thing) (known_there o (worked ended) (before_of p m)) (requested cs o.name)
         own_begun lives = go (works_at o.name fr.home) own_home_works (passed.suits o lives)
           where
-            go : (b : Bool) → b ≡ true → Suits (thing_kind p o.thing) (cond b (known_at p fr after_arguments.states (below o)) (below o)) (requested cs o.name) → Suits (thing_kind p o.thing) (record { states = before_of p m; cancelled = (cond b (known_at p fr ended (below o)) (below o)).cancelled }) (requested cs o.name)
+            go : (b : Bool) → b ≡ true → Suits
+                (thing_kind p o.thing) (cond b (known_at p fr after_arguments.states (below o)) (below o)) (requested cs o.name) → Suits (thing_kind p o.thing)
+                (record { states = before_of p m; cancelled = (cond b (known_at p fr ended (below o)) (below o)).cancelled }) (requested cs o.name)
             go b e h = grind (arith, suits_less)
 
         other_suits :
@@ -384,9 +398,10 @@ module _ (p : Image) (t : Typing) (wired : IsWired p) (typed : IsTyped p t) (c :
     target_met : (y : ℕ) (o : Option Object) (x : Object) (z : Thing) → o ≡ Some x → stands_for p x.thing z ≡ true → stands_for p z (An_object_of y) ≡ true → AllTrue (needs_target_object p (Some y) o)
     target_met y o x z e a b = grind (arith, nat_tests, stands_along p x.thing z (An_object_of y) a b)
 
-    target_holder : (y : ℕ) (x : Object) (z : Thing) → method_class p m ≡ Some y → stands_for p x.thing z ≡ true → stands_for p z (An_object_of y) ≡ true → Houses p (thing_holder x.thing) (holder_of p m)
-    target_holder y x z class a b =
-        rw (ap (λ c. holder_by (method_role p m) c) class ∙ holder_called (method_role p m) y is_called.role) (of_family x.thing (stands_along p x.thing z (An_object_of y) a b))
+    target_holder : (y : ℕ) (x : Object) (z : Thing) →
+        method_class p m ≡ Some y → stands_for p x.thing z ≡ true → stands_for p z (An_object_of y) ≡ true → Houses p (thing_holder x.thing) (holder_of p m)
+    target_holder y x z class a b = rw (ap (λ c. holder_by (method_role p m) c) class ∙ holder_called (method_role p m) y is_called.role)
+        (of_family x.thing (stands_along p x.thing z (An_object_of y) a b))
       where
         of_family : (v : Thing) → stands_for p v (An_object_of y) ≡ true → Houses p (thing_holder v) (Member y)
         of_family (An_object_of b) stands = houses_family p wired.family b y stands
@@ -472,7 +487,8 @@ module _ (p : Image) (t : Typing) (wired : IsWired p) (typed : IsTyped p t) (c :
 
     -- what a field owns
     module _ (f y : ℕ) (class : method_class p m ≡ Some y) (z : Thing) (a : Age) (kind : filled (field_thing p (home_holder fr.home) f) (field sh f) ≡ Own z a)
-        (for : stands_for p z (An_object_of y) ≡ true) (some : is_some (field_thing p (home_holder fr.home) f) ≡ true) (own : is_some (field_thing p (holder_of p fr.method) f) ≡ true) (role : method_role p m ≡ Some Do) where
+        (for : stands_for p z (An_object_of y) ≡ true) (some : is_some (field_thing p (home_holder fr.home) f) ≡ true)
+        (own : is_some (field_thing p (holder_of p fr.method) f) ≡ true) (role : method_role p m ≡ Some Do) where
       abbrev spot : Place
       spot = field_place fr.home f
 
@@ -512,13 +528,15 @@ module _ (p : Image) (t : Typing) (wired : IsWired p) (typed : IsTyped p t) (c :
           below (Inside x from) e = inl (subst (λ h. WorksOn x.name h) (sym e) refl)
 
           u : Untouched p (λ f. filled (field_thing p (thing_holder kept_in.0.thing) f) Perhaps) kept_in.0.name (Method fr after_arguments ∷ ls)
-          u = untouched_method p t cs spot kept_in.0 passed.tidy there (λ f. filled (field_thing p (thing_holder kept_in.0.thing) f) Perhaps) fr after_arguments ls (λ x from e. field_not_from p t c s fr sh ls at_hand fr.home f refl x from e) outside passed.housed
+          u = untouched_method p t cs spot kept_in.0 passed.tidy there (λ f. filled (field_thing p (thing_holder kept_in.0.thing) f) Perhaps)
+              fr after_arguments ls (λ x from e. field_not_from p t c s fr sh ls at_hand fr.home f refl x from e) outside passed.housed
               (untouched p t cs spot kept_in.0 passed.tidy there (λ f. filled (field_thing p (thing_holder kept_in.0.thing) f) Perhaps) ls (Returns fr.method fr.home) outside passed.stack)
 
           no_field_of : (home : Home) → fr.home ≡ home → IsNoFieldOf kept_in.0.name (field_place home f)
           no_field_of (Inside x from) e =
               let holds : Holds p cs ls x from = subst (λ h. IsHoused p cs ls h) e passed.housed in
-              eqb_comm kept_in.0.name x.name ∙ other_name p t cs spot kept_in.0 passed.tidy there from x holds.there (outside_differs spot from ls outside (field_not_from p t c s fr sh ls at_hand fr.home f refl x from e) holds.below)
+              eqb_comm kept_in.0.name x.name ∙ other_name p t cs spot kept_in.0 passed.tidy there from x holds.there
+              (outside_differs spot from ls outside (field_not_from p t c s fr sh ls at_hand fr.home f refl x from e) holds.below)
           no_field_of _ e = tt
 
           apart_so : (k : ℕ) → IsApart p (thing_view kept_in.0.thing) k (Inside kept_in.0 spot) (Method fr after_arguments ∷ ls)
@@ -531,8 +549,8 @@ module _ (p : Image) (t : Typing) (wired : IsWired p) (typed : IsTyped p t) (c :
     ages k z a e x = grind arith
 
     -- what a cleanup entry owns
-    module _ (k y : ℕ) (class : method_class p m ≡ Some y) (z : Thing) (a : Age) (within : k < length sh.entries) (kind : entry_kind (at Pushed_operation sh.entries k) ≡ Own z a)
-        (for : stands_for p z (An_object_of y) ≡ true) where
+    module _ (k y : ℕ) (class : method_class p m ≡ Some y) (z : Thing) (a : Age)
+        (within : k < length sh.entries) (kind : entry_kind (at Pushed_operation sh.entries k) ≡ Own z a) (for : stands_for p z (An_object_of y) ≡ true) where
       abbrev pile : Place
       pile = entry_place s.items k
 
@@ -613,13 +631,13 @@ module _ (p : Image) (t : Typing) (wired : IsWired p) (typed : IsTyped p t) (c :
           apart_so k = (tt, u.none_in, (λ f some. u.unclaimed f, tt), inr u.unworked)
 
     -- what a place owns is what the method works on
-    at_home : {ended : ℕ} (q : Place) (o : Object) (sh' : Shape) → held s.cells q ≡ Some o → Entering ended (Inside o q) (thing_view o.thing) sh' → Entering ended (home_at (held s.cells q) q) (home_view (home_at (held s.cells q) q)) sh'
+    at_home : {ended : ℕ} (q : Place) (o : Object) (sh' : Shape) → held s.cells q ≡ Some o →
+        Entering ended (Inside o q) (thing_view o.thing) sh' → Entering ended (home_at (held s.cells q) q) (home_view (home_at (held s.cells q) q)) sh'
     at_home {ended = ended} q o sh' there g = subst (λ x. Entering ended (home_at x q) (home_view (home_at x q)) sh') (sym there) g
 
     -- each kind of target
-    on_this :
-        (ended : ℕ) (k : Option ℕ) → method_class p m ≡ k → AllTrue (rule_target p fr.method sh This m (method_class p m) (is_construct (method_role p m)) first (length xs)) →
-        may_begin p m This after_arguments.states ≡ true → Answer ended This
+    on_this : (ended : ℕ) (k : Option ℕ) → method_class p m ≡ k → AllTrue (rule_target p fr.method sh This m
+        (method_class p m) (is_construct (method_role p m)) first (length xs)) → may_begin p m This after_arguments.states ≡ true → Answer ended This
     on_this ended None e n may =
         let begun = on_nothing ended e in (
           grind (arith, nat_tests, parents_met p t wired s fr sh ls at_hand m, begun),
@@ -674,9 +692,8 @@ module _ (p : Image) (t : Typing) (wired : IsWired p) (typed : IsTyped p t) (c :
                   })),
             )
 
-    on_owned :
-        (ended r : ℕ) (k : Option ℕ) → method_class p m ≡ k → AllTrue (rule_target p fr.method sh (On_register r) m (method_class p m) (is_construct (method_role p m)) first (length xs)) →
-        begins_there p m ≡ true → Begun ended (On_register r)
+    on_owned : (ended r : ℕ) (k : Option ℕ) → method_class p m ≡ k → AllTrue (rule_target p fr.method sh
+        (On_register r) m (method_class p m) (is_construct (method_role p m)) first (length xs)) → begins_there p m ≡ true → Begun ended (On_register r)
     on_owned ended r None e n may = let clash : false ≡ true = sym (ap (λ x. is_target p x (register sh r)) e) ∙ n.0 in cc
     on_owned ended r (Some y) e n may =
         let w = own_for p (An_object_of y) (register sh r) (sym (ap (λ x. is_target p x (register sh r)) e) ∙ n.0) in
@@ -684,15 +701,15 @@ module _ (p : Image) (t : Typing) (wired : IsWired p) (typed : IsTyped p t) (c :
         let x = owned r y e w.0 w.1 w.2 w.3 aside in (
           (
             ap is_none (word_of_object (word fr r) (register sh r) (ap is_object_or_null w.2) (at_hand.good.stack.1.words r)),
-            all_join (needs_target_object p (method_class p m) (held s.cells (top ls r))) ((not (is_among first (length xs) r), WrongKind) ∷ []) (subst (λ k. AllTrue (needs_target_object p k (held s.cells (top ls r)))) (sym e) (target_met y (held s.cells (top ls r)) x.0 w.0 x.1 x.2 w.3)) (n.1.0, tt),
+            all_join (needs_target_object p (method_class p m) (held s.cells (top ls r))) ((not (is_among first (length xs) r), WrongKind) ∷ []) (subst (λ k.
+                AllTrue (needs_target_object p k (held s.cells (top ls r)))) (sym e) (target_met y (held s.cells (top ls r)) x.0 w.0 x.1 x.2 w.3)) (n.1.0, tt),
           ),
           at_home (top ls r) x.0 (while_called (On_register r) (method_class p m) ended after_arguments) x.1
               (on_register r y e w.0 w.1 w.2 w.3 aside ended may (ages (register sh r) w.0 w.1 w.2 (age_of (register sh r) n.1.1))),
         )
 
-    on_kept :
-        (ended f : ℕ) (k : Option ℕ) → method_class p m ≡ k → AllTrue (rule_target p fr.method sh (On_field f) m (method_class p m) (is_construct (method_role p m)) first (length xs)) →
-        begins_there p m ≡ true → Begun ended (On_field f)
+    on_kept : (ended f : ℕ) (k : Option ℕ) → method_class p m ≡ k → AllTrue (rule_target p fr.method sh
+        (On_field f) m (method_class p m) (is_construct (method_role p m)) first (length xs)) → begins_there p m ≡ true → Begun ended (On_field f)
     on_kept ended f None e n may = grind (arith, nat_tests)
     on_kept ended f (Some y) e n may =
         let kind : Kind = filled (field_thing p (home_holder fr.home) f) (field sh f) in
@@ -718,9 +735,8 @@ module _ (p : Image) (t : Typing) (wired : IsWired p) (typed : IsTyped p t) (c :
         ready (Some x) Empty (inr w) = let clash : false ≡ true = w.1 in cc
         ready _ _ (inr w) = let clash : false ≡ true = w.1 in cc
 
-    on_pushed :
-        (ended k : ℕ) (c : Option ℕ) → method_class p m ≡ c → AllTrue (rule_target p fr.method sh (On_entry k) m (method_class p m) (is_construct (method_role p m)) first (length xs)) →
-        begins_there p m ≡ true → Begun ended (On_entry k)
+    on_pushed : (ended k : ℕ) (c : Option ℕ) → method_class p m ≡ c → AllTrue (rule_target p fr.method sh
+        (On_entry k) m (method_class p m) (is_construct (method_role p m)) first (length xs)) → begins_there p m ≡ true → Begun ended (On_entry k)
     on_pushed ended k None e n may = grind (arith, nat_tests)
     on_pushed ended k (Some y) e n may =
         let kind : Kind = entry_kind (at Pushed_operation sh.entries k) in
@@ -734,13 +750,13 @@ module _ (p : Image) (t : Typing) (wired : IsWired p) (typed : IsTyped p t) (c :
               rw e (target_met y (held s.cells (entry_place s.items k)) x.0 w.0 x.1 x.2 w.3),
             ),
           ),
-          at_home (entry_place s.items k) x.0 (while_called (On_entry k) (method_class p m) ended after_arguments) x.1 (on_entry k y e w.0 w.1 within w.2 w.3 ended may (ages kind w.0 w.1 w.2 (age_of kind n.1.1))),
+          at_home (entry_place s.items k) x.0 (while_called (On_entry k) (method_class p m) ended after_arguments) x.1
+              (on_entry k y e w.0 w.1 within w.2 w.3 ended may (ages kind w.0 w.1 w.2 (age_of kind n.1.1))),
         )
 
     -- what is not the caller's own counts as its own class
-    elsewhere :
-        (ended : ℕ) (target : Target) → Begun ended target → target_view p fr (tasks_of ls) s target (method_class p m) ≡ home_view (target_home p fr (tasks_of ls) s target (method_class p m)) →
-        Answer ended target
+    elsewhere : (ended : ℕ) (target : Target) → Begun ended target → target_view p fr
+        (tasks_of ls) s target (method_class p m) ≡ home_view (target_home p fr (tasks_of ls) s target (method_class p m)) → Answer ended target
     elsewhere ended target b e = grind (arith, nat_tests, houses_counts p)
 
     pub answer :
@@ -758,7 +774,6 @@ module _ (p : Image) (t : Typing) (wired : IsWired p) (typed : IsTyped p t) (c :
     pub result_met : (g : Gives) (x : ℕ) → awaits g (register after_arguments x) ≡ true → AllTrue (needs_result p fr (tasks_of ls) s g cs x)
     result_met x y a = grind (arith, nat_tests, result_free)
 
-    pub awaited :
-        (g : Gives) (x : ℕ) (sh' : Shape) → ((i : ℕ) → is_unowning (register sh' i) ≡ is_unowning (register after_arguments i)) → awaits g (register after_arguments x) ≡ true →
-        Awaits g x sh'
+    pub awaited : (g : Gives) (x : ℕ) (sh' : Shape) →
+        ((i : ℕ) → is_unowning (register sh' i) ≡ is_unowning (register after_arguments i)) → awaits g (register after_arguments x) ≡ true → Awaits g x sh'
     awaited x y sh' same a = grind arith

@@ -30,8 +30,8 @@ use Rattle.aom_safety.specs.WellTyped.{EndsWell, Holds, IsAlone, IsApart, IsHous
 pub role_cancels : (r : Option Role) → is_cancel r ≡ true → r ≡ Some Cancel
 role_cancels x e = grind arith
 
-module _ (p : Image) (t : Typing) (c : Choice) (s : State) (fr fr2 : Frame) (sh sh2 : Shape) (ls : List Layer) (at_hand : At p t s fr sh (Method fr2 sh2 ∷ ls)) (a : ℕ)
-    (r : Returnable p fr sh a) (cancels : is_cancel (method_role p fr.method) ≡ true) where
+module _ (p : Image) (t : Typing) (c : Choice) (s : State) (fr fr2 : Frame) (sh sh2 : Shape) (ls : List Layer)
+    (at_hand : At p t s fr sh (Method fr2 sh2 ∷ ls)) (a : ℕ) (r : Returnable p fr sh a) (cancels : is_cancel (method_role p fr.method) ≡ true) where
   abbrev below : List Layer
   below = Method fr2 sh2 ∷ ls
 
@@ -77,7 +77,8 @@ module _ (p : Image) (t : Typing) (c : Choice) (s : State) (fr fr2 : Frame) (sh 
       let caller : Stack p t s.cells (Returns fr.method fr.home) below = at_hand.good.stack.4 in
       record {
         fits = λ q. fits_alike p t s.cells cells_then alike below q (λ x at fresh. unworked q x at fresh)
-            (ended p s.cells fr sh below at_hand.good.stack.1.holder at_hand.good.stack.1.view at_hand.good.stack.2 at_hand.good.stack.3 refl e n (λ serving. absurd (at_hand.good.stack.1.message.0 serving)) q (seen s.cells) (held s.cells q) (at_hand.good.fits q));
+            (ended p s.cells fr sh below at_hand.good.stack.1.holder at_hand.good.stack.1.view at_hand.good.stack.2 at_hand.good.stack.3 refl e n
+            (λ serving. absurd (at_hand.good.stack.1.message.0 serving)) q (seen s.cells) (held s.cells q) (at_hand.good.fits q));
         suits = suits;
         tidy = alike.tidy at_hand.good.tidy;
         frames = caller.1;

@@ -1,6 +1,7 @@
 -- The law of `cancel`: a request that is not active is left alone, and over the method that cancels the caller waits with its object idle.
 use Rattle.std.proofs.lemmas.Bool.Decides.{nat_tests}
-use Rattle.std.proofs.Common.{is_some, Bool, IsTrue, List, None, Option, Some, ap, arith, cond, false, inl, length, refl, replicate, subst, suc, sym, true, ℕ, ◌==◌, ◌∙◌, ◌∷◌, ◌≡◌}
+use Rattle.std.proofs.Common.{is_some, Bool, IsTrue, List, None, Option, Some, ap, arith, cond, false, inl}
+use Rattle.std.proofs.Common.{length, refl, replicate, subst, suc, sym, true, ℕ, ◌==◌, ◌∙◌, ◌∷◌, ◌≡◌}
 use Rattle.std.proofs.lemmas.Bool.{eq-eqb, eqb-true, ne_eqb, true≢false}
 use Rattle.std.specs.Prelude.{bit_and, bit_or, not, ◌||◌}
 use Rattle.aom_classes.specs.Roles.{role_of}
@@ -44,12 +45,14 @@ use Rattle.aom_safety.proofs.Waiting.{waits_in_view}
 use Rattle.aom_safety.specs.Claims.{declared_field, own_field, serves, Layer, Method, claim, declared, home_claim, items_of, objects, tasks_of}
 use Rattle.aom_semantics.specs.Calls.{result_register}
 use Rattle.aom_semantics.specs.Effects.{applied, cancels_if}
-use Rattle.aom_semantics.specs.Enlisted.{begun_cells, cancel_method, cancel_of, cancelling, in_phase, is_active, is_unsettled, on_request, own_request, rerequested}
+use Rattle.aom_semantics.specs.Enlisted.{begun_cells, cancel_method, cancel_of, cancelling, in_phase, is_active}
+use Rattle.aom_semantics.specs.Enlisted.{is_unsettled, on_request, own_request, rerequested}
 use Rattle.aom_safety.specs.Laws.{IsWired}
 use Rattle.aom_semantics.specs.Places.{In_service, Cell, Elsewhere, Entry, Field, Going, Object, Place, Register, Request, Root, held, requested, seen}
 use Rattle.aom_safety.specs.Requests.{AllSuit, Known, Suits, known_at, state_of, states_claim, thing_kind, works_at}
 use Rattle.aom_semantics.specs.State.{Choice, Frame, Home, Inside, State, frame_as, home_holder, next, thing_holder}
-use Rattle.aom_safety.specs.WellTyped.{view_holder, InView, IsOfFamily, CountsAs, Fits, Good, Holds, Houses, IsAlone, IsApart, IsHoused, NotIn, Returns, Stack, Stands, WellTyped, WordFits}
+use Rattle.aom_safety.specs.WellTyped.{view_holder, InView, IsOfFamily, CountsAs, Fits, Good, Holds, Houses, IsAlone}
+use Rattle.aom_safety.specs.WellTyped.{IsApart, IsHoused, NotIn, Returns, Stack, Stands, WellTyped, WordFits}
 use Rattle.aom_safety.proofs.Attending.{plain_claim}
 
 -- ---- what is known of a request
@@ -70,7 +73,8 @@ uncancelled : (k : Option ClassKind) (n : Known) (r : Option Request) → is_act
 uncancelled x n y e a s = grind arith
 
 -- and is so once its cancel begins
-suits_cancelling : (k : Option ClassKind) (states : ℕ) (n : Known) (r : Option Request) → is_active_kind k ≡ true → in_phase is_active r ≡ true → IsTrue (has states cancel_open) → Suits k n r → Suits k (record { states = states; cancelled = true }) (on_request cancelling r)
+suits_cancelling : (k : Option ClassKind) (states : ℕ) (n : Known) (r : Option Request) → is_active_kind k ≡ true → in_phase is_active r ≡ true →
+    IsTrue (has states cancel_open) → Suits k n r → Suits k (record { states = states; cancelled = true }) (on_request cancelling r)
 suits_cancelling x states n y e a h s = grind arith
 
 -- a state that is not active stays once it is cancelled, and an active one is idle
@@ -109,8 +113,8 @@ active_object p x a = grind arith
 has_cancel : (p : Image) → IsWired p → (v : ℕ) → is_active_kind (kind_of p (Some v)) ≡ true → role_of p v Cancel_role ≡ None → ⊥
 has_cancel p wired v a e = let found = wired.cancel v a in let clash : Some found.0 ≡ None = sym found.1 ∙ e in cc
 
-module _ (p : Image) (t : Typing) (wired : IsWired p) (typed : IsTyped p t) (c : Choice) (s : State) (fr : Frame) (sh : Shape) (ls : List Layer) (at_hand : At p t s fr sh ls)
-    (is_kind : is_active_kind (own_kind p fr.method) ≡ true) (leads : Leads t fr.method (suc fr.place) (after_cancel sh)) where
+module _ (p : Image) (t : Typing) (wired : IsWired p) (typed : IsTyped p t) (c : Choice) (s : State) (fr : Frame) (sh : Shape) (ls : List Layer)
+    (at_hand : At p t s fr sh ls) (is_kind : is_active_kind (own_kind p fr.method) ≡ true) (leads : Leads t fr.method (suc fr.place) (after_cancel sh)) where
   abbrev it : OfObject p t (main_of_none p wired) c s fr sh ls at_hand
   it = of_object p t (main_of_none p wired) c s fr sh ls at_hand (active_listed (own_kind p fr.method) is_kind)
 
@@ -127,7 +131,8 @@ module _ (p : Image) (t : Typing) (wired : IsWired p) (typed : IsTyped p t) (c :
       let known = stays_cancelled sh.states (state_of request) (grind (arith, nat_tests, has_common, rests_only)) in
       let less : SaysNoMore (after_cancel sh) sh' = record { registers = λ i. alike; fields = λ i. unknown_at i (field sh i); entries = refl; states = has_itself states; delivery = refl } in
       well p t c s fr sh ls at_hand _ (next fr) sh' refl at_hand.items at_hand.undos
-      (settle p t s.cells (next fr) sh' ls (stepped p t s.cells fr sh' ls (learned p t (main_of_none p wired) c s fr sh ls at_hand listed states known)) (leads.0, leads.1, transitive leads.0 (after_cancel sh) sh' leads.2 less))
+      (settle p t s.cells (next fr) sh' ls (stepped p t s.cells fr sh' ls (learned p t (main_of_none p wired) c s fr sh ls at_hand listed states known))
+      (leads.0, leads.1, transitive leads.0 (after_cancel sh) sh' leads.2 less))
 
   -- the method that cancels begins
   module _ (m : ℕ) (is_active_now : in_phase is_active request ≡ true) (its_method : cancel_method p fr ≡ Some m) where
@@ -171,11 +176,12 @@ module _ (p : Image) (t : Typing) (wired : IsWired p) (typed : IsTyped p t) (c :
     same_cells = rerequested_alike s.cells fr.home (on_request cancelling request)
 
     here : requested cs' o.name ≡ on_request cancelling request
-    here = subst (λ h. requested (rerequested s.cells h (on_request cancelling request)) o.name ≡ on_request cancelling request) (sym it.home) (requested_here s.cells o.name (on_request cancelling request) o it.lives)
+    here = subst (λ h. requested (rerequested s.cells h (on_request cancelling request)) o.name ≡ on_request cancelling request)
+        (sym it.home) (requested_here s.cells o.name (on_request cancelling request) o it.lives)
 
     others : (n : ℕ) → (o.name == n) ≡ false → requested cs' n ≡ requested s.cells n
-    others n other =
-        subst (λ h. requested (rerequested s.cells h (on_request cancelling request)) n ≡ requested s.cells n) (sym it.home) (requested_there s.cells o.name n (on_request cancelling request) other)
+    others n other = subst (λ h. requested (rerequested s.cells h (on_request cancelling request)) n ≡ requested s.cells n)
+        (sym it.home) (requested_there s.cells o.name n (on_request cancelling request) other)
 
     -- no place claims the object to be fresh
     unready : (q : Place) (x : Object) → held s.cells q ≡ Some x → is_ready_kind (claim p (declared p s.cells) over q) ≡ false → (o.name == x.name) ≡ false
@@ -240,21 +246,20 @@ module _ (p : Image) (t : Typing) (wired : IsWired p) (typed : IsTyped p t) (c :
         go false e h = h
     fits (Entry k) = rw begins.2.entries (base (Entry k))
     fits (Field n f) =
-        subst (λ h. Fits p (seen cs') (held cs' (Field n f)) (home_claim p (holder_of p m) h begins.0 n f (claim p (declared p cs') over (Field n f)))) (sym it.home)
-        (go (o.name == n) refl (field_thing p (holder_of p m) f) refl)
+        subst (λ h. Fits p (seen cs') (held cs' (Field n f)) (home_claim p (holder_of p m) h begins.0 n f (claim p (declared p cs') over (Field n f))))
+        (sym it.home) (go (o.name == n) refl (field_thing p (holder_of p m) f) refl)
       where
         declares : is_some (field_thing p (view_holder fr.view) f) ≡ true → claim p (declared p cs') over (Field o.name f) ≡ filled (field_thing p (thing_holder o.thing) f) Perhaps
         declares some =
             claim_in_view p (declared p cs') over o.name f (λ f. filled (field_thing p (thing_holder o.thing) f) Perhaps) fr.view own_fields some
             (ap (λ y. declared_field p y f) (same_cells.named_so o.name ∙ it.lives))
 
-        go :
-            (b : Bool) → (o.name == n) ≡ b → (own : Option Thing) → field_thing p (holder_of p m) f ≡ own →
-            Fits p (seen cs') (held cs' (Field n f)) (cond b (own_field own (field begins.0 f) (claim p (declared p cs') over (Field n f))) (claim p (declared p cs') over (Field n f)))
-        go true e (Some y) is =
-            subst (λ n. Fits p (seen cs') (held cs' (Field n f)) (filled (Some y) (field begins.0 f))) (eqb-true o.name n e)
-            (subst (λ x. Fits p (seen cs') (held cs' (Field o.name f)) (filled (Some y) x)) (sym (unfilled f))
-            (subst (λ z. Fits p (seen cs') (held cs' (Field o.name f)) (filled z Perhaps)) (own_holder.fields f y is) (subst (λ k. Fits p (seen cs') (held cs' (Field o.name f)) k) (declares (ap is_some (counts.fields f y is))) (base (Field o.name f)))))
+        go : (b : Bool) → (o.name == n) ≡ b → (own : Option Thing) → field_thing p (holder_of p m) f ≡ own → Fits p (seen cs') (held cs' (Field n f))
+            (cond b (own_field own (field begins.0 f) (claim p (declared p cs') over (Field n f))) (claim p (declared p cs') over (Field n f)))
+        go true e (Some y) is = subst (λ n. Fits p (seen cs') (held cs' (Field n f)) (filled (Some y) (field begins.0 f)))
+            (eqb-true o.name n e) (subst (λ x. Fits p (seen cs') (held cs' (Field o.name f)) (filled (Some y) x))
+            (sym (unfilled f)) (subst (λ z. Fits p (seen cs') (held cs' (Field o.name f)) (filled z Perhaps)) (own_holder.fields f y is)
+            (subst (λ k. Fits p (seen cs') (held cs' (Field o.name f)) k) (declares (ap is_some (counts.fields f y is))) (base (Field o.name f)))))
         go true e None is = base (Field n f)
         go false e own is = base (Field n f)
     fits (Elsewhere Root) = grind (arith, nat_tests, base (Elsewhere Root))
@@ -293,10 +298,10 @@ module _ (p : Image) (t : Typing) (wired : IsWired p) (typed : IsTyped p t) (c :
         begun = subst (λ n. IsTrue (has begins.0.states n)) (wired.canceller class.0 m class.2).4 begins.2.states
 
         own_now : Suits (thing_kind p o.thing) (known_at p fr' begins.0.states (upper o true)) (requested cs' o.name)
-        own_now =
-            subst (λ k. Suits k (known_at p fr' begins.0.states (upper o true)) (requested cs' o.name)) (sym it.kind)
-            (subst (λ b. Suits (own_kind p fr.method) (record { states = begins.0.states; cancelled = b || (upper o true).cancelled }) (requested cs' o.name)) (sym is_so)
-            (subst (λ r. Suits (own_kind p fr.method) (record { states = begins.0.states; cancelled = true }) r) (sym here) (suits_cancelling (own_kind p fr.method) begins.0.states (known_at p fr sh.states (states_claim p o ls)) request is_kind is_active_now begun it.suits)))
+        own_now = subst (λ k. Suits k (known_at p fr' begins.0.states (upper o true)) (requested cs' o.name)) (sym it.kind)
+            (subst (λ b. Suits (own_kind p fr.method) (record { states = begins.0.states; cancelled = b || (upper o true).cancelled }) (requested cs' o.name))
+            (sym is_so) (subst (λ r. Suits (own_kind p fr.method) (record { states = begins.0.states; cancelled = true }) r) (sym here) (suits_cancelling
+            (own_kind p fr.method) begins.0.states (known_at p fr sh.states (states_claim p o ls)) request is_kind is_active_now begun it.suits)))
 
         go : (b : Bool) → (o.name == x.name) ≡ b → Suits (thing_kind p x.thing) (cond b (known_at p fr' begins.0.states (upper x b)) (upper x b)) (requested cs' x.name)
         go true e =

@@ -27,10 +27,12 @@ use Rattle.aom_safety.specs.Claims.{Dispatching, Form, Layer, Mark, Mark_form, M
 use Rattle.aom_semantics.specs.Cleanup.{arrival, arrived, code_told, destroyed, has_trap, operation_frame, to_trap, unwound}
 use Rattle.aom_semantics.specs.Destruction.{begun_by}
 use Rattle.aom_safety.specs.Laws.{IsWired}
-use Rattle.aom_safety.specs.Leaves.{AreEntries, AreMethods, Arrives, ArrivesAt, Begins, HasMoved, HasNoResult, HasPushed, Hears, IsBegun, IsDestroyed, IsLeaving, IsOver, LeavesWith}
+use Rattle.aom_safety.specs.Leaves.{AreEntries, AreMethods, Arrives, ArrivesAt, Begins, HasMoved, HasNoResult}
+use Rattle.aom_safety.specs.Leaves.{HasPushed, Hears, IsBegun, IsDestroyed, IsLeaving, IsOver, LeavesWith}
 use Rattle.aom_semantics.specs.Moves.{announcement, counted, does, needs, step, written_task}
 use Rattle.aom_semantics.specs.Places.{Cell, Entry, Going, Object, Place, Register, held, moved, named, same_place, seen}
-use Rattle.aom_semantics.specs.State.{Destroy, Closing, A_mark, An_object, An_operation, Choice, Dispatch, Dispatched, Frame, Goes, Item, Main_left, Run, State, Task, Trapped, Unwind, next, set_word, word}
+use Rattle.aom_semantics.specs.State.{Destroy, Closing, A_mark, An_object, An_operation, Choice, Dispatch, Dispatched, Frame}
+use Rattle.aom_semantics.specs.State.{Goes, Item, Main_left, Run, State, Task, Trapped, Unwind, next, set_word, word}
 use Rattle.aom_safety.specs.WellTyped.{AllUndo, Awaits, EndsDispatch, Fits, Good, Leaves, Now, Stack, WellTyped}
 use Rattle.aom_semantics.specs.Effects.{Leaves, Update, applied}
 use Rattle.aom_transcript.specs.declared.line.Ending.TheVariants.{MainLeft}
@@ -143,9 +145,9 @@ module _ (p : Image) (t : Typing) (c : Choice) (fr : Frame) (ts : List Task) (s 
   pub begins_by : (i : Instr) (code : ℤ) → LeavesWith c fr i code → AllTrue (needs p c fr ts (counted p s) i) → does p c fr ts (counted p s) i ≡ u → Begins p code fr (length ts) i s u
   begins_by i code h n e = grind (arith, nat_tests, leaves_so p c fr ts, fits p c fr ts, begins_at i code, off_of p c fr ts, pushes i code n)
 
-pub begins :
-    (p : Image) (t : Typing) → IsWired p → IsTyped p t → (c : Choice) (s u : State) → WellTyped p t s → named s.cells c.name ≡ None →
-    (fr : Frame) (ts : List Task) (i : Instr) (code : ℤ) → s.tasks ≡ Run fr ∷ ts → instr_at p fr.method fr.place ≡ Some i → LeavesWith c fr i code → step p c s ≡ Goes u → Begins p code fr (length ts) i s u
+pub begins : (p : Image) (t : Typing) → IsWired p →
+    IsTyped p t → (c : Choice) (s u : State) → WellTyped p t s → named s.cells c.name ≡ None → (fr : Frame) (ts : List Task) (i : Instr) (code : ℤ) →
+    s.tasks ≡ Run fr ∷ ts → instr_at p fr.method fr.place ≡ Some i → LeavesWith c fr i code → step p c s ≡ Goes u → Begins p code fr (length ts) i s u
 begins p t wired typed c s u w unused fr ts i code at there h e =
     grind (arith, nat_tests, acts_at p c s u fr ts i at there e, begins_by p t c fr ts s u at w, step_keeps p t wired typed c s w unused)
 
@@ -163,7 +165,8 @@ module _ (p : Image) (t : Typing) (wired : IsWired p) (s u : State) (w : WellTyp
   abbrev Dealt : Item → List Item → State → Type 0
   Dealt i rest v = IsOver p (length v.items) code below v.tasks × (v.items ≡ rest) × IsBegun p (Unwind code ∷ below) i (length rest) s v
 
-  of_object : (rest : List Item) → is_some (held s.cells (Entry (length rest))) ≡ true → Dealt An_object rest (destroyed p (held s.cells (Entry (length rest))) rest (Unwind code ∷ below) (counted p s))
+  of_object : (rest : List Item) → is_some (held s.cells (Entry (length rest))) ≡ true →
+      Dealt An_object rest (destroyed p (held s.cells (Entry (length rest))) rest (Unwind code ∷ below) (counted p s))
   of_object rest some =
       let o = is_there (held s.cells (Entry (length rest))) some in
       let g = Going (length (Unwind code ∷ below)) in
@@ -181,9 +184,8 @@ module _ (p : Image) (t : Typing) (wired : IsWired p) (s u : State) (w : WellTyp
 others : (i : Item) (rest : List Item) → AreEntries (i ∷ rest) → AreEntries rest
 others x rest h = grind arith
 
-pub deals :
-    (p : Image) (t : Typing) → IsWired p → (c : Choice) (s u : State) → WellTyped p t s →
-    (code : ℤ) (below : List Task) (i : Item) (rest items : List Item) → IsLeaving p code below (i ∷ rest) items s → s.tasks ≡ Unwind code ∷ below → step p c s ≡ Goes u →
+pub deals : (p : Image) (t : Typing) → IsWired p → (c : Choice) (s u : State) → WellTyped p t s → (code : ℤ)
+    (below : List Task) (i : Item) (rest items : List Item) → IsLeaving p code below (i ∷ rest) items s → s.tasks ≡ Unwind code ∷ below → step p c s ≡ Goes u →
     IsLeaving p code below rest items u × IsBegun p (Unwind code ∷ below) i (length (rest ++ (A_mark ∷ items))) s u
 deals p t wired c s u w code below i rest items l at e =
     let all = rest ++ (A_mark ∷ items) in
@@ -245,23 +247,22 @@ module _ (p : Image) (t : Typing) (s u : State) (code : ℤ) (items : List Item)
     where
       free : (r : ℕ) → is_unowning (register sh r) ≡ true → held s.cells (Register (length (tasks_of ls)) r) ≡ None
       free r unowning =
-          fits_unowning p (seen s.cells) _ (register sh r) unowning
-          (subst (λ k. Fits p (seen s.cells) (held s.cells (Register (length (tasks_of ls)) r)) k) (claim_register p (declared p s.cells) fr sh ls r) (good.fits (Register (length (tasks_of ls)) r)))
+          fits_unowning p (seen s.cells) _ (register sh r) unowning (subst (λ k. Fits p (seen s.cells) (held s.cells (Register (length (tasks_of ls)) r)) k)
+          (claim_register p (declared p s.cells) fr sh ls r) (good.fits (Register (length (tasks_of ls)) r)))
 
-      waits : (called p (instr_at p fr.method fr.place) ≡ gv) × (is_unowning (register sh (suc (result_register (instr_at p fr.method fr.place)))) ≡ true) × Awaits gv (result_register (instr_at p fr.method fr.place)) sh
+      waits : (called p (instr_at p fr.method fr.place) ≡ gv) × (is_unowning (register sh (suc (result_register (instr_at p fr.method fr.place)))) ≡ true) ×
+          Awaits gv (result_register (instr_at p fr.method fr.place)) sh
       waits = (good.stack.1.1.0.0, good.stack.1.1.0.1, good.stack.1.1.0.2)
 
-      by_trap :
-          (target : Target) (m first c : ℕ) → instr_at p fr.method fr.place ≡ Some (Trap target m first c) →
-          Hears code (gives_of p m) c s.cells (length (tasks_of ls)) fr (next (code_told (called p (instr_at p fr.method fr.place)) (result_register (instr_at p fr.method fr.place)) code fr))
-      by_trap target m first c there =
-          let w = subst (λ i. (called p i ≡ gv) × (is_unowning (register sh (suc (result_register i))) ≡ true) × Awaits gv (result_register i) sh) there waits in
+      by_trap : (target : Target) (m first c : ℕ) → instr_at p fr.method fr.place ≡ Some (Trap target m first c) → Hears code (gives_of p m) c s.cells
+          (length (tasks_of ls)) fr (next (code_told (called p (instr_at p fr.method fr.place)) (result_register (instr_at p fr.method fr.place)) code fr))
+      by_trap target m first c there = let w =
+          subst (λ i. (called p i ≡ gv) × (is_unowning (register sh (suc (result_register i))) ≡ true) × Awaits gv (result_register i) sh) there waits in
           subst (λ i. Hears code (gives_of p m) c s.cells (length (tasks_of ls)) fr (next (code_told (called p i) (result_register i) code fr))) (sym there)
           (hears c code fr (gives_of p m) s.cells (length (tasks_of ls)) sh (subst (λ g. Awaits g c sh) (sym w.0) w.2) w.1 free)
 
-  below_trap :
-      (ls : List Layer) (gv : Gives) (es : List Pushed) → Good p t s.cells (Unwinding code es ∷ Mark gv ∷ ls) → arrived p code (Trapped ∷ tasks_of ls) items (counted p s) ≡ Goes u →
-      Arrived (Trapped ∷ tasks_of ls) u
+  below_trap : (ls : List Layer) (gv : Gives) (es : List Pushed) → Good p t s.cells (Unwinding code es ∷ Mark gv ∷ ls) →
+      arrived p code (Trapped ∷ tasks_of ls) items (counted p s) ≡ Goes u → Arrived (Trapped ∷ tasks_of ls) u
   below_trap (Method fr sh ∷ ls) gv es good e = subst (λ v. Arrived (Trapped ∷ Run fr ∷ tasks_of ls) v) (goes_same _ u e) (at_method fr sh ls gv es good)
   below_trap x gv es good e = grind (arith, nat_tests, goes_same)
 
@@ -274,9 +275,8 @@ module _ (p : Image) (t : Typing) (s u : State) (code : ℤ) (items : List Item)
   by_layers below (Unwinding x es ∷ ls) at good e = grind (arith, nat_tests, below, below_leave ls es)
   by_layers below _ at good e = cc
 
-pub arrives :
-    (p : Image) (t : Typing) (c : Choice) (s u : State) → WellTyped p t s →
-    (code : ℤ) (below : List Task) (items : List Item) → IsLeaving p code below [] items s → s.tasks ≡ Unwind code ∷ below → step p c s ≡ Goes u → Arrives p code below items s u
+pub arrives : (p : Image) (t : Typing) (c : Choice) (s u : State) → WellTyped p t s → (code : ℤ) (below : List Task) (items : List Item) →
+    IsLeaving p code below [] items s → s.tasks ≡ Unwind code ∷ below → step p c s ≡ Goes u → Arrives p code below items s u
 arrives p t c s u w code below items l at e =
     let e' : arrived p code below items (counted p s) ≡ Goes u = grind (arith, nat_tests, below) in
     let r = by_layers p t s u code items below w.layers (sym w.tasks ∙ at) w.good e' in

@@ -43,7 +43,8 @@ module _ (p : Image) (t : Typing) (wired : IsWired p) (s : State) (w : WellTyped
   Chain o q = (above : List Seat) × AllSit s.cells (record { object = o; place = q } ∷ above) × Higher (rank p wired o.thing) above
 
   -- over it stands what owns it
-  on : (place q : Place) (o z : Object) → held s.cells place ≡ Some o → rank p wired o.thing < rank p wired z.thing → Chain z q → ((above : List Seat) → SitsIn place (record { object = z; place = q } ∷ above)) → Chain o place
+  on : (place q : Place) (o z : Object) → held s.cells place ≡ Some o →
+      rank p wired o.thing < rank p wired z.thing → Chain z q → ((above : List Seat) → SitsIn place (record { object = z; place = q } ∷ above)) → Chain o place
   on place q o z e lower rest sits =
       let lives = held_lives s.cells place o w.good.tidy e in
       let high : Higher (rank p wired o.thing) (record { object = z; place = q } ∷ rest.0) = grind (arith, nat_tests, higher_too, rank) in
@@ -78,7 +79,8 @@ module _ (p : Image) (t : Typing) (wired : IsWired p) (s : State) (w : WellTyped
 
   -- so what a place owns sits there, and nothing that stands lower sits with it
   pub chain : (q : Place) (o : Object) → held s.cells q ≡ Some o → 0 < rank p wired o.thing →
-      (above : List Seat) × AllSit s.cells (record { object = o; place = q } ∷ above) × ((y : Object) → named s.cells y.name ≡ Some y → rank p wired y.thing < rank p wired o.thing → SomeSits y.name (record { object = o; place = q } ∷ above) → ⊥)
+      (above : List Seat) × AllSit s.cells (record { object = o; place = q } ∷ above) × ((y : Object) →
+      named s.cells y.name ≡ Some y → rank p wired y.thing < rank p wired o.thing → SomeSits y.name (record { object = o; place = q } ∷ above) → ⊥)
   chain q o e pos =
       let c = follow q o (ends p t wired s w clear q o e) e pos in
       (c.0, c.1, λ y lives lower some. not_among y (record { object = o; place = q } ∷ c.0) lives c.1 (lower, grind (arith, nat_tests, higher_too, rank)) some)

@@ -1,6 +1,7 @@
 -- How the claims change with the abstract state of the top method, and how they go on to hold.
 use Rattle.std.proofs.lemmas.Bool.Decides.{nat_tests}
-use Rattle.std.proofs.Common.{[], Bool, List, None, Option, Some, ap, arith, cond, false, length, refl, subst, true, zero, ℕ, ℤ, ◌&&◌, ◌<◌, ◌==◌, ◌∙◌, ◌∷◌, ◌≡◌, ◌≤◌}
+use Rattle.std.proofs.Common.{[], Bool, List, None, Option, Some, ap, arith, cond, false, length}
+use Rattle.std.proofs.Common.{refl, subst, true, zero, ℕ, ℤ, ◌&&◌, ◌<◌, ◌==◌, ◌∙◌, ◌∷◌, ◌≡◌, ◌≤◌}
 use Rattle.std.proofs.lemmas.Bool.{cases_Bool, eq-eqb, eqb-true, ne_eqb}
 use Rattle.std.specs.Prelude.{is_some}
 use Rattle.aom_image.specs.Image.{Image}
@@ -21,10 +22,13 @@ use Rattle.aom_shape.specs.declared.kind.Kind.TheVariants.{Null, Own, Unset}
 use Rattle.aom_safety.proofs.Services.{service_moved, attended_kept, sessions_kept}
 use Rattle.aom_safety.proofs.Seats.{NoFieldHere, NoSeatHere, first_kept, sits_kept}
 use Rattle.aom_semantics.proofs.Maps.{at-put_at, held_moved, named_moved, requested_moved, same_place-true, same_place_refl, transfer}
-use Rattle.aom_safety.specs.Claims.{is_of_root, Dispatching, Dying, Form, Layer, Mark, Method, Unwinding, claim, declared, entries_of, entry_claim, home_claim, items_of, layer_claim, objects, own_field, root_claim, tasks_of, Ending, by_close, by_stage, delivered, serves}
-use Rattle.aom_semantics.specs.Places.{Service, Cell, Elsewhere, Entry, Field, Going, Object, Place, Register, Root, Sight, changed, held, moved, named, same_place, Session, In_service}
+use Rattle.aom_safety.specs.Claims.{is_of_root, Dispatching, Dying, Form, Layer, Mark, Method, Unwinding, claim, declared, entries_of, entry_claim, home_claim}
+use Rattle.aom_safety.specs.Claims.{items_of, layer_claim, objects, own_field, root_claim, tasks_of, Ending, by_close, by_stage, delivered, serves}
+use Rattle.aom_semantics.specs.Places.{Service, Cell, Elsewhere, Entry, Field, Going, Object, Place, Register, Root}
+use Rattle.aom_semantics.specs.Places.{Sight, changed, held, moved, named, same_place, Session, In_service}
 use Rattle.aom_semantics.specs.State.{AtRoot, Dispatch, Frame, Home, Inside, Seat, Static, field_place, home_holder, Of_server, Parts, Serves, Service_left}
-use Rattle.aom_safety.specs.WellTyped.{view_holder, InView, Back, Caught, Fits, Gone, HasAge, Holds, IsBelow, IsHoused, IsNoFieldOf, Leaves, NoneFrom, NoneIn, Returns, Stack, Unclaimed, WordFits, by_field, Now}
+use Rattle.aom_safety.specs.WellTyped.{view_holder, InView, Back, Caught, Fits, Gone, HasAge, Holds, IsBelow, IsHoused, IsNoFieldOf}
+use Rattle.aom_safety.specs.WellTyped.{Leaves, NoneFrom, NoneIn, Returns, Stack, Unclaimed, WordFits, by_field, Now}
 
 -- a frame counts for the claims by its home and its method alone
 pub claim_frame :
@@ -52,15 +56,13 @@ own_at :
     own_field (thing f) (at Perhaps (put_at Perhaps xs a x) f) below ≡ cond (a == f) v (own_field (thing f) (at Perhaps xs f) below)
 own_at thing xs a x v below f some same = grind (arith, nat_tests, at-put_at Perhaps xs a f x, eqb-true a f, own_there (thing a) x below some)
 
-claim-set_member :
-    (p : Image) (d : Place → Kind) (fr : Frame) (o : Object) (from : Place) (sh : Shape) (ls : List Layer) (a : ℕ) (x : Filling) (v : Kind) (r : Place) → fr.home ≡ Inside o from →
-    is_some (field_thing p (holder_of p fr.method) a) ≡ true → filled (field_thing p (holder_of p fr.method) a) x ≡ v →
+claim-set_member : (p : Image) (d : Place → Kind) (fr : Frame) (o : Object) (from : Place) (sh : Shape) (ls : List Layer) (a : ℕ) (x : Filling) (v : Kind)
+    (r : Place) → fr.home ≡ Inside o from → is_some (field_thing p (holder_of p fr.method) a) ≡ true → filled (field_thing p (holder_of p fr.method) a) x ≡ v →
     claim p d (Method fr (set_field sh a x) ∷ ls) r ≡ changed (claim p d (Method fr sh ∷ ls)) (Field o.name a) v r
 claim-set_member p d fr o from sh ls a x v y e some same = grind (arith, nat_tests, own_at)
 
-claim-set_root :
-    (p : Image) (d : Place → Kind) (fr : Frame) (sh : Shape) (ls : List Layer) (x : Filling) (v : Kind) (r : Place) → fr.home ≡ AtRoot → filled (field_thing p Program 0) x ≡ v →
-    claim p d (Method fr (set_field sh 0 x) ∷ ls) r ≡ changed (claim p d (Method fr sh ∷ ls)) (Elsewhere Root) v r
+claim-set_root : (p : Image) (d : Place → Kind) (fr : Frame) (sh : Shape) (ls : List Layer) (x : Filling) (v : Kind) (r : Place) → fr.home ≡ AtRoot →
+    filled (field_thing p Program 0) x ≡ v → claim p d (Method fr (set_field sh 0 x) ∷ ls) r ≡ changed (claim p d (Method fr sh ∷ ls)) (Elsewhere Root) v r
 claim-set_root p d fr sh ls x v (Elsewhere Root) e same =
     ap (λ h. root_claim p h (set_field sh 0 x) (claim p d ls (Elsewhere Root))) e ∙ filled_at (λ f. field_thing p Program f) sh.fields 0 x v 0 same
 claim-set_root p d fr sh ls x v y e same = grind arith
@@ -68,16 +70,15 @@ claim-set_root p d fr sh ls x v y e same = grind arith
 -- a field of the top method is claimed anew
 pub claim-set_field :
     (p : Image) (d : Place → Kind) (fr : Frame) (home : Home) (sh : Shape) (ls : List Layer) (a : ℕ) (x : Filling) (v : Kind) (r : Place) → fr.home ≡ home →
-    field_thing p (home_holder home) a ≡ field_thing p (holder_of p fr.method) a → is_some (field_thing p (home_holder home) a) ≡ true → filled (field_thing p (home_holder home) a) x ≡ v →
-    claim p d (Method fr (set_field sh a x) ∷ ls) r ≡ changed (claim p d (Method fr sh ∷ ls)) (field_place home a) v r
+    field_thing p (home_holder home) a ≡ field_thing p (holder_of p fr.method) a → is_some (field_thing p (home_holder home) a) ≡ true → filled (field_thing p
+    (home_holder home) a) x ≡ v → claim p d (Method fr (set_field sh a x) ∷ ls) r ≡ changed (claim p d (Method fr sh ∷ ls)) (field_place home a) v r
 claim-set_field p d fr AtRoot sh ls zero x v r e own some same = claim-set_root p d fr sh ls x v r e same
 claim-set_field p d fr (Inside o from) sh ls a x v r e own some same = grind (arith, nat_tests, claim-set_member p d fr o from sh ls a x v r e)
 claim-set_field p d fr _ sh ls _ x v r e own some same = cc
 
 -- one more entry, and one less
-pub claim_push :
-    (p : Image) (d : Place → Kind) (fr : Frame) (sh : Shape) (ls : List Layer) (v : Pushed) (r : Place) →
-    claim p d (Method fr (record sh { entries = v ∷ sh.entries }) ∷ ls) r ≡ changed (claim p d (Method fr sh ∷ ls)) (Entry (length (items_of (Method fr sh ∷ ls)))) (entry_kind v) r
+pub claim_push : (p : Image) (d : Place → Kind) (fr : Frame) (sh : Shape) (ls : List Layer) (v : Pushed) (r : Place) → claim p d (Method fr
+    (record sh { entries = v ∷ sh.entries }) ∷ ls) r ≡ changed (claim p d (Method fr sh ∷ ls)) (Entry (length (items_of (Method fr sh ∷ ls)))) (entry_kind v) r
 claim_push p d fr sh ls v x = grind arith
 
 pub filled_weaker : (c : Option Thing) {x y : Filling} → WeakerFilling x y → Weaker (filled c x) (filled c y)
@@ -126,7 +127,8 @@ claim_weaker p d fr a b ls (Elsewhere Root) w = go fr.home
     go Static = alike
     go AtRoot = filled_weaker (field_thing p Program 0) (w.fields 0)
     go (Inside o from) = alike
-claim_weaker p d fr a b ls (Elsewhere In_service) w = subst (λ x. Weaker (cond (serves p fr.method) (delivered a.delivery) (claim p d ls (Elsewhere In_service))) (cond (serves p fr.method) (delivered x) (claim p d ls (Elsewhere In_service)))) w.delivery alike
+claim_weaker p d fr a b ls (Elsewhere In_service) w = subst (λ x. Weaker (cond (serves p fr.method) (delivered a.delivery)
+    (claim p d ls (Elsewhere In_service))) (cond (serves p fr.method) (delivered x) (claim p d ls (Elsewhere In_service)))) w.delivery alike
 claim_weaker p d fr a b ls _ w = alike
 
 pub fits_weaker : (p : Image) (h : Sight) (o : Option Object) {a b : Kind} → Weaker a b → Fits p h o b → Fits p h o a
@@ -227,29 +229,25 @@ outside_differs q from ls h n b = grind (arith, nat_tests, cases_Bool, same_plac
 pub no_field_here : (q : Place) (fr : Frame) (o : Object) (from : Place) (sh : Shape) (ls : List Layer) → fr.home ≡ Inside o from → Outside q (Method fr sh ∷ ls) → NoFieldHere q from
 no_field_here x fr o from sh ls e h = grind arith
 
-pub holds_moved :
-    (p : Image) (cs : List Cell) (a b : Place) (ls : List Layer) (o : Object) (from : Place) → held cs b ≡ None → same_place a from ≡ false → same_place b from ≡ false →
-    Holds p cs ls o from → Holds p (moved a b cs) ls o from
+pub holds_moved : (p : Image) (cs : List Cell) (a b : Place) (ls : List Layer) (o : Object) (from : Place) →
+    held cs b ≡ None → same_place a from ≡ false → same_place b from ≡ false → Holds p cs ls o from → Holds p (moved a b cs) ls o from
 holds_moved p cs a b ls o from free na nb h = search (arith, nat_tests, held_moved cs a b from free, named_moved cs a b o.name)
 
-housed_moved :
-    (p : Image) (cs : List Cell) (a b : Place) (fr : Frame) (sh : Shape) (ls : List Layer) (home : Home) → fr.home ≡ home → held cs b ≡ None → Outside a (Method fr sh ∷ ls) →
-    Outside b (Method fr sh ∷ ls) → IsHoused p cs ls home → IsHoused p (moved a b cs) ls home
-housed_moved p cs a b fr sh ls (Inside o from) e free oa ob h =
-    holds_moved p cs a b ls o from free (outside_differs a from ls (outside_less a _ ls oa) (no_field_here a fr o from sh ls e oa) h.below) (outside_differs b from ls (outside_less b _ ls ob) (no_field_here b fr o from sh ls e ob) h.below) h
+housed_moved : (p : Image) (cs : List Cell) (a b : Place) (fr : Frame) (sh : Shape) (ls : List Layer) (home : Home) → fr.home ≡ home →
+    held cs b ≡ None → Outside a (Method fr sh ∷ ls) → Outside b (Method fr sh ∷ ls) → IsHoused p cs ls home → IsHoused p (moved a b cs) ls home
+housed_moved p cs a b fr sh ls (Inside o from) e free oa ob h = holds_moved p cs a b ls o from free (outside_differs a from ls (outside_less a _ ls oa)
+    (no_field_here a fr o from sh ls e oa) h.below) (outside_differs b from ls (outside_less b _ ls ob) (no_field_here b fr o from sh ls e ob) h.below) h
 housed_moved p cs a b fr sh ls x e free oa ob h = grind arith
 
 pub going_differs : (r : Place) (o : Object) (ls : List Layer) → Outside r (Dying o ∷ ls) → same_place r (Going (length (tasks_of ls))) ≡ false
 going_differs x o ls h = grind (arith, nat_tests, ne_eqb)
 
-going_moved :
-    (cs : List Cell) (a b : Place) (o : Object) (ls : List Layer) → held cs b ≡ None → Outside a (Dying o ∷ ls) → Outside b (Dying o ∷ ls) → held cs (Going (length (tasks_of ls))) ≡ Some o →
-    held (moved a b cs) (Going (length (tasks_of ls))) ≡ Some o
+going_moved : (cs : List Cell) (a b : Place) (o : Object) (ls : List Layer) → held cs b ≡ None → Outside a (Dying o ∷ ls) →
+    Outside b (Dying o ∷ ls) → held cs (Going (length (tasks_of ls))) ≡ Some o → held (moved a b cs) (Going (length (tasks_of ls))) ≡ Some o
 going_moved cs a b o ls free oa ob e = grind (arith, nat_tests, held_moved cs a b, going_differs b o ls ob, going_differs a o ls oa)
 
-pub stack_moved :
-    (p : Image) (t : Typing) (cs : List Cell) (a b : Place) (ls : List Layer) (back : Back) → held cs b ≡ None → Outside a ls → Outside b ls → Stack p t cs back ls →
-    Stack p t (moved a b cs) back ls
+pub stack_moved : (p : Image) (t : Typing) (cs : List Cell) (a b : Place) (ls : List Layer) (back : Back) →
+    held cs b ≡ None → Outside a ls → Outside b ls → Stack p t cs back ls → Stack p t (moved a b cs) back ls
 stack_moved p t cs a b [] back free oa ob s = s
 stack_moved p t cs a b (Method fr sh ∷ ls) back free oa ob s =
     search (arith, nat_tests, housed_moved p cs a b fr sh ls fr.home, stack_moved p t cs a b ls, outside_less a, outside_less b)
@@ -276,9 +274,8 @@ entries_below : (es : List Pushed) (items : List Form) (k : ℕ) (below : Kind) 
 entries_below [] items k below lt = refl
 entries_below (x ∷ es) items k below lt = grind (arith, nat_tests, ne_eqb, length_objects es items, entries_below es items k below lt)
 
-pub claim_from :
-    (p : Image) (d : Place → Kind) (fr : Frame) (o : Object) (from : Place) (sh : Shape) (ls : List Layer) → fr.home ≡ Inside o from → IsNoFieldOf o.name from → IsBelow from ls →
-    claim p d (Method fr sh ∷ ls) from ≡ claim p d ls from
+pub claim_from : (p : Image) (d : Place → Kind) (fr : Frame) (o : Object) (from : Place) (sh : Shape) (ls : List Layer) →
+    fr.home ≡ Inside o from → IsNoFieldOf o.name from → IsBelow from ls → claim p d (Method fr sh ∷ ls) from ≡ claim p d ls from
 claim_from p d fr o x sh ls e n b = grind (arith, nat_tests, ne_eqb, entries_below sh.entries)
 
 -- a layer's claims follow those below it
@@ -294,7 +291,8 @@ own_rel : (R : Kind → Kind → Type 0) → ((k : Kind) → R k k) → (o : Opt
 own_rel R same None z x y h = h
 own_rel R same (Some t) z x y h = same _
 
-home_rel : (R : Kind → Kind → Type 0) → ((k : Kind) → R k k) → (p : Image) (k : Holder) (home : Home) (sh : Shape) (n f : ℕ) (x y : Kind) → R x y → R (home_claim p k home sh n f x) (home_claim p k home sh n f y)
+home_rel : (R : Kind → Kind → Type 0) → ((k : Kind) → R k k) →
+    (p : Image) (k : Holder) (home : Home) (sh : Shape) (n f : ℕ) (x y : Kind) → R x y → R (home_claim p k home sh n f x) (home_claim p k home sh n f y)
 home_rel R same p k Static sh n f x y h = h
 home_rel R same p k AtRoot sh n f x y h = h
 home_rel R same p k (Inside o from) sh n f x y h = go (o.name == n)
@@ -382,9 +380,8 @@ pub claim_unclaimed : (p : Image) (d : Place → Kind) (ls : List Layer) (n f : 
 claim_unclaimed p d ls n f k u e = claim_rel (λ x y. x ≡ y) (λ k. refl) p d (by_field k) ls (Field n f) e ∙ u f
 
 -- of a field that the cell has as what it counts as
-pub claim_in_view :
-    (p : Image) (d : Place → Kind) (ls : List Layer) (n f : ℕ) (k : ℕ → Kind) (view : Option ℕ) → InView p view k n ls → is_some (field_thing p (view_holder view) f) ≡ true → d (Field n f) ≡ k f →
-    claim p d ls (Field n f) ≡ k f
+pub claim_in_view : (p : Image) (d : Place → Kind) (ls : List Layer) (n f : ℕ) (k : ℕ → Kind) (view : Option ℕ) →
+    InView p view k n ls → is_some (field_thing p (view_holder view) f) ≡ true → d (Field n f) ≡ k f → claim p d ls (Field n f) ≡ k f
 claim_in_view p d ls n f k view u some e = claim_rel (λ x y. x ≡ y) (λ k. refl) p d (by_field k) ls (Field n f) e ∙ u f some
 
 pub claim_going_above : (p : Image) (cs : List Cell) (ls : List Layer) (k : ℕ) → length (tasks_of ls) ≤ k → claim p (declared p cs) ls (Going k) ≡ Null

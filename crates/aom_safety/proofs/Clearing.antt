@@ -56,8 +56,8 @@ destructs_over : (p : Image) → IsWired p → (o : Object) (height : ℕ) (code
 destructs_over p wired o height code below ts h = grind (arith, nat_tests, destroys p wired o.thing)
 
 -- and the next of its line
-line_over :
-    (p : Image) → IsWired p → (m : ℕ) (home : Home) (height : ℕ) (code : ℤ) (below ts : List Task) → IsOver p height code below ts → IsOver p height code below (line_on p m home height ts)
+line_over : (p : Image) → IsWired p → (m : ℕ) (home : Home) (height : ℕ) (code : ℤ) (below ts : List Task) →
+    IsOver p height code below ts → IsOver p height code below (line_on p m home height ts)
 line_over p wired m Static height code below ts h = h
 line_over p wired m AtRoot height code below ts h = h
 line_over p wired m (Inside o from) height code below ts h = go (parent_by p (method_class p m))
@@ -78,15 +78,14 @@ no_entries : (es : List Pushed_entry) (below : List Form) → length (objects es
 no_entries [] below e = refl
 no_entries (x ∷ es) below e = absurd (omega (arith, e, length_objects es below))
 
-bare_shape :
-    (p : Image) (t : Typing) (cs : List Cell) (fr : Frame) (ts : List Task) (items : List Item) (ls : List Layer) →
-    Run fr ∷ ts ≡ tasks_of ls → forms items ≡ items_of ls → fr.height ≡ length items → Good p t cs ls → (sh : Shape) × (shape_at t fr.method fr.place ≡ Some sh) × (sh.entries ≡ [])
+bare_shape : (p : Image) (t : Typing) (cs : List Cell) (fr : Frame) (ts : List Task) (items : List Item) (ls : List Layer) → Run fr ∷ ts ≡ tasks_of ls →
+    forms items ≡ items_of ls → fr.height ≡ length items → Good p t cs ls → (sh : Shape) × (shape_at t fr.method fr.place ≡ Some sh) × (sh.entries ≡ [])
 bare_shape p t cs fr ts items (Method fr' sh ∷ ls) at f h good = grind (arith, nat_tests, length_forms items, no_entries sh.entries)
 bare_shape p t cs fr ts items _ at f h good = cc
 
 -- a method's move
-module _ (p : Image) (wired : IsWired p) (c : Choice) (fr : Frame) (sh : Shape) (ts : List Task) (s : State) (at_hand : s.tasks ≡ Run fr ∷ ts) (code : ℤ) (below : List Task)
-    (h : IsOver p (length s.items) code below (Run fr ∷ ts)) (bare : sh.entries ≡ []) where
+module _ (p : Image) (wired : IsWired p) (c : Choice) (fr : Frame) (sh : Shape) (ts : List Task) (s : State)
+    (at_hand : s.tasks ≡ Run fr ∷ ts) (code : ℤ) (below : List Task) (h : IsOver p (length s.items) code below (Run fr ∷ ts)) (bare : sh.entries ≡ []) where
   abbrev Kept : State → Type 0
   Kept u = IsOver p (length s.items) code below u.tasks × (u.items ≡ s.items)
 
@@ -142,8 +141,8 @@ module _ (p : Image) (t : Typing) (wired : IsWired p) (typed : IsTyped p t) (c :
   kept (Ends d ts at same) = absurd (subst O at over)
 
 -- with the same entries left
-pub works_kept :
-    (p : Image) (t : Typing) → IsWired p → IsTyped p t → (c : Choice) (s u : State) → WellTyped p t s → (code : ℤ) (below : List Task) (entries items : List Item) →
+pub works_kept : (p : Image) (t : Typing) →
+    IsWired p → IsTyped p t → (c : Choice) (s u : State) → WellTyped p t s → (code : ℤ) (below : List Task) (entries items : List Item) →
     IsLeaving p code below entries items s → s.tasks ≢ Unwind code ∷ below → step p c s ≡ Goes u → IsLeaving p code below entries items u × (u.items ≡ s.items)
 works_kept p t wired typed c s u w code below entries items l other e =
     let r = kept p t wired typed c s u w code below l.over other (steps_are_moves p c s u e) in (

@@ -56,9 +56,8 @@ module _ (p : Image) (t : Typing) (s : State) where
       fits x y z r = grind (arith, nat_tests, root_gone p t s seats, nothing, none_parts d plain, none_served d plain Null)
 
   -- the root goes
-  uproots :
-      IsWired p → IsTyped p t → (d : Dispatch) (seats : List Seat) → serves_none d ≡ true → is_of_root d ≡ false → (o : Object) → held s.cells (Elsewhere Root) ≡ Some o → s.items ≡ [] →
-      Good p t s.cells (Dispatching d seats ∷ []) → WellTyped p t (uprooted p o s)
+  uproots : IsWired p → IsTyped p t → (d : Dispatch) (seats : List Seat) → serves_none d ≡ true → is_of_root d ≡ false →
+      (o : Object) → held s.cells (Elsewhere Root) ≡ Some o → s.items ≡ [] → Good p t s.cells (Dispatching d seats ∷ []) → WellTyped p t (uprooted p o s)
   uproots wired typed d seats plain other o there items good =
       let q = Elsewhere Root in
       let g = Going (length (tasks_of (Dispatching Of_root [] ∷ []))) in
@@ -75,9 +74,8 @@ module _ (p : Image) (t : Typing) (s : State) where
       claims x = grind (arith, nat_tests, none_parts d plain, none_served d plain)
 
   -- a dispatch ends, and the root goes first where the run stops
-  closes :
-      IsWired p → IsTyped p t → (d : Dispatch) (seats : List Seat) → serves_none d ≡ true → is_of_root d ≡ false → s.items ≡ [] → Good p t s.cells (Dispatching d seats ∷ []) →
-      (b : Bool) (root : Option Object) → held s.cells (Elsewhere Root) ≡ root → WellTyped p t (main_ends p b root s)
+  closes : IsWired p → IsTyped p t → (d : Dispatch) (seats : List Seat) → serves_none d ≡ true → is_of_root d ≡ false → s.items ≡ [] → Good p t s.cells
+      (Dispatching d seats ∷ []) → (b : Bool) (root : Option Object) → held s.cells (Elsewhere Root) ≡ root → WellTyped p t (main_ends p b root s)
   closes wired typed d seats plain other items good x root e = grind (arith, nat_tests, uproots wired typed d seats plain other, idle)
 
 module _ (p : Image) (t : Typing) (s : State) (wired : IsWired p) (typed : IsTyped p t) (items : s.items ≡ []) where
@@ -99,7 +97,6 @@ module _ (p : Image) (t : Typing) (s : State) (wired : IsWired p) (typed : IsTyp
   ends (Asks x) seats good = of_object (Asks x) seats refl refl good
   ends (Answered x answer) seats good = with_answer (Answered x answer) seats answer refl refl good
 
-pub dispatch_keeps :
-    (p : Image) (t : Typing) → IsWired p → IsTyped p t → (s : State) (d : Dispatch) (seats : List Seat) (ls : List Layer) → Good p t s.cells (Dispatching d seats ∷ ls) →
-    forms s.items ≡ items_of ls → Keeps p t (guarded (needs_end d s.cells) (dispatch_ends p d s))
+pub dispatch_keeps : (p : Image) (t : Typing) → IsWired p → IsTyped p t → (s : State) (d : Dispatch) (seats : List Seat) (ls : List Layer) →
+    Good p t s.cells (Dispatching d seats ∷ ls) → forms s.items ≡ items_of ls → Keeps p t (guarded (needs_end d s.cells) (dispatch_ends p d s))
 dispatch_keeps p t wired typed s d seats ls good items = grind (arith, nat_tests, ends p t s wired typed, no_items s.items)

@@ -21,11 +21,11 @@ use Rattle.aom_safety.specs.WellTyped.{Good}
 
 -- ---- what is declared goes by names, messages and sessions
 
-module _ (p : Image) (cs cs' : List Cell) (names : (n : ℕ) → named cs' n ≡ named cs n) (messages : (n m : ℕ) → has_message (service_of cs' n) m ≡ has_message (service_of cs n) m)
-    (sessions : (n c : ℕ) → has_session (service_of cs' n) c ≡ has_session (service_of cs n) c) where
+module _ (p : Image) (cs cs' : List Cell) (names : (n : ℕ) → named cs' n ≡ named cs n) (messages : (n m : ℕ) → has_message
+    (service_of cs' n) m ≡ has_message (service_of cs n) m) (sessions : (n c : ℕ) → has_session (service_of cs' n) c ≡ has_session (service_of cs n) c) where
   pub declared_same : (q : Place) → declared p cs' q ≡ declared p cs q
-  declared_same (Elsewhere (Queued m k)) =
-      ap (λ b. cond b (filled (message_thing p (named cs' m)) Full) Null) (messages m k) ∙ ap (λ y. cond (has_message (service_of cs m) k) (filled (message_thing p y) Full) Null) (names m)
+  declared_same (Elsewhere (Queued m k)) = ap (λ b. cond b (filled (message_thing p (named cs' m)) Full) Null) (messages m k)
+      ∙ ap (λ y. cond (has_message (service_of cs m) k) (filled (message_thing p y) Full) Null) (names m)
   declared_same x = grind arith
 
   -- so that cells in the same places, with the same requests, are well typed
@@ -42,9 +42,9 @@ good_asked p t cs o lives e plain good =
     (tidy_served cs o.name (asked_last e (service_of cs o.name)) good.tidy) good
   where
     messages : (n m : ℕ) → has_message (service_of (reserved (asked_last e) o.name cs) n) m ≡ has_message (service_of cs n) m
-    messages n m = by_server cs o lives (asked_last e) (λ n v. has_message v m ≡ has_message (service_of cs n) m)
-        (list_any-append (λ x. is_message m x) (service_of cs o.name).queue (e ∷ []) ∙ ap (λ b. list_any (λ x. is_message m x) (service_of cs o.name).queue || (b || false)) (plain m) ∙ or-false (list_any (λ x. is_message m x) (service_of cs o.name).queue))
-        (λ n other. refl) n
+    messages n m = by_server cs o lives (asked_last e) (λ n v. has_message v m ≡ has_message (service_of cs n) m) (list_any-append (λ x. is_message m x)
+        (service_of cs o.name).queue (e ∷ []) ∙ ap (λ b. list_any (λ x. is_message m x) (service_of cs o.name).queue || (b || false)) (plain m)
+        ∙ or-false (list_any (λ x. is_message m x) (service_of cs o.name).queue)) (λ n other. refl) n
 
     sessions : (n c : ℕ) → has_session (service_of (reserved (asked_last e) o.name cs) n) c ≡ has_session (service_of cs n) c
     sessions n c = by_server cs o lives (asked_last e) (λ n v. has_session v c ≡ has_session (service_of cs n) c) refl (λ n other. refl) n

@@ -53,9 +53,8 @@ module _ (p : Image) (t : Typing) (outside : Environment) (wired : IsWired p) (t
         inl (record { dealt = h.dealt; rest = h.rest; all = h.all; course = works c h.course other e r.1; leaving = r.0 })
 
     -- the leave itself moves
-    leave_moves :
-        (s u : State) (c : Choice) → WellTyped p t s → (dealt rest : List Item) → entries ≡ dealt ++ rest → Unwinds p code below from dealt s → IsLeaving p code below rest items s →
-        s.tasks ≡ Unwind code ∷ below → step p c s ≡ Goes u → Course u
+    leave_moves : (s u : State) (c : Choice) → WellTyped p t s → (dealt rest : List Item) → entries ≡ dealt ++ rest →
+        Unwinds p code below from dealt s → IsLeaving p code below rest items s → s.tasks ≡ Unwind code ∷ below → step p c s ≡ Goes u → Course u
     leave_moves s u c w dealt [] all course l at e = inr (record {
       last = s;
       course = subst (λ is. Unwinds p code below from is s) (sym (all ∙ append-nil dealt)) course;

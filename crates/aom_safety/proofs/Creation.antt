@@ -1,6 +1,7 @@
 -- The law of a new cell.
 use Rattle.std.proofs.lemmas.Bool.Decides.{nat_tests}
-use Rattle.std.proofs.Common.{[], Bool, List, None, Option, Some, ap, arith, cond, eq-eqb, false, length, refl, subst, sym, true, ℕ, ℤ, ◌==◌, ◌∙◌, ◌∷◌, ◌≡◌, ◌≤◌, suc}
+use Rattle.std.proofs.Common.{[], Bool, List, None, Option, Some, ap, arith, cond, eq-eqb, false, length}
+use Rattle.std.proofs.Common.{refl, subst, sym, true, ℕ, ℤ, ◌==◌, ◌∙◌, ◌∷◌, ◌≡◌, ◌≤◌, suc}
 use Rattle.std.proofs.lemmas.Bool.{eqb-true, ne_eqb}
 use Rattle.std.specs.Prelude.{is_none}
 use Rattle.aom_image.specs.Image.{Image}
@@ -20,10 +21,12 @@ use Rattle.aom_shape.specs.declared.kind.Kind.TheVariants.{Maybe, Null}
 use Rattle.aom_safety.proofs.Claimed.{Outside, claim-set_register, claim_frame, claim_rel, claim_unnamed, fits_age, fits_weaker, outside_differs}
 use Rattle.aom_safety.proofs.Straight.{At, Fitted, Law, fits_unowning, fitted, free_register, relabel, settle, top, well, words_set}
 use Rattle.aom_safety.proofs.Things.{stands_itself}
-use Rattle.aom_safety.specs.Claims.{Ending, Dispatching, Dying, Layer, Mark, Method, Unwinding, claim, declared, declared_field, home_claim, own_field, tasks_of}
+use Rattle.aom_safety.specs.Claims.{Ending, Dispatching, Dying, Layer, Mark, Method, Unwinding, claim}
+use Rattle.aom_safety.specs.Claims.{declared, declared_field, home_claim, own_field, tasks_of}
 use Rattle.aom_semantics.specs.Effects.{applied, makes_unless, sets, Made}
 use Rattle.aom_semantics.specs.Objects.{no_words}
-use Rattle.aom_semantics.specs.Places.{Elsewhere, Session, Queued, service_of, unserved, Service, Cell, Field, Object, Place, Register, Request, Sight, held, named, requested, same_place, seen, with_new}
+use Rattle.aom_semantics.specs.Places.{Elsewhere, Session, Queued, service_of, unserved, Service, Cell, Field, Object, Place}
+use Rattle.aom_semantics.specs.Places.{Register, Request, Sight, held, named, requested, same_place, seen, with_new}
 use Rattle.aom_semantics.specs.State.{Dispatch, Seat, AtRoot, Choice, Frame, Home, Inside, State, Static, next, set_word, thing_holder, word}
 use Rattle.aom_safety.specs.WellTyped.{AllSit, SitsFirst, IsAttended, Back, Fits, HasAge, IsHoused, Returns, Stack, WellTyped, WordFits, seat_of}
 use Rattle.aom_safety.proofs.Seats.{NoFieldHere, first_kept, sits_kept}
@@ -35,12 +38,12 @@ use Rattle.aom_safety.proofs.Services.{service_unnamed, attended_at, sits_lives}
 -- what a service says with its server's class: of a new cell nothing is said, and of the others what was
 serves_new :
     (cs : List Cell) (n : ℕ) (x : Thing) → named cs n ≡ None → (m : ℕ) (has : Service → Bool) (thing : Option Object → Option Thing) → has unserved ≡ false →
-    Weaker (cond (has (cond (n == m) unserved (service_of cs m))) (filled (thing (cond (n == m) (Some (record { name = n; thing = x })) (named cs m))) Full) Null)
-    (cond (has (service_of cs m)) (filled (thing (named cs m)) Full) Null)
+    Weaker (cond (has (cond (n == m) unserved (service_of cs m))) (filled (thing (cond (n == m) (Some (record { name = n; thing = x })) (named cs m))) Full)
+    Null) (cond (has (service_of cs m)) (filled (thing (named cs m)) Full) Null)
 serves_new cs n x e m has thing none = go (n == m) refl
   where
-    go : (b : Bool) → (n == m) ≡ b →
-        Weaker (cond (has (cond b unserved (service_of cs m))) (filled (thing (cond b (Some (record { name = n; thing = x })) (named cs m))) Full) Null) (cond (has (service_of cs m)) (filled (thing (named cs m)) Full) Null)
+    go : (b : Bool) → (n == m) ≡ b → Weaker (cond (has (cond b unserved (service_of cs m))) (filled
+        (thing (cond b (Some (record { name = n; thing = x })) (named cs m))) Full) Null) (cond (has (service_of cs m)) (filled (thing (named cs m)) Full) Null)
     go true h = subst (λ v. Weaker (cond (has unserved) (filled (thing (Some (record { name = n; thing = x }))) Full) Null) (cond (has v) (filled (thing (named cs m)) Full) Null))
         (sym (service_unnamed cs m (ap (λ k. named cs k) (sym (eqb-true n m h)) ∙ e)))
         (subst (λ b. Weaker (cond b (filled (thing (Some (record { name = n; thing = x }))) Full) Null) (cond b (filled (thing (named cs m)) Full) Null)) (sym none) alike)
@@ -67,9 +70,8 @@ service_new :
     service_of (with_new n x ws owner cs) o.name ≡ service_of cs o.name
 service_new cs n x ws owner o e h = grind (arith, nat_tests, ne_eqb n o.name)
 
-attended_new :
-    (p : Image) (cs : List Cell) (n : ℕ) (x : Thing) (ws : List ℤ) (owner : Place) (d : Dispatch) (seats : List Seat) → named cs n ≡ None → AllSit cs seats → SitsFirst cs (seat_of d) seats →
-    IsAttended p cs d → IsAttended p (with_new n x ws owner cs) d
+attended_new : (p : Image) (cs : List Cell) (n : ℕ) (x : Thing) (ws : List ℤ) (owner : Place) (d : Dispatch) (seats : List Seat) →
+    named cs n ≡ None → AllSit cs seats → SitsFirst cs (seat_of d) seats → IsAttended p cs d → IsAttended p (with_new n x ws owner cs) d
 attended_new p cs n x ws owner d seats e sits first h = grind (arith, nat_tests, attended_at p cs, service_new cs n x ws owner, sits_lives cs seats)
 
 lives_new : (cs : List Cell) (n : ℕ) (x : Thing) (ws : List ℤ) (owner : Place) (o : Object) → named cs n ≡ None → named cs o.name ≡ Some o → named (with_new n x ws owner cs) o.name ≡ Some o
@@ -80,9 +82,8 @@ holds_new :
     ((o : Object) (from : Place) → home ≡ Inside o from → NoFieldHere owner from) → IsHoused p cs ls home → IsHoused p (with_new n x ws owner cs) ls home
 holds_new p cs n x ws owner ls y e out nf h = grind (arith, nat_tests, outside_differs owner, lives_new cs n x ws owner)
 
-stack_new :
-    (p : Image) (t : Typing) (cs : List Cell) (n : ℕ) (x : Thing) (ws : List ℤ) (f i : ℕ) (ls : List Layer) (back : Back) → named cs n ≡ None → length (tasks_of ls) ≤ f →
-    Stack p t cs back ls → Stack p t (with_new n x ws (Register f i) cs) back ls
+stack_new : (p : Image) (t : Typing) (cs : List Cell) (n : ℕ) (x : Thing) (ws : List ℤ) (f i : ℕ) (ls : List Layer) (back : Back) →
+    named cs n ≡ None → length (tasks_of ls) ≤ f → Stack p t cs back ls → Stack p t (with_new n x ws (Register f i) cs) back ls
 stack_new p t cs n x ws f i [] back e out s = s
 stack_new p t cs n x ws f i (Method fr sh ∷ ls) back e out s =
     (s.0, s.1, holds_new p cs n x ws (Register f i) ls fr.home e (omega arith) (λ o from e. tt) s.2, s.3, stack_new p t cs n x ws f i ls _ e (omega arith) s.4)
@@ -159,8 +160,8 @@ create p t cs fr sh ls n x ws a k g e free new word = record {
         own : (h : Home) → IsHoused p cs ls h → home_claim p (holder_of p fr.method) h sh n f (claim p (declared p cs) ls (Field n f)) ≡ claim p (declared p cs) ls (Field n f)
         own Static h = refl
         own AtRoot h = refl
-        own (Inside o from) h =
-            ap (λ b. cond b (own_field (field_thing p (holder_of p fr.method) f) (field sh f) (claim p (declared p cs) ls (Field n f))) (claim p (declared p cs) ls (Field n f)))
+        own (Inside o from) h = ap (λ b. cond b (own_field (field_thing p (holder_of p fr.method) f) (field sh f) (claim p (declared p cs) ls (Field n f)))
+            (claim p (declared p cs) ls (Field n f)))
             (ne_eqb o.name n (λ same. let l = h.lives in let e' : Some o ≡ None = sym l ∙ ap (λ x. named cs x) same ∙ e in cc))
 
         unclaimed : claim p (declared p cs) (Method fr sh ∷ ls) (Field n f) ≡ declared p cs (Field n f)
@@ -170,8 +171,8 @@ create p t cs fr sh ls n x ws a k g e free new word = record {
     no_request = ap (λ b. cond b None (requested cs n)) (eq-eqb n n refl)
 
     fits : (r : Place) → Fits p (seen cs') (held cs' r) (claim p (declared p cs') (Method (next (set_word fr a None)) (set_register sh a k) ∷ ls) r)
-    fits r =
-        rw (claim_frame p (declared p cs') fr (next (set_word fr a None)) (set_register sh a k) ls r refl refl ∙ claim-set_register p (declared p cs') fr sh ls a k r) (go (same_place (top ls a) r))
+    fits r = rw (claim_frame p (declared p cs') fr (next (set_word fr a None)) (set_register sh a k) ls r refl refl
+        ∙ claim-set_register p (declared p cs') fr sh ls a k r) (go (same_place (top ls a) r))
       where
         go : (b : Bool) → Fits p (seen cs') (cond b (Some (record { name = n; thing = x })) (held cs r)) (cond b k (claim p (declared p cs') (Method fr sh ∷ ls) r))
         go true = new (seen cs') no_field no_request
@@ -183,7 +184,8 @@ create p t cs fr sh ls n x ws a k g e free new word = record {
     suits : AllSuit p cs' (Method (next (set_word fr a None)) (set_register sh a k) ∷ ls)
     suits o lives = go (n == o.name) refl lives
       where
-        go : (b : Bool) → (n == o.name) ≡ b → cond b (Some (record { name = n; thing = x })) (named cs o.name) ≡ Some o → Suits (thing_kind p o.thing) (states_claim p o (Method fr sh ∷ ls)) (cond b None (requested cs o.name))
+        go : (b : Bool) → (n == o.name) ≡ b → cond b (Some (record { name = n; thing = x })) (named cs o.name) ≡ Some o →
+            Suits (thing_kind p o.thing) (states_claim p o (Method fr sh ∷ ls)) (cond b None (requested cs o.name))
         go true same here =
             let unnamed : named cs o.name ≡ None = ap (λ m. named cs m) (sym (eqb-true n o.name same)) ∙ e in
             rw (unworked_rests p o (Method fr sh ∷ ls) (unworked_home p cs o ls fr.home g.housed unnamed, unworked_unnamed p cs o t ls back g.stack unnamed)) (suits_new (thing_kind p o.thing))
@@ -201,9 +203,8 @@ module _ (p : Image) (t : Typing) (c : Choice) (s : State) (fr : Frame) (sh : Sh
   age_fits h x o n u = grind arith
 
   -- a new cell comes to a register that owned nothing
-  pub made_well :
-      (a x : ℕ) (k : Kind) → held s.cells (top ls a) ≡ None → IsUnused →
-      ((h : Sight) → HasAge h (record { name = c.name; thing = An_object_of x }) (new_age p x) → Fits p h (Some (record { name = c.name; thing = An_object_of x })) k) → WordFits None k →
+  pub made_well : (a x : ℕ) (k : Kind) → held s.cells (top ls a) ≡ None → IsUnused → ((h : Sight) → HasAge h (record { name = c.name; thing = An_object_of x })
+      (new_age p x) → Fits p h (Some (record { name = c.name; thing = An_object_of x })) k) → WordFits None k →
       Leads t fr.method (suc fr.place) (set_register sh a k) → WellTyped p t (applied p fr (tasks_of ls) s (sets fr a None (Made c.name x a)))
   made_well a x k free unused owns word leads = well p t c s fr sh ls at_hand _ fr' (set_register sh a k) refl at_hand.items at_hand.undos (settle p t _ fr' (set_register sh a k) ls makes leads)
     where

@@ -113,7 +113,8 @@ module _ (p : Image) (t : Typing) (wired : IsWired p) (typed : IsTyped p t) (s :
     holder : holder_of p m ≡ Nobody
     holder = ap (λ r. holder_by r (method_class p m)) undo.role ∙ ap (λ c. holder_by (Some Undo) c) undo.class
 
-    operation_runs : (items : List Item) → forms items ≡ items_of below → AllUndo p items → WellTyped p t (record s { tasks = Run (operation_frame m w (length items)) ∷ tasks_of below; items = items })
+    operation_runs : (items : List Item) → forms items ≡ items_of below →
+        AllUndo p items → WellTyped p t (record s { tasks = Run (operation_frame m w (length items)) ∷ tasks_of below; items = items })
     operation_runs items same undos =
         let leads = typed.entry m undo.there in
         let says = leads.2 in
@@ -138,10 +139,8 @@ module _ (p : Image) (t : Typing) (wired : IsWired p) (typed : IsTyped p t) (s :
         }
 
 -- the effect of `popdelete` is that
-pub dealing :
-    (p : Image) (fr : Frame) (ts : List Task) (s : State) (items : List Item) (o : Option Object) → s.items ≡ items → held s.cells (top_place items) ≡ o → tops_entry items ≡ true →
-    top_is_whole s.cells items ≡ true
-    → dealt_with p items (Run fr ∷ ts) s ≡ applied p fr ts s (deals_effect fr items o)
+pub dealing : (p : Image) (fr : Frame) (ts : List Task) (s : State) (items : List Item) (o : Option Object) → s.items ≡ items → held s.cells (top_place items)
+    ≡ o → tops_entry items ≡ true → top_is_whole s.cells items ≡ true → dealt_with p items (Run fr ∷ ts) s ≡ applied p fr ts s (deals_effect fr items o)
 dealing p fr ts s (An_object ∷ items) (Some o) at e there whole = grind (arith, nat_tests, items)
 dealing p fr ts s (An_operation m w ∷ items) o at e there whole = grind (arith, nat_tests, items)
 dealing p fr ts s _ o at e there whole = cc

@@ -1,6 +1,7 @@
 -- Destruction begins: from a delete, and as an entry is unwound.
 use Rattle.std.proofs.lemmas.Bool.Decides.{nat_tests}
-use Rattle.std.proofs.Common.{[], Bool, List, None, Option, Some, ap, arith, cond, false, length, refl, subst, suc, sym, true, ℕ, ⊎_elim, ◌==◌, ◌∙◌, ◌∷◌, ◌≡◌, ◌≤◌}
+use Rattle.std.proofs.Common.{[], Bool, List, None, Option, Some, ap, arith, cond, false, length}
+use Rattle.std.proofs.Common.{refl, subst, suc, sym, true, ℕ, ⊎_elim, ◌==◌, ◌∙◌, ◌∷◌, ◌≡◌, ◌≤◌}
 use Rattle.std.proofs.lemmas.Bool.{cases_Bool, eq-eqb, eqb-true, ne_eqb, true≢false}
 use Rattle.std.specs.Prelude.{is_some, IsSome, is_none, map, replicate}
 use Rattle.aom_image.specs.Image.{Image}
@@ -23,7 +24,8 @@ use Rattle.aom_shape.specs.declared.kind.Filling.{Filling}
 use Rattle.aom_shape.specs.declared.kind.Filling.TheVariants.{Full, Perhaps}
 use Rattle.aom_shape.specs.declared.kind.Kind.{Kind}
 use Rattle.aom_shape.specs.declared.kind.Kind.TheVariants.{Null, Own, Unset}
-use Rattle.aom_safety.proofs.Claimed.{no_seat_outside, Outside, claim-set_register, claim_frame, claim_going_above, claim_register_above, claim_unclaimed, declared_moved, going_differs, keep_fits, no_field_here, outside_differs, outside_less, stack_moved}
+use Rattle.aom_safety.proofs.Claimed.{no_seat_outside, Outside, claim-set_register, claim_frame, claim_going_above, claim_register_above, claim_unclaimed}
+use Rattle.aom_safety.proofs.Claimed.{declared_moved, going_differs, keep_fits, no_field_here, outside_differs, outside_less, stack_moved}
 use Rattle.aom_safety.proofs.Items.{begins_well, length_forms}
 use Rattle.aom_safety.proofs.Seats.{NoFieldHere, NoSeatHere, no_seat}
 use Rattle.aom_semantics.proofs.Maps.{held_lives, held_moved, named_moved, one_place, requested_moved, same_place-true, same_place_refl, tidy_moved}
@@ -32,15 +34,20 @@ use Rattle.aom_safety.proofs.Things.{stands_itself, stands_object}
 use Rattle.aom_safety.proofs.Housing.{counts_line, houses_role}
 use Rattle.aom_roles.proofs.Descending.{itself, through}
 use Rattle.aom_roles.specs.Families.{descends}
-use Rattle.aom_safety.specs.Claims.{Ending, by_close, Dispatching, Dying, Layer, Mark, Method, Unwinding, claim, declared, declared_field, forms, home_claim, items_of, own_field, tasks_of}
+use Rattle.aom_safety.specs.Claims.{Ending, by_close, Dispatching, Dying, Layer, Mark, Method, Unwinding, claim}
+use Rattle.aom_safety.specs.Claims.{declared, declared_field, forms, home_claim, items_of, own_field, tasks_of}
 use Rattle.aom_classes.specs.Roles.{destructor_of, role_of}
 use Rattle.aom_semantics.specs.Destruction.{destructor_frame, destructed, begun, begun_by}
 use Rattle.aom_safety.specs.Laws.{IsWired}
 use Rattle.aom_semantics.specs.Effects.{applied, deletes}
 use Rattle.aom_semantics.specs.Objects.{is_no_message}
-use Rattle.aom_semantics.specs.Places.{In_service, Queued, service_of, Cell, Elsewhere, Entry, Field, Going, Object, Place, Register, Root, Sight, Tidy, changed, held, moved, named, requested, same_place, seen, Session}
-use Rattle.aom_semantics.specs.State.{Dispatch, Closing, Destroy, AtRoot, Choice, Frame, Home, Inside, Run, Seat, State, Static, next, set_word, thing_holder, word}
-use Rattle.aom_safety.specs.WellTyped.{view_holder, SitsFirst, seat_of, IsOverDying, Now, AllSit, NoSeatAt, NoSeatIn, SitsIn, SomeSits, AllUndo, Back, Caught, Fits, Gone, Good, Houses, IsBelow, IsHoused, IsNoFieldOf, IsOfFamily, Leaves, NoneIn, NotIn, Returns, SomeIn, Stack, Unclaimed, WellTyped, WordFits, WorksOn}
+use Rattle.aom_semantics.specs.Places.{In_service, Queued, service_of, Cell, Elsewhere, Entry, Field, Going, Object, Place, Register}
+use Rattle.aom_semantics.specs.Places.{Root, Sight, Tidy, changed, held, moved, named, requested, same_place, seen, Session}
+use Rattle.aom_semantics.specs.State.{Dispatch, Closing, Destroy, AtRoot, Choice, Frame, Home, Inside}
+use Rattle.aom_semantics.specs.State.{Run, Seat, State, Static, next, set_word, thing_holder, word}
+use Rattle.aom_safety.specs.WellTyped.{view_holder, SitsFirst, seat_of, IsOverDying, Now, AllSit, NoSeatAt, NoSeatIn, SitsIn, SomeSits}
+use Rattle.aom_safety.specs.WellTyped.{AllUndo, Back, Caught, Fits, Gone, Good, Houses, IsBelow, IsHoused, IsNoFieldOf, IsOfFamily}
+use Rattle.aom_safety.specs.WellTyped.{Leaves, NoneIn, NotIn, Returns, SomeIn, Stack, Unclaimed, WellTyped, WordFits, WorksOn}
 use Rattle.aom_roles.specs.Shapes.{kind_of}
 use Rattle.aom_safety.proofs.Suiting.{all_moved, known_plain, same_object, suits_less, unworked_rests}
 use Rattle.aom_safety.specs.Requests.{AllSuit, Suits, Unworked, resting_in, states_claim, thing_kind, works_at}
@@ -70,9 +77,8 @@ module _ (p : Image) (t : Typing) (cs : List Cell) (q : Place) (o : Object) (tid
   pub other_name : (from : Place) (x : Object) → held cs from ≡ Some x → same_place q from ≡ false → (x.name == o.name) ≡ false
   other_name from x h e = ne_eqb x.name o.name (λ same. true≢false (grind (arith, nat_tests, one_place, same_place_refl)))
 
-  pub untouched_method :
-      (k : ℕ → Kind) (fr : Frame) (sh : Shape) (ls : List Layer) → ((x : Object) (from : Place) → fr.home ≡ Inside x from → NoFieldHere q from) → Outside q ls → IsHoused p cs ls fr.home →
-      Untouched p k o.name ls → Untouched p k o.name (Method fr sh ∷ ls)
+  pub untouched_method : (k : ℕ → Kind) (fr : Frame) (sh : Shape) (ls : List Layer) → ((x : Object) (from : Place) → fr.home ≡ Inside x from →
+      NoFieldHere q from) → Outside q ls → IsHoused p cs ls fr.home → Untouched p k o.name ls → Untouched p k o.name (Method fr sh ∷ ls)
   untouched_method k fr sh ls aside out housed u = go housed
     where
       Result : Home → Type 0
@@ -260,8 +266,8 @@ module _ (p : Image) (t : Typing) (linked : IsWired p) (typed : IsTyped p t) (cs
     bare none x = grind arith
 
     -- with one
-    clothed :
-        (m height : ℕ) (after : Shape) → Destroys p o.thing m → ((f : ℕ) → field_thing p (holder_of p m) f ≡ None → held cs (Field o.name f) ≡ None) → SaysNoMore after (entry_shape p m) → (r : Place) →
+    clothed : (m height : ℕ) (after : Shape) → Destroys p o.thing m →
+        ((f : ℕ) → field_thing p (holder_of p m) f ≡ None → held cs (Field o.name f) ≡ None) → SaysNoMore after (entry_shape p m) → (r : Place) →
         Fits p (seen cs) (held cs r) (claim p (declared p cs) (Method (destructor_frame p m o (length (tasks_of ls)) height) after ∷ Dying o ∷ ls) r)
     clothed m height after is others w (Register f i) =
         grind (arith, nat_tests, unset_only, entry_registers p m is.arguments i, fits_unowning p, null_of p, claim_register_above p cs ls f i, eqb-true)
@@ -281,9 +287,9 @@ module _ (p : Image) (t : Typing) (linked : IsWired p) (typed : IsTyped p t) (cs
     clothed_suits m height after is w x there = grind (arith, nat_tests, same_object cs o x lives there, there, known_plain p, suits_less, rested)
 
     -- so one of the line begins, where the fields that its class does not declare are null
-    pub begins_line :
-        (m : ℕ) → Destroys p o.thing m → ((f : ℕ) → field_thing p (holder_of p m) f ≡ None → held cs (Field o.name f) ≡ None) → (s : State) (height : ℕ) → height ≡ length (items_of ls) → s.cells ≡ cs →
-        s.tasks ≡ Run (destructor_frame p m o (length (tasks_of ls)) height) ∷ Destroy ∷ tasks_of ls → forms s.items ≡ items_of ls → AllUndo p s.items → WellTyped p t s
+    pub begins_line : (m : ℕ) → Destroys p o.thing m → ((f : ℕ) → field_thing p (holder_of p m) f ≡ None → held cs (Field o.name f) ≡ None) →
+        (s : State) (height : ℕ) → height ≡ length (items_of ls) → s.cells ≡ cs → s.tasks ≡ Run
+        (destructor_frame p m o (length (tasks_of ls)) height) ∷ Destroy ∷ tasks_of ls → forms s.items ≡ items_of ls → AllUndo p s.items → WellTyped p t s
     begins_line m d others s height high cells tasks items undos =
         let leads = typed.entry m d.there in
         let w = leads.2 in
@@ -304,9 +310,8 @@ module _ (p : Image) (t : Typing) (linked : IsWired p) (typed : IsTyped p t) (cs
         begins_well p t cs fr leads.0 (Dying o ∷ ls) s w.entries good cells tasks items undos
 
     -- so the first one begins
-    pub destruct :
-        (s : State) (height : ℕ) → height ≡ length (items_of ls) → s.cells ≡ cs → s.tasks ≡ destructed p o height (tasks_of ls) → forms s.items ≡ items_of ls → AllUndo p s.items →
-        WellTyped p t s
+    pub destruct : (s : State) (height : ℕ) → height ≡ length (items_of ls) →
+        s.cells ≡ cs → s.tasks ≡ destructed p o height (tasks_of ls) → forms s.items ≡ items_of ls → AllUndo p s.items → WellTyped p t s
     destruct s height high cells tasks items undos = go (destructor_of p o.thing) refl tasks
       where
         go : (d : Option ℕ) → destructor_of p o.thing ≡ d → s.tasks ≡ begun_by p d o height (tasks_of ls) → WellTyped p t s
@@ -315,14 +320,14 @@ module _ (p : Image) (t : Typing) (linked : IsWired p) (typed : IsTyped p t) (cs
           tasks = tasks;
           items = items;
           undos = undos;
-          good = subst (λ cs. Good p t cs (Dying o ∷ ls)) (sym cells) (record { stack = ((lives, there), tt, stack); fits = bare e; suits = bare_suits (undestructed p linked o.thing e); tidy = tidy });
+          good = subst (λ cs. Good p t cs (Dying o ∷ ls))
+              (sym cells) (record { stack = ((lives, there), tt, stack); fits = bare e; suits = bare_suits (undestructed p linked o.thing e); tidy = tidy });
         }
         go (Some m) e tasks = begins_line m (destroys p linked o.thing m e) (others m e) s height high cells tasks items undos
           where
             others : (m : ℕ) → destructor_of p o.thing ≡ Some m → (f : ℕ) → field_thing p (holder_of p m) f ≡ None → held cs (Field o.name f) ≡ None
-            others m e f none =
-                fits_unowning p (seen cs) _ Null refl
-                (subst (λ y. Fits p (seen cs) (held cs (Field o.name f)) (filled y Perhaps)) (first_fields p linked o.thing m e f ∙ none) (fields_fit o.name f (eq-eqb o.name o.name refl)))
+            others m e f none = fits_unowning p (seen cs) _ Null refl (subst (λ y. Fits p (seen cs) (held cs (Field o.name f)) (filled y Perhaps))
+                (first_fields p linked o.thing m e f ∙ none) (fields_fit o.name f (eq-eqb o.name o.name refl)))
 
   -- with its sessions
   module _ (fits : (r : Place) → Fits p (seen cs) (held cs r) (Dies p cs o ls r)) where
@@ -353,9 +358,8 @@ module _ (p : Image) (t : Typing) (linked : IsWired p) (typed : IsTyped p t) (cs
           where
             at_name : (b : Bool) → (o.name == x.name) ≡ b → Suits (thing_kind p x.thing) (cond b (resting_in (last_of (thing_kind p x.thing))) (states_claim p x ls)) (requested cs x.name)
             at_name true e =
-                subst (λ y. Suits (thing_kind p y.thing) (resting_in (last_of (thing_kind p y.thing))) (requested cs y.name)) (same_object cs o x lives lives' e)
-                (subst (λ n. Suits (thing_kind p o.thing) (resting_in n) (requested cs o.name)) (sym (server_last (thing_kind p o.thing) server))
-                rested)
+                subst (λ y. Suits (thing_kind p y.thing) (resting_in (last_of (thing_kind p y.thing))) (requested cs y.name)) (same_object cs o x lives lives'
+                e) (subst (λ n. Suits (thing_kind p o.thing) (resting_in n) (requested cs o.name)) (sym (server_last (thing_kind p o.thing) server)) rested)
             at_name false e = suits x lives'
 
         go : (b : Bool) → is_server p o.thing ≡ b → s.tasks ≡ cond b (Closing ∷ Destroy ∷ tasks_of ls) (destructed p o height (tasks_of ls)) → WellTyped p t s
@@ -385,11 +389,11 @@ module _ (p : Image) (t : Typing) (cs : List Cell) (o : Object) (q : Place) (ls 
   pub goes_there : held (moved q (Going (length (tasks_of ls'))) cs) (Going (length (tasks_of ls'))) ≡ Some o
   goes_there = grind (arith, nat_tests, held_moved cs q, no_going, same_place_refl, there)
 
-  pub goes_fitting :
-      (r : Place) →
-      Fits p (seen (moved q (Going (length (tasks_of ls'))) cs)) (held (moved q (Going (length (tasks_of ls'))) cs) r) (Dies p (moved q (Going (length (tasks_of ls'))) cs) o ls' r)
-  goes_fitting r =
-      rw (declared_moved p cs q g) (go (same_place g r) refl (keep_fits p (seen cs) (seen cs') (claim p (declared p cs) ls) (changed (changed (claim p (declared p cs) ls) q Null) g (claim p (declared p cs) ls q)) q g (λ r. held_moved cs q g r no_going) (requested_moved cs q g) (λ r. refl) (λ r x e k f. refl) fits r))
+  pub goes_fitting : (r : Place) → Fits p (seen (moved q (Going (length (tasks_of ls'))) cs))
+      (held (moved q (Going (length (tasks_of ls'))) cs) r) (Dies p (moved q (Going (length (tasks_of ls'))) cs) o ls' r)
+  goes_fitting r = rw (declared_moved p cs q g)
+      (go (same_place g r) refl (keep_fits p (seen cs) (seen cs') (claim p (declared p cs) ls) (changed (changed (claim p (declared p cs) ls) q Null) g
+      (claim p (declared p cs) ls q)) q g (λ r. held_moved cs q g r no_going) (requested_moved cs q g) (λ r. refl) (λ r x e k f. refl) fits r))
     where
       g : Place
       g = Going (length (tasks_of ls'))
@@ -397,17 +401,15 @@ module _ (p : Image) (t : Typing) (cs : List Cell) (o : Object) (q : Place) (ls 
       cs' : List Cell
       cs' = moved q g cs
 
-      go :
-          (b : Bool) → same_place g r ≡ b → Fits p (seen cs') (held cs' r) (cond b (claim p (declared p cs) ls q) (changed (claim p (declared p cs) ls) q Null r)) →
-          Fits p (seen cs') (held cs' r) (cond b (Own o.thing Ready) (claim p (declared p cs) ls' r))
+      go : (b : Bool) → same_place g r ≡ b → Fits p (seen cs') (held cs' r) (cond b (claim p (declared p cs) ls q)
+          (changed (claim p (declared p cs) ls) q Null r)) → Fits p (seen cs') (held cs' r) (cond b (Own o.thing Ready) (claim p (declared p cs) ls' r))
       go true e f =
           subst (λ x. Fits p (seen cs') (held cs' x) (Own o.thing Ready)) (same_place-true g r e) (grind (arith, nat_tests, cs', goes_there, stands_itself))
       go false e f = subst (λ k. Fits p (seen cs') (held cs' r) k) (sym (claims r)) f
 
   -- so its destruction begins
-  pub goes_well :
-      IsWired p → IsTyped p t → Tidy cs → Stack p t (moved q (Going (length (tasks_of ls'))) cs) Gone ls' →
-      Untouched p (λ f. filled (field_thing p (thing_holder o.thing) f) Perhaps) o.name ls' → AllSuit p cs ls' → (s : State) (height : ℕ) → height ≡ length (items_of ls') →
+  pub goes_well : IsWired p → IsTyped p t → Tidy cs → Stack p t (moved q (Going (length (tasks_of ls'))) cs) Gone ls' → Untouched p
+      (λ f. filled (field_thing p (thing_holder o.thing) f) Perhaps) o.name ls' → AllSuit p cs ls' → (s : State) (height : ℕ) → height ≡ length (items_of ls') →
       s.cells ≡ moved q (Going (length (tasks_of ls'))) cs → s.tasks ≡ begun p o height (tasks_of ls') → forms s.items ≡ items_of ls' → AllUndo p s.items → WellTyped p t s
   goes_well wired typed tidy stack apart suits s height high cells tasks items undos =
       grind (arith, nat_tests, begin, tidy_moved, no_going, goes_there, named_moved, held_lives, there, all_moved, goes_fitting)
@@ -453,6 +455,7 @@ module _ (p : Image) (t : Typing) (c : Choice) (s : State) (fr : Frame) (sh : Sh
           let k : ℕ → Kind = λ f. filled (field_thing p (thing_holder o.thing) f) Perhaps in
           goes_well p t cs o q before below at_hand.good.fits e (omega arith) claims linked typed at_hand.good.tidy
           (leads.0, record { words = words; holder = at_hand.good.stack.1.holder; view = at_hand.good.stack.1.view; height = at_hand.good.stack.1.height; alone = at_hand.good.stack.1.alone; message = at_hand.good.stack.1.message }, housed, at_hand.good.stack.3, stack_moved p t cs q g ls _ free (omega arith) (omega arith) at_hand.good.stack.4)
-          (untouched_method p t cs q o at_hand.good.tidy e k fr' sh' ls (λ x from e. tt) (omega arith) at_hand.good.stack.2 (untouched p t cs q o at_hand.good.tidy e k ls _ (omega arith) at_hand.good.stack.4))
+          (untouched_method p t cs q o at_hand.good.tidy e k fr' sh' ls
+          (λ x from e. tt) (omega arith) at_hand.good.stack.2 (untouched p t cs q o at_hand.good.tidy e k ls _ (omega arith) at_hand.good.stack.4))
           at_hand.good.suits
           (applied p fr (tasks_of ls) s (deletes fr (Some o) a)) (length s.items) (sym (length_forms s.items) ∙ ap length at_hand.items) refl refl at_hand.items at_hand.undos

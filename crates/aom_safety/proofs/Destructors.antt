@@ -10,7 +10,8 @@ use Rattle.aom_semantics.specs.Destruction.{begun_by, class_destructor, next_des
 use Rattle.aom_safety.proofs.Dropping.{held_dropped, queue_dropped}
 use Rattle.aom_safety.proofs.Housing.{destructs_member}
 use Rattle.aom_safety.proofs.Destroying.{eqb_comm, begins_line, destroys_by, Destroys, Bare, untouched, Untouched}
-use Rattle.std.proofs.Common.{leb-true, [], Bool, IsTrue, List, None, Option, Some, ap, arith, cond, false, length, refl, subst, suc, sym, true, zero, ℕ, ◌==◌, ◌∙◌, ◌∷◌, ◌≡◌, ◌≤◌, ◌&&◌}
+use Rattle.std.proofs.Common.{leb-true, [], Bool, IsTrue, List, None, Option, Some, ap, arith, cond, false}
+use Rattle.std.proofs.Common.{length, refl, subst, suc, sym, true, zero, ℕ, ◌==◌, ◌∙◌, ◌∷◌, ◌≡◌, ◌≤◌, ◌&&◌}
 use Rattle.std.proofs.lemmas.Bool.{and_parts, eqb-true}
 use Rattle.std.specs.Prelude.{slice_get, nat_le}
 use Rattle.aom_image.specs.Image.{Image}
@@ -35,7 +36,8 @@ use Rattle.aom_safety.proofs.Finishing.{perhaps_fits, ended_plainly, no_entries,
 use Rattle.aom_safety.proofs.Going.{past_by}
 use Rattle.aom_safety.proofs.Straight.{At, Law, fits_unowning}
 use Rattle.aom_safety.specs.Claims.{forms, declared_field, Dying, Layer, claim, declared, items_of, own_field, tasks_of}
-use Rattle.aom_semantics.specs.Places.{Queued, Session, Request, Cell, Sight, In_service, Elsewhere, Entry, Field, Going, Object, Place, Register, Root, held, seen}
+use Rattle.aom_semantics.specs.Places.{Queued, Session, Request, Cell, Sight, In_service, Elsewhere, Entry}
+use Rattle.aom_semantics.specs.Places.{Field, Going, Object, Place, Register, Root, held, seen}
 use Rattle.aom_semantics.specs.Servers.{is_queue_of, without_queue}
 use Rattle.aom_semantics.specs.State.{home_holder, Choice, Frame, Inside, State, thing_holder}
 use Rattle.aom_safety.specs.WellTyped.{Gone, WellTyped, Houses, IsOfFamily, Fits, Good}
@@ -133,8 +135,8 @@ module _ (p : Image) (t : Typing) (c : Choice) (s : State) (fr : Frame) (sh : Sh
       where
         go : (x : Option Thing) → field_thing p (holder_of p fr.method) f ≡ x → Fits p h (held cs (Field o.name f)) (own_field x (field sh f) Null) → held cs (Field o.name f) ≡ None
         go None e fits = fits_unowning p h (held cs (Field o.name f)) Null refl fits
-        go (Some y) e fits =
-            empty_none p h (held cs (Field o.name f)) y (field sh f) (past_at above (fields_of p line.class) sh.fields f y done le (ap (λ k. field_thing p k f) (sym holder) ∙ e)) fits
+        go (Some y) e fits = empty_none p h (held cs (Field o.name f)) y
+            (field sh f) (past_at above (fields_of p line.class) sh.fields f y done le (ap (λ k. field_thing p k f) (sym holder) ∙ e)) fits
 
     -- and all are as they are declared
     all_fit : (f : ℕ) → Fits p h (held cs (Field o.name f)) (filled (field_thing p (thing_holder o.thing) f) Perhaps)
@@ -152,8 +154,8 @@ module _ (p : Image) (t : Typing) (c : Choice) (s : State) (fr : Frame) (sh : Sh
             (b : Bool) → (length (tasks_of (Dying o ∷ ls)) == f) ≡ b →
             Fits p h (held cs (Register f i)) (cond b (register sh i) (claim p (declared p cs) ls (Register f i))) →
             Fits p h (held cs (Register f i)) (claim p (declared p cs) ls (Register f i))
-        go true e fits =
-            rw (claim_register_above p cs ls f i (omega (arith, eqb-true _ _ e))) (rw (fits_unowning p h _ (register sh i) (none_owns_at sh.registers i free) fits) tt)
+        go true e fits = rw (claim_register_above p cs ls f i (omega (arith, eqb-true _ _ e)))
+            (rw (fits_unowning p h _ (register sh i) (none_owns_at sh.registers i free) fits) tt)
         go false e fits = fits
     beside (Entry k) u = grind (arith, nat_tests, no_entries sh.entries entries)
     beside (Field m f) other = grind (arith, nat_tests, home)
@@ -178,8 +180,8 @@ module _ (p : Image) (t : Typing) (c : Choice) (s : State) (fr : Frame) (sh : Sh
     bare (Field n f) = go (o.name == n) refl
       where
         declares : claim p (declared p cs) ls (Field o.name f) ≡ filled (field_thing p (thing_holder o.thing) f) Perhaps
-        declares =
-            claim_unclaimed p (declared p cs) ls o.name f (λ f. filled (field_thing p (thing_holder o.thing) f) Perhaps) apart.unclaimed (ap (λ x. declared_field p x f) at_hand.good.stack.4.0.0)
+        declares = claim_unclaimed p (declared p cs) ls o.name f
+            (λ f. filled (field_thing p (thing_holder o.thing) f) Perhaps) apart.unclaimed (ap (λ x. declared_field p x f) at_hand.good.stack.4.0.0)
 
         go : (b : Bool) → (o.name == n) ≡ b → Fits p h (held cs (Field n f)) (claim p (declared p cs) ls (Field n f))
         go true e = subst (λ n. Fits p h (held cs (Field n f)) (claim p (declared p cs) ls (Field n f))) (eqb-true o.name n e) (grind (arith, nat_tests, declares, all_fit))
@@ -204,9 +206,9 @@ module _ (p : Image) (t : Typing) (c : Choice) (s : State) (fr : Frame) (sh : Sh
         of_name m f false other e = cc
 
         session : (m client : ℕ) → (o.name == m) ≡ true → held cs (Elsewhere (Session m client)) ≡ None
-        session m client same =
-            fits_unowning p h _ Null refl
-            (subst (λ b. Fits p h (held cs (Elsewhere (Session m client))) (cond b Null (claim p (declared p cs) ls (Elsewhere (Session m client))))) same (beside (Elsewhere (Session m client)) tt))
+        session m client same = fits_unowning p h _ Null refl
+            (subst (λ b. Fits p h (held cs (Elsewhere (Session m client))) (cond b Null (claim p (declared p cs) ls (Elsewhere (Session m client))))) same
+            (beside (Elsewhere (Session m client)) tt))
 
         queued : (m k : ℕ) (b : Bool) → (m == o.name) ≡ b → b ≡ true → cond b None (held cs (Elsewhere (Queued m k))) ≡ None
         queued m k true e is = refl

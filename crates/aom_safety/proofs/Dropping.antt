@@ -14,7 +14,8 @@ pub use Rattle.aom_semantics.proofs.Maps.{requested_unnamed}
 use Rattle.aom_semantics.proofs.Maps.{cond_same, held_lives, same_place-true, same_place_refl}
 use Rattle.aom_safety.proofs.Services.{attended_at}
 use Rattle.aom_safety.specs.Claims.{claim, Dispatching, Dying, Ending, Layer, Mark, Method, Unwinding, declared, declared_field}
-use Rattle.aom_semantics.specs.Places.{Sight, seen, Cell, Elsewhere, Field, In_service, Object, Place, Queued, Session, Tidy, held, named, requested, same_place, service_of, without, Service}
+use Rattle.aom_semantics.specs.Places.{Sight, seen, Cell, Elsewhere, Field, In_service, Object, Place, Queued, Session}
+use Rattle.aom_semantics.specs.Places.{Tidy, held, named, requested, same_place, service_of, without, Service}
 use Rattle.aom_semantics.specs.Servers.{is_server, has_message, has_session, is_queue_of, message_thing, session_thing, without_queue}
 use Rattle.aom_semantics.specs.State.{Home, Inside, Seat}
 use Rattle.aom_safety.specs.WellTyped.{EndsSessions, Fits, SitsFirst, AllSit, Back, IsBelow, IsHoused, SitsIn, Stack, seat_of}
@@ -138,10 +139,10 @@ module _ (gone : Place → Bool) where
     pub declared_dropped : (r : Place) → declared p (dropped cs) r ≡ declared p cs r
     unfolding sessions_in kind_of
     declared_dropped (Field n f) = serves_dropped n (λ v. true) (λ o. declared_field p o f) refl (λ x e. ap (λ y. declared_field p (Some (record { name = x.name; thing = y })) f) e)
-    declared_dropped (Elsewhere (Session n c)) =
-        serves_dropped n (λ v. has_session v c) (λ o. filled (session_thing p o) Full) refl (λ x e. ap (λ y. filled (session_thing p (Some (record { name = x.name; thing = y }))) Full) e)
-    declared_dropped (Elsewhere (Queued n m)) =
-        serves_dropped n (λ v. has_message v m) (λ o. filled (message_thing p o) Full) refl (λ x e. ap (λ y. filled (message_thing p (Some (record { name = x.name; thing = y }))) Full) e)
+    declared_dropped (Elsewhere (Session n c)) = serves_dropped n (λ v. has_session v c)
+        (λ o. filled (session_thing p o) Full) refl (λ x e. ap (λ y. filled (session_thing p (Some (record { name = x.name; thing = y }))) Full) e)
+    declared_dropped (Elsewhere (Queued n m)) = serves_dropped n (λ v. has_message v m)
+        (λ o. filled (message_thing p o) Full) refl (λ x e. ap (λ y. filled (message_thing p (Some (record { name = x.name; thing = y }))) Full) e)
     declared_dropped _ = refl
 
     pub suits_dropped : (ls : List Layer) → AllSuit p cs ls → AllSuit p (dropped cs) ls

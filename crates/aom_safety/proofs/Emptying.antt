@@ -23,7 +23,8 @@ use Rattle.aom_semantics.specs.Places.{requested, Cell, Elsewhere, Field, Going,
 use Rattle.aom_safety.specs.Requests.{Suits, resting_in, states_claim, thing_kind, AllSuit}
 use Rattle.aom_semantics.specs.Servers.{is_among, is_other, session_thing}
 use Rattle.aom_semantics.specs.State.{Home, Seat, State, thing_holder}
-use Rattle.aom_safety.specs.WellTyped.{AllSit, AllUndo, Back, Fits, Gone, Good, IsHoused, Keeps, NoSeatAt, NoneFrom, NotFrom, SomeIn, SomeSits, Stack, WellTyped}
+use Rattle.aom_safety.specs.WellTyped.{AllSit, AllUndo, Back, Fits, Gone, Good, IsHoused, Keeps, NoSeatAt}
+use Rattle.aom_safety.specs.WellTyped.{NoneFrom, NotFrom, SomeIn, SomeSits, Stack, WellTyped}
 use Rattle.aom_shape.specs.declared.kind.Kind.{Kind}
 use Rattle.aom_roles.specs.States.{last_of}
 
@@ -53,7 +54,8 @@ pub found_first : (cs : List Cell) (n : ℕ) (ss : List ℕ) (x : Seat) → firs
 found_first cs n [] x e = cc
 found_first cs n (d ∷ ss) x e = go (held cs (Elsewhere (Session n d))) refl e (λ e. found_first cs n ss x e)
   where
-    go : (o : Option Object) → held cs (Elsewhere (Session n d)) ≡ o → seat_or o (Elsewhere (Session n d)) (first_session cs n ss) ≡ Some x → (first_session cs n ss ≡ Some x → Found cs n x) → Found cs n x
+    go : (o : Option Object) → held cs (Elsewhere (Session n d)) ≡ o →
+        seat_or o (Elsewhere (Session n d)) (first_session cs n ss) ≡ Some x → (first_session cs n ss ≡ Some x → Found cs n x) → Found cs n x
     go None there e later = later e
     go (Some o) there e later =
         let same : record { object = o; place = Elsewhere (Session n d) } ≡ x = cc in
@@ -111,10 +113,8 @@ module _ (p : Image) (t : Typing) (wired : IsWired p) (typed : IsTyped p t) (s :
         own_claim : claim p (declared p cs) ls (Field o.name f) ≡ filled (field_thing p (thing_holder o.thing) f) Perhaps
         own_claim = claim_unclaimed p (declared p cs) ls o.name f (λ f. filled (field_thing p (thing_holder o.thing) f) Perhaps) own.unclaimed (ap (λ x. declared_field p x f) lives)
 
-        go :
-            (b : Bool) → (o.name == m) ≡ b →
-            Fits p (seen cs) (held cs (Field m f)) (cond b (filled (field_thing p (thing_holder o.thing) f) Perhaps) (cond b Null (claim p (declared p cs) ls (Field m f)))) →
-            Fits p (seen cs) (held cs (Field m f)) (claim p (declared p cs) ls (Field m f))
+        go : (b : Bool) → (o.name == m) ≡ b → Fits p (seen cs) (held cs (Field m f)) (cond b (filled (field_thing p (thing_holder o.thing) f) Perhaps)
+            (cond b Null (claim p (declared p cs) ls (Field m f)))) → Fits p (seen cs) (held cs (Field m f)) (claim p (declared p cs) ls (Field m f))
         go true e h = subst (λ k. Fits p (seen cs) (held cs (Field m f)) k) (grind (arith, nat_tests, own_claim, eqb-true)) h
         go false e h = h
     bare r = grind (arith, nat_tests, eqb-true o.name)
@@ -122,9 +122,8 @@ module _ (p : Image) (t : Typing) (wired : IsWired p) (typed : IsTyped p t) (s :
     suits_below : AllSuit p cs ls
     suits_below x lives' = go (o.name == x.name) refl (good.suits x lives')
       where
-        go :
-            (b : Bool) → (o.name == x.name) ≡ b → Suits (thing_kind p x.thing) (cond b (resting_in (last_of (thing_kind p x.thing))) (states_claim p x ls)) (requested cs x.name) →
-            Suits (thing_kind p x.thing) (states_claim p x ls) (requested cs x.name)
+        go : (b : Bool) → (o.name == x.name) ≡ b → Suits (thing_kind p x.thing) (cond b (resting_in (last_of (thing_kind p x.thing))) (states_claim p x ls))
+            (requested cs x.name) → Suits (thing_kind p x.thing) (states_claim p x ls) (requested cs x.name)
         go true e h =
             subst (λ y. Suits (thing_kind p y.thing) (states_claim p y ls) (requested cs y.name)) (same_object cs o x lives lives' e)
             (subst (λ k. Suits (thing_kind p o.thing) k (requested cs o.name)) (sym (unworked_rests p o ls own.unworked))
@@ -179,7 +178,6 @@ module _ (p : Image) (t : Typing) (wired : IsWired p) (typed : IsTyped p t) (s :
   closing_goes : Keeps p t (closing p (tasks_of (Dying o ∷ ls)) s)
   closing_goes = grind (arith, nat_tests, there, closing_well)
 
-pub closing_keeps :
-    (p : Image) (t : Typing) → IsWired p → IsTyped p t → (s : State) (o : Object) (left : List ℕ) (ls : List Layer) → Good p t s.cells (Ending o left ∷ ls) → forms s.items ≡ items_of ls →
-    AllUndo p s.items → Keeps p t (closing p (tasks_of ls) s)
+pub closing_keeps : (p : Image) (t : Typing) → IsWired p → IsTyped p t → (s : State) (o : Object) (left : List ℕ) (ls : List Layer) →
+    Good p t s.cells (Ending o left ∷ ls) → forms s.items ≡ items_of ls → AllUndo p s.items → Keeps p t (closing p (tasks_of ls) s)
 closing_keeps p t wired typed s o left x good items undos = grind (arith, nat_tests, closing_goes p t wired typed s o left)

@@ -30,7 +30,8 @@ use Rattle.aom_safety.specs.Claims.{Dying, own_field, Layer, Method, claim, decl
 use Rattle.aom_semantics.specs.Places.{In_service, Cell, Elsewhere, Entry, Field, Going, Object, Place, Register, Root, Tidy, held, named, requested, seen}
 use Rattle.aom_safety.specs.Requests.{AllSuit, Joins, Known, Suits, known_at, resting_in, rests_in, states_claim, thing_kind}
 use Rattle.aom_semantics.specs.State.{thing_view, Frame, Inside, Run, Seat, State, frame_of, thing_holder}
-use Rattle.aom_safety.specs.WellTyped.{IsWhole, IsServed, AllSit, AllUndo, Fits, Good, Holds, Houses, IsApart, IsBelow, IsNoFieldOf, NoSeatIn, NoneIn, Returns, SitsIn, SomeIn, SomeSits, Stack, WellTyped, WordFits, past_going}
+use Rattle.aom_safety.specs.WellTyped.{IsWhole, IsServed, AllSit, AllUndo, Fits, Good, Holds, Houses, IsApart, IsBelow, IsNoFieldOf}
+use Rattle.aom_safety.specs.WellTyped.{NoSeatIn, NoneIn, Returns, SitsIn, SomeIn, SomeSits, Stack, WellTyped, WordFits, past_going}
 
 -- what it takes: over these layers nothing is claimed but the message that is served, and the method begins with its object as it is
 pub record Entering (p : Image) (t : Typing) (cs : List Cell) (x : Seat) (above : List Seat) (over : List Layer) (m : ℕ) (ws : List (Option ℤ)) : Type 0 where
@@ -116,9 +117,8 @@ module _ (p : Image) (t : Typing) (typed : IsTyped p t) (cs : List Cell) (x : Se
       unfilled : field after f ≡ Perhaps
       unfilled = perhaps_only (subst (λ y. WeakerFilling (field after f) y) (e.fields f) (w.fields f))
 
-      go :
-          (b : Bool) → (x.object.name == n) ≡ b → (own : Option Thing) → field_thing p (holder_of p m) f ≡ own →
-          Fits p (seen cs) (held cs (Field n f)) (cond b (own_field own (field after f) (claim p (declared p cs) over (Field n f))) (claim p (declared p cs) over (Field n f)))
+      go : (b : Bool) → (x.object.name == n) ≡ b → (own : Option Thing) → field_thing p (holder_of p m) f ≡ own → Fits p (seen cs)
+          (held cs (Field n f)) (cond b (own_field own (field after f) (claim p (declared p cs) over (Field n f))) (claim p (declared p cs) over (Field n f)))
       go true same (Some z) is =
           subst (λ k. Fits p (seen cs) (held cs (Field k f)) (filled (Some z) (field after f))) (eqb-true x.object.name n same)
           (subst (λ y. Fits p (seen cs) (held cs (Field x.object.name f)) (filled y (field after f))) (e.holder.fields f z is)
@@ -129,9 +129,8 @@ module _ (p : Image) (t : Typing) (typed : IsTyped p t) (cs : List Cell) (x : Se
   fits height after w (Elsewhere In_service) = go (serves p m) refl
     where
       go : (b : Bool) → serves p m ≡ b → Fits p (seen cs) (held cs (Elsewhere In_service)) (cond b (delivered after.delivery) (claim p (declared p cs) over (Elsewhere In_service)))
-      go true serving =
-          subst (λ x. Fits p (seen cs) (held cs (Elsewhere In_service)) (delivered x)) (sym w.delivery)
-          (subst (λ b. Fits p (seen cs) (held cs (Elsewhere In_service)) (cond b (Own Message Ready) Null)) (sym e.message ∙ serving) (e.fits (Elsewhere In_service)))
+      go true serving = subst (λ x. Fits p (seen cs) (held cs (Elsewhere In_service)) (delivered x)) (sym w.delivery) (subst
+          (λ b. Fits p (seen cs) (held cs (Elsewhere In_service)) (cond b (Own Message Ready) Null)) (sym e.message ∙ serving) (e.fits (Elsewhere In_service)))
       go false plain = base (Elsewhere In_service)
   fits height after w (Elsewhere o) = base (Elsewhere o)
   fits height after w (Going k) = base (Going k)
@@ -152,9 +151,8 @@ module _ (p : Image) (t : Typing) (typed : IsTyped p t) (cs : List Cell) (x : Se
       go true same = rw (same_object cs x.object y e.sits.0.1 lives same) at own_now
       go false other = subst (λ k. Suits (thing_kind p y.thing) k (requested cs y.name)) (sym (e.states y)) (e.others y lives other)
 
-  pub enters :
-      (s : State) (height : ℕ) → height ≡ length (items_of over) → s.cells ≡ cs → s.tasks ≡ Run (record (frame_of m (Inside x.object x.place) height) { words = ws }) ∷ tasks_of over →
-      forms s.items ≡ items_of over → AllUndo p s.items → WellTyped p t s
+  pub enters : (s : State) (height : ℕ) → height ≡ length (items_of over) → s.cells ≡ cs → s.tasks ≡ Run (record
+      (frame_of m (Inside x.object x.place) height) { words = ws }) ∷ tasks_of over → forms s.items ≡ items_of over → AllUndo p s.items → WellTyped p t s
   enters s height high cells tasks items undos =
       let leads = typed.entry m e.there in
       let w = leads.2 in

@@ -24,7 +24,8 @@ use Rattle.aom_safety.proofs.Dealing.{dealing, Dealing, deals, less_claims}
 use Rattle.aom_safety.proofs.Items.{length_forms}
 use Rattle.aom_safety.proofs.Leaving.{leave_is_met, leave_keeps, trap_is_there}
 use Rattle.aom_semantics.proofs.Maps.{same_place_refl}
-use Rattle.aom_safety.proofs.Straight.{At, Fitted, Law, claim_register, fits_unowning, fitted, free_register, kind_fits, no_word, no_word_fits, relabel, relocate, settle, top, well, words_set}
+use Rattle.aom_safety.proofs.Straight.{At, Fitted, Law, claim_register, fits_unowning, fitted, free_register, kind_fits}
+use Rattle.aom_safety.proofs.Straight.{no_word, no_word_fits, relabel, relocate, settle, top, well, words_set}
 use Rattle.aom_safety.proofs.Things.{stands_itself, stands_object}
 use Rattle.aom_safety.proofs.Words.{has_word}
 use Rattle.aom_semantics.specs.Calls.{below_top, result_register}
@@ -110,7 +111,8 @@ module _ (p : Image) (t : Typing) (c : Choice) (s : State) (fr : Frame) (sh : Sh
   next_place = ap Entry (sym height)
 
   no_entry_yet : held s.cells (Entry (length s.items)) ≡ None
-  no_entry_yet = fits_unowning p (seen s.cells) _ Null refl (rw (claim_entry_above p s.cells (Method fr sh ∷ ls) (length s.items) (omega (arith, height))) at (at_hand.good.fits (Entry (length s.items))))
+  no_entry_yet = fits_unowning p (seen s.cells) _ Null refl
+      (rw (claim_entry_above p s.cells (Method fr sh ∷ ls) (length s.items) (omega (arith, height))) at (at_hand.good.fits (Entry (length s.items))))
 
   -- ---- a push
 
@@ -191,7 +193,8 @@ module _ (p : Image) (t : Typing) (c : Choice) (s : State) (fr : Frame) (sh : Sh
       needed false = tt
 
       goes : (b : Bool) → WellTyped p t (applied p fr (tasks_of ls) s (unless_refused b (Operation_pushed m (read fr (tasks_of ls) s a)) (updates fr (Operation_pushed m (read fr (tasks_of ls) s a)))))
-      goes true = leave_keeps p t wired (record s { items = An_operation m (read fr (tasks_of ls) s a) ∷ s.items }) no_memory (next fr) with_operation ls items undos operation_fitted n.1.0 n.1.1.0 n.1.1.1.0 n.1.1.1.1.0
+      goes true = leave_keeps p t wired (record s { items = An_operation m (read fr (tasks_of ls) s a) ∷ s.items }) no_memory
+          (next fr) with_operation ls items undos operation_fitted n.1.0 n.1.1.0 n.1.1.1.0 n.1.1.1.1.0
       goes false = well p t c s fr sh ls at_hand _ (next fr) with_operation refl items undos (settle p t s.cells (next fr) with_operation ls operation_fitted leads.0)
 
   -- ---- a pop
@@ -226,7 +229,8 @@ module _ (p : Image) (t : Typing) (c : Choice) (s : State) (fr : Frame) (sh : Sh
           let undos : AllUndo p rest = subst (λ i. AllUndo p i) is at_hand.undos in (
             (ap is_none free, (ap tops_entry is, (ap tops_object is, tt))),
             subst (λ i. WellTyped p t (record s { cells = moved (Entry (length (below_top i))) (top ls a) s.cells; tasks = Run fr' ∷ tasks_of ls; items = below_top i })) (sym is)
-                (well p t c s fr sh ls at_hand (record s { cells = moved q (top ls a) s.cells; tasks = Run fr' ∷ tasks_of ls; items = rest }) fr' sh' refl known undos (settle p t (moved q (top ls a) s.cells) fr' sh' ls there lead)),
+                (well p t c s fr sh ls at_hand (record s { cells = moved q (top ls a) s.cells; tasks = Run fr' ∷ tasks_of ls; items = rest })
+                fr' sh' refl known undos (settle p t (moved q (top ls a) s.cells) fr' sh' ls there lead)),
           )
 
       go : (es : List Pushed) → sh.entries ≡ es → tops_object_entry es ≡ true → AllTrue (needs p c fr (tasks_of ls) s (Pop a)) × WellTyped p t (does p c fr (tasks_of ls) s (Pop a))
@@ -252,7 +256,8 @@ module _ (p : Image) (t : Typing) (c : Choice) (s : State) (fr : Frame) (sh : Sh
           let lead : Leads t fr.method (suc fr.place) sh' = subst (λ es. Leads t fr.method (suc fr.place) (record sh { entries = without_top es })) e leads.0 in (
             (ap tops_entry op.is, (ap tops_operation op.is, tt)),
             subst (λ i. WellTyped p t (record s { tasks = Run (next fr) ∷ tasks_of ls; items = below_top i })) (sym op.is)
-                (well p t c s fr sh ls at_hand (record s { tasks = Run (next fr) ∷ tasks_of ls; items = op.rest }) (next fr) sh' refl op.known op.undos (settle p t s.cells (next fr) sh' ls there lead)),
+                (well p t c s fr sh ls at_hand (record s { tasks = Run (next fr) ∷ tasks_of ls; items = op.rest })
+                (next fr) sh' refl op.known op.undos (settle p t s.cells (next fr) sh' ls there lead)),
           )
       go _ e h = cc
 

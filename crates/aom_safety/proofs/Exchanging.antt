@@ -11,9 +11,8 @@ use Rattle.aom_semantics.specs.State.{Choice, Frame, Home, State, Task, word}
 use Rattle.aom_semantics.specs.Wanted.{Exchange, Nothing, An_open, A_start, An_ask, A_cancel, A_close, exchange, wanted_by}
 
 -- what holds of each instruction that makes a call, and of all that make none, holds of any with its call
-pub by_exchange :
-    (R : Instr → Exchange → Type 0) → ((a : ℕ) → R (Connect a) An_open) → ((a b : ℕ) → R (Issue a b) (A_start a b)) → ((a b x : ℕ) → R (Ask a b x) (An_ask b x)) → R Abort A_cancel → R Close A_close →
-    ((i : Instr) → exchange i ≡ Nothing → R i Nothing) → (i : Instr) → R i (exchange i)
+pub by_exchange : (R : Instr → Exchange → Type 0) → ((a : ℕ) → R (Connect a) An_open) → ((a b : ℕ) → R (Issue a b) (A_start a b)) → ((a b x : ℕ) →
+    R (Ask a b x) (An_ask b x)) → R Abort A_cancel → R Close A_close → ((i : Instr) → exchange i ≡ Nothing → R i Nothing) → (i : Instr) → R i (exchange i)
 by_exchange R opens starts asks cancels closes none (Connect a) = opens a
 by_exchange R opens starts asks cancels closes none (Issue a b) = starts a b
 by_exchange R opens starts asks cancels closes none (Ask a b x) = asks a b x

@@ -10,7 +10,8 @@ use Rattle.aom_image.specs.declared.class.ClassKind.{ClassKind}
 use Rattle.aom_image.specs.declared.method.Thing.{Thing}
 use Rattle.aom_image.specs.declared.method.Thing.TheVariants.{Object as An_object_of}
 use Rattle.aom_roles.proofs.Descending.{along}
-use Rattle.aom_roles.specs.Classes.{ClassOrdered, OwnsBefore, is_session, is_session_in, is_session_kind, kind_at, kind_in, sessions_at, sessions_in, sessions_of}
+use Rattle.aom_roles.specs.Classes.{ClassOrdered, OwnsBefore, is_session, is_session_in, is_session_kind}
+use Rattle.aom_roles.specs.Classes.{kind_at, kind_in, sessions_at, sessions_in, sessions_of}
 use Rattle.aom_roles.specs.Families.{descends, parent_of}
 use Rattle.aom_roles.specs.Shapes.{kind_of}
 use Rattle.aom_classes.proofs.Facts.{all_there, at_place}
@@ -73,7 +74,8 @@ module _ (p : Image) (linked : IsLinked p) where
     unfolding class_at is_session_in kind_in
     no_child c e is session =
         let w = continued p linked.parents c e is in
-        let fits : ParentFits p.header.version (length p.classes) w.child.kind w.child.parent = all_there (λ d. ParentFits p.header.version (length p.classes) d.kind d.parent) p.classes c w.child formed.families.parents w.at in
+        let fits : ParentFits p.header.version (length p.classes) w.child.kind w.child.parent =
+        all_there (λ d. ParentFits p.header.version (length p.classes) d.kind d.parent) p.classes c w.child formed.families.parents w.at in
         let may = rw w.named at fits in
         let above : is_session_kind w.parent.kind ≡ true = sym (ap (λ o. is_session_in (kind_in o)) w.above) ∙ session in
         session_childless w.child.kind may.1 (ap is_session_kind w.continues.kind ∙ above)

@@ -1,6 +1,7 @@
 -- A method is about to return: nothing but its result is owned, its entries are gone, and the layers below claim the rest.
 use Rattle.std.proofs.lemmas.Bool.Decides.{nat_tests}
-use Rattle.std.proofs.Common.{Bool, IsTrue, List, None, Option, Some, [], ap, arith, cond, false, inl, inr, length, refl, subst, suc, sym, true, zero, ℕ, ◌&&◌, ◌++◌, ◌==◌, ◌∙◌, ◌∷◌, ◌≡◌}
+use Rattle.std.proofs.Common.{Bool, IsTrue, List, None, Option, Some, [], ap, arith, cond, false, inl, inr, length}
+use Rattle.std.proofs.Common.{refl, subst, suc, sym, true, zero, ℕ, ◌&&◌, ◌++◌, ◌==◌, ◌∙◌, ◌∷◌, ◌≡◌}
 use Rattle.std.proofs.lemmas.Bool.{and_from, and_parts, cases_Bool, eq-eqb, eqb-true, true≢false}
 use Rattle.std.specs.Prelude.{is_some, not, ◌++◌}
 use Rattle.aom_image.specs.Image.{Image}
@@ -31,7 +32,8 @@ use Rattle.aom_safety.proofs.Items.{length_forms}
 use Rattle.aom_semantics.proofs.Maps.{at-put_at, front_free}
 use Rattle.aom_safety.proofs.Straight.{At, fits_unowning, free_register, top}
 use Rattle.aom_semantics.specs.Calls.{end_needs, is_level, is_register_but, leaves_object, none_owns_but, result_needs, result_source, returned}
-use Rattle.aom_safety.specs.Claims.{own_field, serves, delivered, Dispatching, Dying, Layer, Mark, Method, Object_form, Unwinding, claim, declared, declared_field, entry_claim, forms, home_claim, items_of, objects, tasks_of, Ending}
+use Rattle.aom_safety.specs.Claims.{own_field, serves, delivered, Dispatching, Dying, Layer, Mark, Method, Object_form, Unwinding, claim}
+use Rattle.aom_safety.specs.Claims.{declared, declared_field, entry_claim, forms, home_claim, items_of, objects, tasks_of, Ending}
 use Rattle.aom_semantics.specs.Moves.{does, needs}
 use Rattle.aom_semantics.specs.Objects.{is_thing}
 use Rattle.aom_semantics.specs.Places.{In_service, Cell, Elsewhere, Entry, Field, Object, Place, Register, Root, Sight, held, requested, same_place, seen}
@@ -77,9 +79,8 @@ none_owns_from (c ∷ cs) d spared h = and_from _ _ (go spared c.owner h) (none_
     here : (f j : ℕ) → (f == d) ≡ true → cond (same_place (Register f j) (Register d j)) (Some c.object) (held cs (Register d j)) ≡ None → ⊥
     here f j e h = true≢false (sym (ap (λ b. b && (j == j)) e ∙ eq-eqb j j refl) ∙ (front_free _ _ _ h).0)
 
-    go :
-        (spared : Option ℕ) (r : Place) → ((i : ℕ) → spares spared i ≡ false → cond (same_place r (Register d i)) (Some c.object) (held cs (Register d i)) ≡ None) →
-        not (is_register_but d spared r) ≡ true
+    go : (spared : Option ℕ) (r : Place) → ((i : ℕ) →
+        spares spared i ≡ false → cond (same_place r (Register d i)) (Some c.object) (held cs (Register d i)) ≡ None) → not (is_register_but d spared r) ≡ true
     go None (Register f j) h = elim (cases_Bool (f == d)) as (λ x. not (f == d) ≡ true) [ inl e ↦ absurd (here f j e (h j refl)) | inr e ↦ ap not e ]
     go (Some a) (Register f j) h = elim (cases_Bool (f == d)) as (λ x. not ((f == d) && not (j == a)) ≡ true) [
       | inl e ↦ elim (cases_Bool (j == a)) as (λ x. not ((f == d) && not (j == a)) ≡ true) [
@@ -105,10 +106,11 @@ claim_root p d (Unwinding code es ∷ ls) u = claim_root p d ls u
 claim_root p d (Dispatching x seats ∷ ls) u = ap (λ b. cond b Null (claim p d ls (Elsewhere Root))) u.0 ∙ claim_root p d ls u.1
 
 -- a method ends
-pub ended :
-    (p : Image) (cs : List Cell) (fr : Frame) (sh : Shape) (ls : List Layer) → Houses p (home_holder fr.home) (holder_of p fr.method) → CountsAs p (home_holder fr.home) fr.view (holder_of p fr.method) → IsHoused p cs ls fr.home → IsApart p fr.view fr.method fr.home ls → past_going ls ≡ ls → no_entry sh.entries ≡ true →
-    none_owns sh.registers ≡ true → (serves p fr.method ≡ true → claim p (declared p cs) ls (Elsewhere In_service) ≡ delivered sh.delivery) → (r : Place) (h : Sight) (o : Option Object) →
-    Fits p h o (claim p (declared p cs) (Method fr sh ∷ ls) r) → Fits p h o (claim p (declared p cs) ls r)
+pub ended : (p : Image) (cs : List Cell) (fr : Frame) (sh : Shape) (ls : List Layer) →
+    Houses p (home_holder fr.home) (holder_of p fr.method) → CountsAs p (home_holder fr.home) fr.view (holder_of p fr.method) →
+    IsHoused p cs ls fr.home → IsApart p fr.view fr.method fr.home ls → past_going ls ≡ ls → no_entry sh.entries ≡ true →
+    none_owns sh.registers ≡ true → (serves p fr.method ≡ true → claim p (declared p cs) ls (Elsewhere In_service) ≡ delivered sh.delivery) →
+    (r : Place) (h : Sight) (o : Option Object) → Fits p h o (claim p (declared p cs) (Method fr sh ∷ ls) r) → Fits p h o (claim p (declared p cs) ls r)
 ended p cs fr sh ls houses counts housed apart at_top e n message (Register f i) h o fits =
     grind (arith, nat_tests, claim_register_above p cs ls f i, eqb-true, fits_unowning p h o, none_owns_at sh.registers i n)
 ended p cs fr sh ls houses counts housed apart at_top e n message (Entry k) h o fits = grind (arith, nat_tests, no_entries)
@@ -117,23 +119,24 @@ ended p cs fr sh ls houses counts housed apart at_top e n message (Field m f) h 
     own : Option Thing
     own = field_thing p (holder_of p fr.method) f
 
-    go :
-        (home : Home) → Houses p (home_holder home) (holder_of p fr.method) → IsHoused p cs ls home → IsApart p fr.view fr.method home ls →
-        Fits p h o (home_claim p (holder_of p fr.method) home sh m f (claim p (declared p cs) ls (Field m f))) → Fits p h o (claim p (declared p cs) ls (Field m f))
+    go : (home : Home) → Houses p (home_holder home) (holder_of p fr.method) → IsHoused p cs ls home → IsApart p fr.view fr.method home ls → Fits p h o
+        (home_claim p (holder_of p fr.method) home sh m f (claim p (declared p cs) ls (Field m f))) → Fits p h o (claim p (declared p cs) ls (Field m f))
     go Static houses hs ap' fits = fits
     go AtRoot houses hs ap' fits = fits
     go (Inside x from) houses hs ap' fits = cases (x.name == m) refl own refl fits
       where
-        cases :
-            (b : Bool) → (x.name == m) ≡ b → (y : Option Thing) → own ≡ y → Fits p h o (cond b (own_field y (field sh f) (claim p (declared p cs) ls (Field m f))) (claim p (declared p cs) ls (Field m f))) →
+        cases : (b : Bool) → (x.name == m) ≡ b → (y : Option Thing) →
+            own ≡ y → Fits p h o (cond b (own_field y (field sh f) (claim p (declared p cs) ls (Field m f))) (claim p (declared p cs) ls (Field m f))) →
             Fits p h o (claim p (declared p cs) ls (Field m f))
         cases false e y is fits = fits
         cases true e None is fits = fits
         cases true e (Some y) is fits =
             let same = eqb-true x.name m e in
             let viewed = subst (λ l. InView p fr.view (λ f. filled (field_thing p (thing_holder x.thing) f) Perhaps) x.name l) at_top ap'.2.0 in
-            let claims = claim_in_view p (declared p cs) ls x.name f (λ f. filled (field_thing p (thing_holder x.thing) f) Perhaps) fr.view viewed (ap is_some (counts.fields f y is)) (ap (λ y. declared_field p y f) hs.lives) in
-            subst (λ k. Fits p h o k) (sym (ap (λ z. filled z Perhaps) (houses.fields f y is)) ∙ sym claims ∙ ap (λ y. claim p (declared p cs) ls (Field y f)) same) (perhaps_fits p h o (Some y) (field sh f) fits)
+            let claims = claim_in_view p (declared p cs) ls x.name f (λ f. filled (field_thing p (thing_holder x.thing) f) Perhaps) fr.view viewed
+            (ap is_some (counts.fields f y is)) (ap (λ y. declared_field p y f) hs.lives) in
+            subst (λ k. Fits p h o k) (sym (ap (λ z. filled z Perhaps) (houses.fields f y is))
+            ∙ sym claims ∙ ap (λ y. claim p (declared p cs) ls (Field y f)) same) (perhaps_fits p h o (Some y) (field sh f) fits)
 ended p cs fr sh ls houses counts housed apart at_top e n message (Elsewhere Root) h o fits = grind (arith, nat_tests, claim_root p, perhaps_fits p h o)
 ended p cs fr sh ls houses counts housed apart at_top e n message (Elsewhere In_service) h o fits = go (serves p fr.method) refl fits
   where
@@ -156,8 +159,8 @@ pub record Returnable (p : Image) (fr : Frame) (sh : Shape) (a : ℕ) : Type 0 w
   pub message : only_if (serves p fr.method) (not (is_here sh.delivery)) ≡ true
 
 pub returnable : (p : Image) (fr : Frame) (sh : Shape) (a : ℕ) → AllTrue (rule_needs p fr.method fr.place sh (Return a)) → Returnable p fr sh a
-returnable p fr sh a n =
-    let parts = all_parts (rule_result p fr.method fr.place sh (gives_of p fr.method) a) (rule_left p fr.method fr.place sh a ++ rule_ended p fr.method fr.place sh) n in
+returnable p fr sh a n = let parts =
+    all_parts (rule_result p fr.method fr.place sh (gives_of p fr.method) a) (rule_left p fr.method fr.place sh a ++ rule_ended p fr.method fr.place sh) n in
     let left = all_parts (rule_left p fr.method fr.place sh a) (rule_ended p fr.method fr.place sh) parts.1 in
     record { result = parts.0; entries = left.0.0; free = left.0.1.0; fields = left.1.1.1.1.0; settled = left.1.0; cancels = left.1.1.0; ends = left.1.1.1.1.1.0; message = left.1.1.1.1.1.1.0 }
 

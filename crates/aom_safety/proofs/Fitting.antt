@@ -9,7 +9,9 @@ use Rattle.aom_instructions.specs.Operands.{IsRegister}
 use Rattle.aom_image.specs.Views.{arguments_of}
 use Rattle.aom_instructions.specs.Fits.{InstrFits}
 use Rattle.aom_instructions.specs.declared.instr.Instr.{Instr}
-use Rattle.aom_instructions.specs.declared.instr.Instr.TheVariants.{Hand, TakeMessage, Call, Cancel, Delete, Jump, JumpActive, JumpAdded, JumpEmpty, JumpEqual, JumpLess, JumpNull, Leave, LeaveIf, Loop, Move, New, NewOrLeave, Next, Pop, PopDelete, PopOperation, Push, PushOperation, Return, Take, Trap}
+use Rattle.aom_instructions.specs.declared.instr.Instr.TheVariants.{Hand, TakeMessage, Call, Cancel, Delete, Jump, JumpActive, JumpAdded, JumpEmpty}
+use Rattle.aom_instructions.specs.declared.instr.Instr.TheVariants.{JumpEqual, JumpLess, JumpNull, Leave, LeaveIf, Loop, Move, New, NewOrLeave, Next}
+use Rattle.aom_instructions.specs.declared.instr.Instr.TheVariants.{Pop, PopDelete, PopOperation, Push, PushOperation, Return, Take, Trap}
 use Rattle.aom_instructions.specs.declared.instr.Target.{Target}
 use Rattle.aom_instructions.specs.declared.limits.Limits.{Limits}
 use Rattle.aom_roles.specs.Tests.{AllTrue}
@@ -18,7 +20,9 @@ use Rattle.aom_classes.specs.Loops.{loop_in}
 use Rattle.aom_safety.proofs.Finishing.{all_parts}
 use Rattle.aom_semantics.specs.Calls.{below_top, needs_entering}
 use Rattle.aom_semantics.specs.Cleanup.{has_trap, leave_needs, no_memory, top_is_whole, top_place, tops_entry, tops_object, tops_operation}
-use Rattle.aom_semantics.specs.Effects.{The_message, Calls, Cancels, Carried, Destroys, Destroys_last, Effect, Goes_on, In_field, In_register, Leaves, Handed, Made, Operates, Popped, Pushed, Pushed_operation, Same, Sets_trap, Spot, Update, cancels_if, deals, deletes, effect, hands_unless, jumps_if, jumps_unless, makes_unless, round, sets}
+use Rattle.aom_semantics.specs.Effects.{The_message, Calls, Cancels, Carried, Destroys, Destroys_last, Effect, Goes_on, In_field, In_register}
+use Rattle.aom_semantics.specs.Effects.{Leaves, Handed, Made, Operates, Popped, Pushed, Pushed_operation, Same, Sets_trap, Spot, Update, cancels_if}
+use Rattle.aom_semantics.specs.Effects.{deals, deletes, effect, hands_unless, jumps_if, jumps_unless, makes_unless, round, sets}
 use Rattle.aom_semantics.specs.Enlisted.{cancel_method, in_phase, is_active, is_busy, own_request}
 use Rattle.aom_safety.specs.Leaves.{LeavesWith}
 use Rattle.aom_semantics.specs.Moves.{needs}
@@ -94,9 +98,8 @@ module _ (p : Image) (c : Choice) (fr : Frame) (ts : List Task) (s : State) wher
   may_leave : (b : Bool) (cs : List Cell) → AllTrue (cond b (leave_needs cs (Run fr ∷ ts)) []) → b ≡ true → has_trap ts ≡ true
   may_leave x cs n e = grind arith
 
-  dealing :
-      (items : List Item) (o : Option Object) → s.items ≡ items → held s.cells (top_place items) ≡ o → tops_entry items ≡ true → top_is_whole s.cells items ≡ true →
-      May PopDelete (deals fr items o)
+  dealing : (items : List Item) (o : Option Object) →
+      s.items ≡ items → held s.cells (top_place items) ≡ o → tops_entry items ≡ true → top_is_whole s.cells items ≡ true → May PopDelete (deals fr items o)
   dealing x o at e there whole = grind arith
 
   -- the arguments lie within the registers of the caller, and so of the method called

@@ -9,22 +9,28 @@ use Rattle.aom_rules.specs.Typing.{Typing}
 use Rattle.aom_shape.specs.declared.kind.Kind.TheVariants.{Null}
 use Rattle.std.specs.Prelude.{is_some}
 use Rattle.aom_safety.proofs.Seats.{no_seat, NoFieldHere, first_kept, sits_kept}
-use Rattle.aom_safety.proofs.Claimed.{no_seat_outside, Outside, claim_frame, claim_going_above, claim_rel, claim_unclaimed, fits_age, going_differs, outside_differs, outside_less}
+use Rattle.aom_safety.proofs.Claimed.{no_seat_outside, Outside, claim_frame, claim_going_above, claim_rel, claim_unclaimed}
+use Rattle.aom_safety.proofs.Claimed.{fits_age, going_differs, outside_differs, outside_less}
 use Rattle.aom_safety.proofs.Destroying.{eqb_comm, Untouched, other_name, untouched}
 use Rattle.aom_safety.proofs.Emptied.{emptied_by}
-use Rattle.aom_semantics.proofs.Maps.{cond_same, same_place_refl, front_free, held_without, named_without, requested_without, same_place-true, tidy_without, unnamed, unrequested}
+use Rattle.aom_semantics.proofs.Maps.{cond_same, same_place_refl, front_free, held_without, named_without, requested_without}
+use Rattle.aom_semantics.proofs.Maps.{same_place-true, tidy_without, unnamed, unrequested}
 use Rattle.aom_safety.proofs.Straight.{Fitted, fits_unowning, settle}
-use Rattle.aom_safety.specs.Claims.{Ending, Dispatching, Dying, Layer, Mark, Method, Unwinding, claim, declared, declared_field, forms, items_of, objects, tasks_of}
+use Rattle.aom_safety.specs.Claims.{Ending, Dispatching, Dying, Layer, Mark, Method, Unwinding, claim}
+use Rattle.aom_safety.specs.Claims.{declared, declared_field, forms, items_of, objects, tasks_of}
 use Rattle.aom_semantics.specs.Destruction.{needs_past, owns_none_past, is_past, gone, is_at_rest, is_field_of, owns_nothing}
-use Rattle.aom_semantics.specs.Places.{Session, Queued, service_of, Cell, Elsewhere, Field, Going, Object, Place, Request, Tidy, held, named, requested, same_place, seen, without}
+use Rattle.aom_semantics.specs.Places.{Session, Queued, service_of, Cell, Elsewhere, Field, Going, Object, Place}
+use Rattle.aom_semantics.specs.Places.{Request, Tidy, held, named, requested, same_place, seen, without}
 use Rattle.aom_semantics.specs.State.{Of_server, Parts, Seat, Home, Of_root, State, next, resumed}
-use Rattle.aom_safety.specs.WellTyped.{IsOverDying, SitsFirst, NoSeatAt, seat_of, AllUndo, Back, Caught, Fits, Gone, Good, Holds, IsHoused, Keeps, Leaves, Now, Returns, Stack, WellTyped}
+use Rattle.aom_safety.specs.WellTyped.{IsOverDying, SitsFirst, NoSeatAt, seat_of, AllUndo, Back, Caught, Fits, Gone}
+use Rattle.aom_safety.specs.WellTyped.{Good, Holds, IsHoused, Keeps, Leaves, Now, Returns, Stack, WellTyped}
 use Rattle.aom_safety.specs.Requests.{AllSuit, Suits, resting_in, states_claim, thing_kind}
 use Rattle.aom_roles.specs.States.{last_of}
 use Rattle.aom_image.specs.declared.class.ClassKind.{ClassKind}
 use Rattle.aom_semantics.specs.Servers.{has_session, has_message, session_thing, message_thing, is_queue_of, without_queue}
 use Rattle.aom_semantics.specs.Clients.{each_unslotted, queue_ended, sessions_ended}
-use Rattle.aom_safety.proofs.Dropping.{dropped, held_dropped, queue_dropped, queued_claim, waits_message, is_sent, stack_dropped, tidy_dropped, fits_dropped, declared_dropped, suits_dropped, stays_same}
+use Rattle.aom_safety.proofs.Dropping.{dropped, held_dropped, queue_dropped, queued_claim, waits_message, is_sent, stack_dropped}
+use Rattle.aom_safety.proofs.Dropping.{tidy_dropped, fits_dropped, declared_dropped, suits_dropped, stays_same}
 use Rattle.aom_safety.proofs.Unslotting.{each_unslotted_alike, each_unslotted_requests}
 use Rattle.aom_safety.proofs.Storing.{stack_alike, fits_alike}
 use Rattle.aom_safety.proofs.Services.{attended_at, service_without, sits_there}
@@ -123,12 +129,11 @@ module _ (p : Image) (t : Typing) (cs : List Cell) (o : Object) (ls : List Layer
   nothing_left = grind (arith, nat_tests, nothing_in, queue_dropped o.name cs, held_dropped)
 
 -- once nothing waits in its queue
-module _ (p : Image) (t : Typing) (cs : List Cell) (o : Object) (ls : List Layer) (stack : Stack p t cs Now (Dying o ∷ ls)) (tidy : Tidy cs) (suits : AllSuit p cs (Dying o ∷ ls))
-    (fits : (r : Place) → is_queue_of o.name r ≡ false → Fits p (seen cs) (held cs r) (claim p (declared p cs) (Dying o ∷ ls) r))
-    (unqueued : (m : ℕ) → held cs (Elsewhere (Queued o.name m)) ≡ None) where
-  fits_after :
-      (r : Place) →
-      Fits p (seen (without (Going (length (tasks_of ls))) cs)) (held (without (Going (length (tasks_of ls))) cs) r) (claim p (declared p (without (Going (length (tasks_of ls))) cs)) ls r)
+module _ (p : Image) (t : Typing) (cs : List Cell) (o : Object) (ls : List Layer)
+    (stack : Stack p t cs Now (Dying o ∷ ls)) (tidy : Tidy cs) (suits : AllSuit p cs (Dying o ∷ ls)) (fits : (r : Place) → is_queue_of o.name r ≡ false →
+    Fits p (seen cs) (held cs r) (claim p (declared p cs) (Dying o ∷ ls) r)) (unqueued : (m : ℕ) → held cs (Elsewhere (Queued o.name m)) ≡ None) where
+  fits_after : (r : Place) → Fits p (seen (without (Going (length (tasks_of ls))) cs))
+      (held (without (Going (length (tasks_of ls))) cs) r) (claim p (declared p (without (Going (length (tasks_of ls))) cs)) ls r)
   fits_after r = subst (λ x. Fits p (seen cs') x (claim p (declared p cs') ls r)) (sym (held_without cs g r)) (go (same_place g r) refl)
     where
       g : Place
@@ -169,7 +174,8 @@ module _ (p : Image) (t : Typing) (cs : List Cell) (o : Object) (ls : List Layer
           fields : (b : Bool) → (o.name == n) ≡ b → Fits p (seen cs') (held cs (Field n f)) (claim p (declared p cs') ls (Field n f))
           fields true d =
               let same = eqb-true o.name n d in
-              nothing (Field n f) (ap (λ m. held cs (Field m f)) (sym same) ∙ own_field) (ap (λ m. claim p (declared p cs') ls (Field m f)) (sym same) ∙ claim_unclaimed p (declared p cs') ls o.name f (λ f. Null) u.unclaimed (ap (λ x. declared_field p x f) name_gone))
+              nothing (Field n f) (ap (λ m. held cs (Field m f)) (sym same) ∙ own_field) (ap (λ m. claim p (declared p cs') ls (Field m f)) (sym same)
+              ∙ claim_unclaimed p (declared p cs') ls o.name f (λ f. Null) u.unclaimed (ap (λ x. declared_field p x f) name_gone))
           fields false d = keep (Field n f) refl (grind (arith, nat_tests)) (ap (λ x. declared_field p x f) (sym (named_without cs g o n tidy stack.0.1 d)))
       others (Elsewhere (Session n c)) e = sessions (o.name == n) refl
         where
@@ -180,18 +186,23 @@ module _ (p : Image) (t : Typing) (cs : List Cell) (o : Object) (ls : List Layer
           sessions true d =
               let same = eqb-true o.name n d in
               nothing (Elsewhere (Session n c)) (ap (λ m. held cs (Elsewhere (Session m c))) (sym same) ∙ own_session)
-              (ap (λ m. claim p (declared p cs') ls (Elsewhere (Session m c))) (sym same) ∙ u.sessions (declared p cs') c ∙ ap (λ x. cond (has_session (service_of cs' o.name) c) (filled (session_thing p x) Full) Null) name_gone ∙ cond_same (has_session (service_of cs' o.name) c) Null)
+              (ap (λ m. claim p (declared p cs') ls (Elsewhere (Session m c))) (sym same) ∙ u.sessions (declared p cs') c ∙ ap (λ x. cond (has_session
+              (service_of cs' o.name) c) (filled (session_thing p x) Full) Null) name_gone ∙ cond_same (has_session (service_of cs' o.name) c) Null)
           sessions false d = keep (Elsewhere (Session n c)) refl (ap (λ b. cond b Null (claim p (declared p cs) ls (Elsewhere (Session n c)))) d)
-              (ap (λ v. cond (has_session v c) (filled (session_thing p (named cs n)) Full) Null) (sym (service_without cs g o n tidy stack.0.1 d)) ∙ ap (λ x. cond (has_session (service_of cs' n) c) (filled (session_thing p x) Full) Null) (sym (named_without cs g o n tidy stack.0.1 d)))
+              (ap (λ v. cond (has_session v c) (filled (session_thing p (named cs n)) Full) Null) (sym (service_without cs g o n tidy stack.0.1 d))
+              ∙ ap (λ x. cond (has_session (service_of cs' n) c) (filled (session_thing p x) Full) Null) (sym (named_without cs g o n tidy stack.0.1 d)))
       others (Elsewhere (Queued n m)) e = waits (o.name == n) refl
         where
           waits : (b : Bool) → (o.name == n) ≡ b → Fits p (seen cs') (held cs (Elsewhere (Queued n m))) (claim p (declared p cs') ls (Elsewhere (Queued n m)))
           waits true d =
               let same = eqb-true o.name n d in
               nothing (Elsewhere (Queued n m)) (ap (λ k. held cs (Elsewhere (Queued k m))) (sym same) ∙ unqueued m)
-              (ap (λ k. claim p (declared p cs') ls (Elsewhere (Queued k m))) (sym same) ∙ queued_claim p (declared p cs') ls o.name m ∙ ap (λ x. cond (has_message (service_of cs' o.name) m) (filled (message_thing p x) Full) Null) name_gone ∙ cond_same (has_message (service_of cs' o.name) m) Null)
+              (ap (λ k. claim p (declared p cs') ls (Elsewhere (Queued k m))) (sym same) ∙ queued_claim p (declared p cs') ls o.name m
+              ∙ ap (λ x. cond (has_message (service_of cs' o.name) m) (filled (message_thing p x) Full) Null) name_gone
+              ∙ cond_same (has_message (service_of cs' o.name) m) Null)
           waits false d = keep (Elsewhere (Queued n m)) (eqb_comm n o.name ∙ d) refl
-              (ap (λ v. cond (has_message v m) (filled (message_thing p (named cs n)) Full) Null) (sym (service_without cs g o n tidy stack.0.1 d)) ∙ ap (λ x. cond (has_message (service_of cs' n) m) (filled (message_thing p x) Full) Null) (sym (named_without cs g o n tidy stack.0.1 d)))
+              (ap (λ v. cond (has_message v m) (filled (message_thing p (named cs n)) Full) Null) (sym (service_without cs g o n tidy stack.0.1 d))
+              ∙ ap (λ x. cond (has_message (service_of cs' n) m) (filled (message_thing p x) Full) Null) (sym (named_without cs g o n tidy stack.0.1 d)))
       others (Going k) e = keep (Going k) refl (grind (arith, nat_tests)) refl
         where
           tail : (b : Bool) → (b && true) ≡ false → b ≡ false
@@ -200,8 +211,8 @@ module _ (p : Image) (t : Typing) (cs : List Cell) (o : Object) (ls : List Layer
       others r e = keep r refl refl refl
 
       go : (b : Bool) → same_place g r ≡ b → Fits p (seen cs') (cond b None (held cs r)) (claim p (declared p cs') ls r)
-      go true e =
-          subst (λ k. Fits p (seen cs') None k) (sym (ap (λ q. claim p (declared p cs') ls q) (sym (same_place-true g r e)) ∙ claim_going_above p cs' ls (length (tasks_of ls)) (omega arith))) tt
+      go true e = subst (λ k. Fits p (seen cs') None k)
+          (sym (ap (λ q. claim p (declared p cs') ls q) (sym (same_place-true g r e)) ∙ claim_going_above p cs' ls (length (tasks_of ls)) (omega arith))) tt
       go false e = others r e
 
   -- what is left is another object
@@ -209,8 +220,8 @@ module _ (p : Image) (t : Typing) (cs : List Cell) (o : Object) (ls : List Layer
   suits_after x lives = grind (arith, nat_tests, eqb-true o.name x.name, unnamed cs, named_without cs, requested_without cs)
 
 -- the method below goes on, or the run is at its end
-goes_on :
-    (p : Image) (t : Typing) (s : State) (ls : List Layer) → Stack p t s.cells Gone ls → ((r : Place) → Fits p (seen s.cells) (held s.cells r) (claim p (declared p s.cells) ls r)) →
+goes_on : (p : Image) (t : Typing) (s : State) (ls : List Layer) →
+    Stack p t s.cells Gone ls → ((r : Place) → Fits p (seen s.cells) (held s.cells r) (claim p (declared p s.cells) ls r)) →
     AllSuit p s.cells ls → Tidy s.cells → s.tasks ≡ resumed (tasks_of ls) → forms s.items ≡ items_of ls → AllUndo p s.items → WellTyped p t s
 goes_on p t s [] stack fits suits tidy tasks items undos = let clash : Gone ≡ Now = stack in cc
 goes_on p t s (Method fr sh ∷ ls) stack fits suits tidy tasks items undos =
@@ -294,8 +305,8 @@ module _ (p : Image) (t : Typing) (s : State) (o : Object) (ls : List Layer) (go
   tidy_less = tidy_dropped waits s.cells good.tidy
 
   fits_less : (r : Place) → is_queue_of o.name r ≡ false → Fits p (seen less) (held less r) (claim p (declared p less) (Dying o ∷ ls) r)
-  fits_less r e =
-      rw (claim_rel (λ x y. x ≡ y) (λ k. refl) p (declared p s.cells) (declared p less) (Dying o ∷ ls) r (sym (declared_dropped waits p s.cells good.tidy waits_messages r))) at (fits_dropped waits p s.cells good.tidy waits_messages r _ e (good.fits r))
+  fits_less r e = rw (claim_rel (λ x y. x ≡ y) (λ k. refl) p (declared p s.cells) (declared p less) (Dying o ∷ ls) r
+      (sym (declared_dropped waits p s.cells good.tidy waits_messages r))) at (fits_dropped waits p s.cells good.tidy waits_messages r _ e (good.fits r))
 
   suits_less : AllSuit p less (Dying o ∷ ls)
   suits_less = suits_dropped waits p s.cells good.tidy waits_messages (Dying o ∷ ls) good.suits
@@ -320,7 +331,8 @@ module _ (p : Image) (t : Typing) (s : State) (o : Object) (ls : List Layer) (go
       goes_on p t (after less) ls
       (stack_alike p t cs2 cs3 alike (λ n some. ap is_some (requests n) ∙ some) ls Gone (stack_without p t less g o tidy_less stack_less.0.1 ls Gone (omega arith) (λ from. tt) stack_less.2))
       (λ r. fits_alike p t cs2 cs3 alike ls r (λ x e fresh. requests x.name) (fits_after p t less o ls stack_less tidy_less suits_less fits_less none_waits r))
-      (λ x lives. subst (λ r. Suits (thing_kind p x.thing) (states_claim p x ls) r) (sym (requests x.name)) (suits_after p t less o ls stack_less tidy_less suits_less fits_less none_waits x (sym (alike.named_so x.name) ∙ lives)))
+      (λ x lives. subst (λ r. Suits (thing_kind p x.thing) (states_claim p x ls) r)
+      (sym (requests x.name)) (suits_after p t less o ls stack_less tidy_less suits_less fits_less none_waits x (sym (alike.named_so x.name) ∙ lives)))
       (alike.tidy (tidy_without less g tidy_less))
       refl items undos
 

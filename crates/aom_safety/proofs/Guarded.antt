@@ -21,9 +21,8 @@ guarded_met [] s u e = tt
 guarded_met (need ∷ list) s u e = grind (arith, nat_tests, guarded_met list s u, true_given)
 
 -- the instruction at hand as a step goes on has met its needs, and does what it does
-pub acts_at :
-    (p : Image) (c : Choice) (s u : State) (fr : Frame) (ts : List Task) (i : Instr) → s.tasks ≡ Run fr ∷ ts → instr_at p fr.method fr.place ≡ Some i → step p c s ≡ Goes u →
-    AllTrue (needs p c fr ts (counted p s) i) × (does p c fr ts (counted p s) i ≡ u)
+pub acts_at : (p : Image) (c : Choice) (s u : State) (fr : Frame) (ts : List Task) (i : Instr) → s.tasks ≡ Run fr ∷ ts →
+    instr_at p fr.method fr.place ≡ Some i → step p c s ≡ Goes u → AllTrue (needs p c fr ts (counted p s) i) × (does p c fr ts (counted p s) i ≡ u)
 acts_at p c s u fr ts i at there e =
     let v = counted p s in
     let goes : step_instr p c fr ts v (Some i) ≡ Goes u = subst (λ o. step_instr p c fr ts v o ≡ Goes u) there (subst (λ l. step_task p c v l ≡ Goes u) at e) in

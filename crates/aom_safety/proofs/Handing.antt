@@ -40,14 +40,16 @@ pub token_active : (k : Option ClassKind) → is_token_kind k ≡ true → is_ac
 token_active k e = grind arith
 
 -- a request that waits for a token, and one that is completed for want of room
-suits_promised : (k : Option ClassKind) (n : Known) (order : ℕ) (r : Option Request) → is_token_kind k ≡ true → in_phase is_idle r ≡ true → Suits k n r → Suits k (record { states = issued; cancelled = n.cancelled }) (on_request (promised order) r)
+suits_promised : (k : Option ClassKind) (n : Known) (order : ℕ) (r : Option Request) → is_token_kind k ≡ true →
+    in_phase is_idle r ≡ true → Suits k n r → Suits k (record { states = issued; cancelled = n.cancelled }) (on_request (promised order) r)
 suits_promised k n order r e free s = grind arith
 
-suits_busy : (k : Option ClassKind) (n : Known) (r : Option Request) → is_token_kind k ≡ true → in_phase is_idle r ≡ true → Suits k n r → Suits k (record { states = issued; cancelled = n.cancelled }) (on_request (completed_at_once busy) r)
+suits_busy : (k : Option ClassKind) (n : Known) (r : Option Request) → is_token_kind k ≡ true →
+    in_phase is_idle r ≡ true → Suits k n r → Suits k (record { states = issued; cancelled = n.cancelled }) (on_request (completed_at_once busy) r)
 suits_busy k n r e free s = grind arith
 
-module _ (p : Image) (t : Typing) (main_none : (m : ℕ) → method_role p m ≡ Some Main → own_kind p m ≡ None) (c : Choice) (s : State) (fr : Frame) (sh : Shape) (ls : List Layer)
-    (at_hand : At p t s fr sh ls) (unused : named s.cells c.name ≡ None) where
+module _ (p : Image) (t : Typing) (main_none : (m : ℕ) → method_role p m ≡ Some Main → own_kind p m ≡ None)
+    (c : Choice) (s : State) (fr : Frame) (sh : Shape) (ls : List Layer) (at_hand : At p t s fr sh ls) (unused : named s.cells c.name ≡ None) where
   abbrev own : Option Request
   own = own_request s.cells fr.home
 
@@ -75,7 +77,8 @@ module _ (p : Image) (t : Typing) (main_none : (m : ℕ) → method_role p m ≡
       fr' : Frame
       fr' = next (set_word fr a None)
 
-      asks : (f : Request → Request) → Suits (own_kind p fr.method) (its p t main_none c s fr sh ls at_hand listed issued) (on_request f own) → Fitted p t (rerequested s.cells fr.home (on_request f own)) fr sh' ls
+      asks : (f : Request → Request) → Suits (own_kind p fr.method) (its p t main_none c s fr sh ls at_hand listed issued) (on_request f own) →
+          Fitted p t (rerequested s.cells fr.home (on_request f own)) fr sh' ls
       asks f suit = asked p t main_none c s fr sh ls at_hand listed issued (on_request f own) (on_some f own) suit
 
       waits : Fitted p t (rerequested s.cells fr.home (on_request (promised (next_token s.cells)) own)) fr sh' ls
@@ -95,8 +98,8 @@ module _ (p : Image) (t : Typing) (main_none : (m : ℕ) → method_role p m ≡
           (create p t cs fr sh' ls c.name Message [] a k waits (like.named_so c.name ∙ unused) (like.held_so (top ls a) ∙ none) (λ h nf u. (stands_itself p Message, tt)) refl)
 
       go : (b : Bool) → WellTyped p t (applied p fr (tasks_of ls) s (sets fr a None (hands_unless b c.name a own)))
-      go true = well p t c s fr sh ls at_hand _ fr' (set_register sh' a k) refl at_hand.items at_hand.undos
-          (settle p t _ fr' (set_register sh' a k) ls (stepped p t _ (set_word fr a None) (set_register sh' a k) ls (write p t _ fr sh' ls a None k full n.0 (λ h. tt) refl)) leads.0)
+      go true = well p t c s fr sh ls at_hand _ fr' (set_register sh' a k) refl at_hand.items at_hand.undos (settle p t _ fr' (set_register sh' a k) ls
+          (stepped p t _ (set_word fr a None) (set_register sh' a k) ls (write p t _ fr sh' ls a None k full n.0 (λ h. tt) refl)) leads.0)
       go false = well p t c s fr sh ls at_hand _ fr' (set_register sh' a k) refl at_hand.items at_hand.undos (settle p t _ fr' (set_register sh' a k) ls handed leads.0)
 
   -- each instruction of this file by its law

@@ -28,8 +28,8 @@ pub houses_family : (p : Image) → IsFamily p → (c d : ℕ) → descends p c 
 houses_family p family c d h = search (arith, nat_tests, family.inherits c d, family.words c d h, family.kinds c)
 
 -- an object of a class has what a method declares that is of the class or of one above it
-pub houses_role :
-    (p : Image) → IsFamily p → (x : Thing) (c m : ℕ) → x ≡ An_object_of c → (of : IsOfFamily p c m) → holder_by (method_role p m) (Some of.class) ≡ Member of.class → Houses p (thing_holder x) (holder_of p m)
+pub houses_role : (p : Image) → IsFamily p → (x : Thing) (c m : ℕ) →
+    x ≡ An_object_of c → (of : IsOfFamily p c m) → holder_by (method_role p m) (Some of.class) ≡ Member of.class → Houses p (thing_holder x) (holder_of p m)
 houses_role p family x c m thing of member = grind (arith, nat_tests, houses_family p family c of.class of.above)
 
 -- what a place owns counts as its own class
@@ -40,8 +40,8 @@ pub counts_same : (p : Image) (h : Home) (k : Holder) → home_holder h ≡ k �
 counts_same p h k e = houses_counts p h k (houses_same p (home_holder h) k e)
 
 -- under a destructor of the line an object counts as the destructor's class
-pub counts_line :
-    (p : Image) (x : Thing) (c m : ℕ) → x ≡ An_object_of c → (of : IsOfFamily p c m) → holder_of p m ≡ Member of.class → CountsAs p (thing_holder x) (method_class p m) (holder_of p m)
+pub counts_line : (p : Image) (x : Thing) (c m : ℕ) →
+    x ≡ An_object_of c → (of : IsOfFamily p c m) → holder_of p m ≡ Member of.class → CountsAs p (thing_holder x) (method_class p m) (holder_of p m)
 counts_line p x c m thing of works = search (arith, nat_tests, itself p of.class)
 
 -- what destructs works on an object

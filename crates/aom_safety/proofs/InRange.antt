@@ -20,7 +20,8 @@ use Rattle.aom_semantics.specs.Effects.{Effect, Spot, Update, applied, cells_aft
 use Rattle.aom_semantics.specs.Enlisted.{ended_cells, rerequested}
 use Rattle.aom_safety.specs.Laws.{IsWired, RegistersKeep}
 use Rattle.aom_semantics.specs.Moves.{counted, dispatch_ends, main_ends, step, answered, handled, object_ends}
-use Rattle.aom_semantics.specs.Places.{Service, set_service, Session, In_service, Queued, Cell, Elsewhere, Entry, Going, Object, Place, Request, Root, held, moved, same_place, set_request, set_word_field, without, set_session}
+use Rattle.aom_semantics.specs.Places.{Service, set_service, Session, In_service, Queued, Cell, Elsewhere, Entry, Going, Object, Place}
+use Rattle.aom_semantics.specs.Places.{Request, Root, held, moved, same_place, set_request, set_word_field, without, set_session}
 use Rattle.aom_safety.specs.Registers.{AllInRange, IsInRange}
 use Rattle.aom_semantics.specs.State.{Seat, Choice, Dispatch, Frame, Goes, Home, State, Task, field_place}
 use Rattle.aom_semantics.specs.Words.{stored}

@@ -52,9 +52,8 @@ entry_there (x ∷ es) below (A_mark ∷ items) k e lt = absurd (no_mark x cc)
 entry_there _ below _ k e lt = absurd (first_of (cc, omega arith))
 
 -- an entry that owns is no operation
-pub entry_owns :
-    (es : List Pushed) (below : List Form) (items : List Item) (k : ℕ) → forms items ≡ objects es below → k < length es → is_unowning (entry_kind (at Pushed_operation es k)) ≡ false →
-    is_no_operation (entry_at items k) ≡ true
+pub entry_owns : (es : List Pushed) (below : List Form) (items : List Item) (k : ℕ) →
+    forms items ≡ objects es below → k < length es → is_unowning (entry_kind (at Pushed_operation es k)) ≡ false → is_no_operation (entry_at items k) ≡ true
 entry_owns (x ∷ es) below (An_object ∷ items) (suc k) e lt own = grind (arith, nat_tests, entry_owns es below items k)
 entry_owns (x ∷ es) below (An_operation m w ∷ items) (suc k) e lt own = grind (arith, nat_tests, entry_owns es below items k)
 entry_owns x below y k e lt own = grind arith
@@ -76,9 +75,8 @@ readied_kind : (e : Pushed) → entry_kind (readied_entry e) ≡ readied (entry_
 readied_kind x = grind arith
 
 -- that entry alone is claimed anew
-pub readied_claim :
-    (es : List Pushed) (below : List Form) (k j : ℕ) (rest : Kind) → k < length es →
-    entry_claim (readied_at es k) below j rest ≡ cond ((length (objects es below) - suc k) == j) (readied (entry_kind (at Pushed_operation es k))) (entry_claim es below j rest)
+pub readied_claim : (es : List Pushed) (below : List Form) (k j : ℕ) (rest : Kind) → k < length es → entry_claim (readied_at es k) below j rest ≡ cond
+    ((length (objects es below) - suc k) == j) (readied (entry_kind (at Pushed_operation es k))) (entry_claim es below j rest)
 readied_claim [] below k j rest lt = absurd (omega arith)
 readied_claim (x ∷ es) below zero j rest lt = grind (arith, nat_tests, readied_kind x)
 readied_claim (x ∷ es) below (suc k) j rest lt =

@@ -29,9 +29,8 @@ use Rattle.aom_semantics.specs.State.{Choice, Frame, Run, State, counter, field_
 use Rattle.aom_safety.specs.WellTyped.{Fits, WellTyped, WordFits}
 use Rattle.aom_instructions.specs.declared.instr.Instr.{Instr}
 
-pub words_kept :
-    (words : List (Option ℤ)) (sh : Shape) (a : ℕ) (k : Kind) → ((i : ℕ) → WordFits (at None words i) (register sh i)) → WordFits (at None words a) k → (i : ℕ) →
-    WordFits (at None words i) (register (set_register sh a k) i)
+pub words_kept : (words : List (Option ℤ)) (sh : Shape) (a : ℕ) (k : Kind) → ((i : ℕ) → WordFits (at None words i) (register sh i)) →
+    WordFits (at None words a) k → (i : ℕ) → WordFits (at None words i) (register (set_register sh a k) i)
 words_kept words sh a k h w i = grind (arith, nat_tests, at-put_at Unset sh.registers a i k, eqb-true a i)
 
 module _ (p : Image) (t : Typing) (c : Choice) (s : State) (fr : Frame) (sh : Shape) (ls : List Layer) (at_hand : At p t s fr sh ls) where
@@ -49,25 +48,26 @@ module _ (p : Image) (t : Typing) (c : Choice) (s : State) (fr : Frame) (sh : Sh
       none : word fr a ≡ None
       none = no_word p t c s fr sh ls at_hand a n.0
 
-      learned :
-          (fr' : Frame) (k : Kind) → fr'.home ≡ fr.home → fr'.method ≡ fr.method → began fr' ≡ began fr → fr'.words ≡ fr.words → Fits p (seen s.cells) (held s.cells (top ls a)) k →
-          WordFits None k → Fitted p t s.cells fr' (set_register sh a k) ls
-      learned fr' k eh em eg ew new w = relabel p t s.cells fr fr' sh (set_register sh a k) ls (top ls a) k g eh em eg refl new (λ r. claim-set_register p (declared p s.cells) fr sh ls a k r)
-          (λ i. rw ew (words_kept fr.words sh a k at_hand.good.stack.1.words (rw none w) i))
+      learned : (fr' : Frame) (k : Kind) → fr'.home ≡ fr.home → fr'.method ≡ fr.method → began fr' ≡ began fr →
+          fr'.words ≡ fr.words → Fits p (seen s.cells) (held s.cells (top ls a)) k → WordFits None k → Fitted p t s.cells fr' (set_register sh a k) ls
+      learned fr' k eh em eg ew new w = relabel p t s.cells fr fr' sh (set_register sh a k) ls (top ls a) k g eh em eg refl new
+          (λ r. claim-set_register p (declared p s.cells) fr sh ls a k r) (λ i. rw ew (words_kept fr.words sh a k at_hand.good.stack.1.words (rw none w) i))
 
-      go :
-          (k : Kind) (o : Option Object) → register sh a ≡ k → held s.cells (top ls a) ≡ o → AllLead t fr.method (flow_jump_null p fr.method fr.place sh k a to) →
+      go : (k : Kind) (o : Option Object) →
+          register sh a ≡ k → held s.cells (top ls a) ≡ o → AllLead t fr.method (flow_jump_null p fr.method fr.place sh k a to) →
           Fits p (seen s.cells) (held s.cells (top ls a)) (register sh a) → WellTyped p t (applied p fr (tasks_of ls) s (jumps_unless fr o to))
       go Unset o ek eo leads f = let e : is_object_or_null Unset ≡ true = ap is_object_or_null (sym ek) ∙ n.0 in cc
       go Word o ek eo leads f = let e : is_object_or_null Word ≡ true = ap is_object_or_null (sym ek) ∙ n.0 in cc
-      go Null None ek eo leads f =
-          well p t c s fr sh ls at_hand _ (to_place fr to) sh refl at_hand.items at_hand.undos (settle p t s.cells (to_place fr to) sh ls (placed (to_place fr to) refl refl refl refl) leads.0)
-      go (Own x y) (Some o) ek eo leads f =
-          well p t c s fr sh ls at_hand _ (next fr) sh refl at_hand.items at_hand.undos (settle p t s.cells (next fr) sh ls (placed (next fr) refl refl refl refl) leads.0)
-      go (Maybe x y) None ek eo leads f =
-          well p t c s fr sh ls at_hand _ (to_place fr to) (set_register sh a Null) refl at_hand.items at_hand.undos
-          (settle p t s.cells (to_place fr to) (set_register sh a Null) ls (learned (to_place fr to) Null refl refl refl refl (subst (λ o. Fits p (seen s.cells) o Null) (sym eo) tt) refl) leads.1.0)
-      go (Maybe x y) (Some o) ek eo leads f = well p t c s fr sh ls at_hand _ (next fr) (set_register sh a (Own x y)) refl at_hand.items at_hand.undos (settle p t s.cells (next fr) (set_register sh a (Own x y)) ls (learned (next fr) (Own x y) refl refl refl refl (subst (λ z. Fits p (seen s.cells) z (Own x y)) (sym eo) (subst (λ z. Fits p (seen s.cells) z (Maybe x y)) eo (subst (λ k. Fits p (seen s.cells) (held s.cells (top ls a)) k) ek f))) refl) leads.0)
+      go Null None ek eo leads f = well p t c s fr sh ls at_hand _
+          (to_place fr to) sh refl at_hand.items at_hand.undos (settle p t s.cells (to_place fr to) sh ls (placed (to_place fr to) refl refl refl refl) leads.0)
+      go (Own x y) (Some o) ek eo leads f = well p t c s fr sh ls at_hand _
+          (next fr) sh refl at_hand.items at_hand.undos (settle p t s.cells (next fr) sh ls (placed (next fr) refl refl refl refl) leads.0)
+      go (Maybe x y) None ek eo leads f = well p t c s fr sh ls at_hand _
+          (to_place fr to) (set_register sh a Null) refl at_hand.items at_hand.undos (settle p t s.cells (to_place fr to) (set_register sh a Null) ls
+          (learned (to_place fr to) Null refl refl refl refl (subst (λ o. Fits p (seen s.cells) o Null) (sym eo) tt) refl) leads.1.0)
+      go (Maybe x y) (Some o) ek eo leads f = well p t c s fr sh ls at_hand _ (next fr) (set_register sh a (Own x y)) refl at_hand.items at_hand.undos (settle p
+          t s.cells (next fr) (set_register sh a (Own x y)) ls (learned (next fr) (Own x y) refl refl refl refl (subst (λ z. Fits p (seen s.cells) z (Own x y))
+          (sym eo) (subst (λ z. Fits p (seen s.cells) z (Maybe x y)) eo (subst (λ k. Fits p (seen s.cells) (held s.cells (top ls a)) k) ek f))) refl) leads.0)
       go _ _ ek eo leads f = grind (arith, nat_tests, top ls a)
 
   pub law_jump : (to : ℕ) → Law p t c s fr sh ls at_hand (Jump to)
@@ -75,8 +75,8 @@ module _ (p : Image) (t : Typing) (c : Choice) (s : State) (fr : Frame) (sh : Sh
 
   -- both flows know what is known here
   pub goes_either : (to : ℕ) → AllLead t fr.method (flow_compare fr.place sh to) → (b : Bool) → WellTyped p t (applied p fr (tasks_of ls) s (jumps_if fr b to))
-  goes_either to leads true =
-      well p t c s fr sh ls at_hand _ (to_place fr to) sh refl at_hand.items at_hand.undos (settle p t s.cells (to_place fr to) sh ls (placed (to_place fr to) refl refl refl refl) leads.1.0)
+  goes_either to leads true = well p t c s fr sh ls at_hand _
+      (to_place fr to) sh refl at_hand.items at_hand.undos (settle p t s.cells (to_place fr to) sh ls (placed (to_place fr to) refl refl refl refl) leads.1.0)
   goes_either to leads false = well p t c s fr sh ls at_hand _ (next fr) sh refl at_hand.items at_hand.undos (settle p t s.cells (next fr) sh ls (stepped p t s.cells fr sh ls g) leads.0)
 
   -- what the jump learns of a field
@@ -108,18 +108,20 @@ module _ (p : Image) (t : Typing) (c : Choice) (s : State) (fr : Frame) (sh : Sh
       some : is_some x ≡ true
       some = ap is_some own ∙ n.0
 
-      stays : (fr' : Frame) → fr'.home ≡ fr.home → fr'.method ≡ fr.method → began fr' ≡ began fr → fr'.words ≡ fr.words → forms s.items ≡ objects sh.entries (items_of ls) → Leads t fr'.method fr'.place sh → WellTyped p t (record s { tasks = Run fr' ∷ tasks_of ls })
+      stays : (fr' : Frame) → fr'.home ≡ fr.home → fr'.method ≡ fr.method → began fr' ≡ began fr → fr'.words ≡ fr.words →
+          forms s.items ≡ objects sh.entries (items_of ls) → Leads t fr'.method fr'.place sh → WellTyped p t (record s { tasks = Run fr' ∷ tasks_of ls })
       stays fr' eh em eg ew items leads = well p t c s fr sh ls at_hand _ fr' sh refl items at_hand.undos (settle p t s.cells fr' sh ls (placed fr' eh em eg ew) leads)
 
-      learns : (fr' : Frame) (y : Filling) (o : Option Object) → held s.cells q ≡ o → fr'.home ≡ fr.home → fr'.method ≡ fr.method → began fr' ≡ began fr → fr'.words ≡ fr.words → Fits p (seen s.cells) o (filled x y) → Leads t fr'.method fr'.place (set_field sh f y) → WellTyped p t (record s { tasks = Run fr' ∷ tasks_of ls })
+      learns : (fr' : Frame) (y : Filling) (o : Option Object) →
+          held s.cells q ≡ o → fr'.home ≡ fr.home → fr'.method ≡ fr.method → began fr' ≡ began fr → fr'.words ≡ fr.words →
+          Fits p (seen s.cells) o (filled x y) → Leads t fr'.method fr'.place (set_field sh f y) → WellTyped p t (record s { tasks = Run fr' ∷ tasks_of ls })
       learns fr' y o e eh em eg ew new leads = well p t c s fr sh ls at_hand _ fr' (set_field sh f y) refl at_hand.items at_hand.undos (settle p t s.cells fr' (set_field sh f y) ls
           (relabel p t s.cells fr fr' sh (set_field sh f y) ls q (filled x y) g eh em eg refl (rw e new)
           (λ r. claim-set_field p (declared p s.cells) fr fr.home sh ls f y (filled x y) r refl own some refl)
           (λ i. rw ew (at_hand.good.stack.1.words i))) leads)
 
-      go :
-          (y : Filling) (o : Option Object) → held s.cells q ≡ o → AllLead t fr.method (flow_jump_empty p fr.method fr.place sh y f to) → Fits p (seen s.cells) (held s.cells q) (filled x y) →
-          WellTyped p t (applied p fr (tasks_of ls) s (jumps_unless fr o to))
+      go : (y : Filling) (o : Option Object) → held s.cells q ≡ o → AllLead t fr.method (flow_jump_empty p fr.method fr.place sh y f to) →
+          Fits p (seen s.cells) (held s.cells q) (filled x y) → WellTyped p t (applied p fr (tasks_of ls) s (jumps_unless fr o to))
       go Empty None e leads fit = stays (to_place fr to) refl refl refl refl at_hand.items leads.0
       go Empty (Some o) e leads fit = absurd (not_empty x o (subst (λ z. Fits p (seen s.cells) z (filled x Empty)) e fit))
       go Full None e leads fit = absurd (not_full x some (subst (λ z. Fits p (seen s.cells) z (filled x Full)) e fit))

@@ -18,7 +18,8 @@ use Rattle.aom_semantics.specs.Clients.{client_at}
 use Rattle.aom_semantics.specs.Enlisted.{thing_kind}
 use Rattle.aom_safety.specs.Kept.{HasSources, QueueFits, is_message_of, sources_of}
 use Rattle.aom_semantics.specs.Clients.{most_of}
-use Rattle.aom_semantics.specs.Places.{Cell, Connect_of, Elsewhere, In_service, Message_of, Object, Place, Queued, Root, Service, held, named, requested, same_place, service_of, unserved}
+use Rattle.aom_semantics.specs.Places.{Cell, Connect_of, Elsewhere, In_service, Message_of, Object, Place, Queued}
+use Rattle.aom_semantics.specs.Places.{Root, Service, held, named, requested, same_place, service_of, unserved}
 use Rattle.aom_semantics.specs.Servers.{has_session, is_from, is_server, seats_taken}
 use Rattle.std.specs.List.{list_any}
 use Rattle.std.specs.Prelude.{is_some, ◌&&◌, ◌||◌}
@@ -84,8 +85,8 @@ sent_so n c m h = grind (arith, nat_tests, by_name, both, unserved_at)
 seats_so : (o : Object) → named cells o.name ≡ Some o → seats_taken (service_of cells o.name) ≤ most_of (thing_kind an_image o.thing)
 unfolding class_at kind_in kind_of descends_in parent_in
 seats_so o there = by_name (λ n. named cells n ≡ Some o → seats_taken (service_of cells n) ≤ most_of (thing_kind an_image o.thing))
-    (λ h. let same : record { name = 5; thing = keeper } ≡ o = cc in subst (λ (y : Object). 1 ≤ most_of (thing_kind an_image y.thing)) same (omega arith)) (λ h. omega arith) (λ h. omega arith)
-    (λ n e f g h. omega (arith, ap seats_taken (unserved_at n e f g))) o.name there
+    (λ h. let same : record { name = 5; thing = keeper } ≡ o = cc in subst (λ (y : Object). 1 ≤ most_of (thing_kind an_image y.thing)) same (omega arith))
+    (λ h. omega arith) (λ h. omega arith) (λ n e f g h. omega (arith, ap seats_taken (unserved_at n e f g))) o.name there
 
 unnamed_at : (n : ℕ) → (5 == n) ≡ false → (7 == n) ≡ false → (2 == n) ≡ false → named cells n ≡ None
 unnamed_at n e f g = search (arith, nat_tests)
@@ -120,8 +121,8 @@ they_fit = record {
 abbrev alone : Service → Place → Cell
 alone v owner = record (a_cell 7 Message owner) { service = v }
 
-module _ (v : Service) (owner : Place) (queue : v.queue ≡ []) (sessions : v.sessions ≡ []) (source : sources_of v ≡ 1)
-    (unqueued : (n m : ℕ) → same_place owner (Elsewhere (Queued n m)) ≡ false) (sent_so_far : same_place owner (Elsewhere In_service) ≡ true → is_some v.sender ≡ true) where
+module _ (v : Service) (owner : Place) (queue : v.queue ≡ []) (sessions : v.sessions ≡ []) (source : sources_of v ≡ 1) (unqueued : (n m : ℕ) →
+    same_place owner (Elsewhere (Queued n m)) ≡ false) (sent_so_far : same_place owner (Elsewhere In_service) ≡ true → is_some v.sender ≡ true) where
   abbrev its : List Cell
   its = alone v owner ∷ []
 

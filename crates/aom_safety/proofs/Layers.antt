@@ -37,8 +37,8 @@ module _ {G : Type 0} (P : List Layer → Type 0) where
   pub going_layer : (ts : List Task) (ls : List Layer) → tasks_of ls ≡ Destroy ∷ ts → P ls → ((o : Object) (below : List Layer) → tasks_of below ≡ ts → P (Dying o ∷ below) → G) → G
   going_layer ts ls e h gives = top_layer Destroy ts ls e h (λ l below task rest h. let f = going_of l task in gives f.0 below rest (subst (λ l. P (l ∷ below)) f.1 h))
 
-  pub closing_layer :
-      (ts : List Task) (ls : List Layer) → tasks_of ls ≡ Closing ∷ ts → P ls → ((o : Object) (left : List ℕ) (below : List Layer) → tasks_of below ≡ ts → P (Ending o left ∷ below) → G) → G
+  pub closing_layer : (ts : List Task) (ls : List Layer) →
+      tasks_of ls ≡ Closing ∷ ts → P ls → ((o : Object) (left : List ℕ) (below : List Layer) → tasks_of below ≡ ts → P (Ending o left ∷ below) → G) → G
   closing_layer ts ls e h gives = top_layer Closing ts ls e h (λ l below task rest h. let f = closing_of l task in gives f.0 f.1 below rest (subst (λ l. P (l ∷ below)) f.2 h))
 
   pub leave_layer :

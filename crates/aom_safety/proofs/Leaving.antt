@@ -1,6 +1,7 @@
 -- A leave from a well-typed state: there is a trap, no register over it owns, and what is left to unwind is well typed.
 use Rattle.std.proofs.lemmas.Bool.Decides.{nat_tests}
-use Rattle.std.proofs.Common.{Bool, List, None, Option, Some, [], ap, append-nil, append_assoc, arith, cond, false, inl, inr, length, refl, subst, sym, true, ℕ, ℤ, ◌<◌, ◌∙◌, ◌∷◌, ◌≡◌}
+use Rattle.std.proofs.Common.{Bool, List, None, Option, Some, [], ap, append-nil, append_assoc, arith, cond}
+use Rattle.std.proofs.Common.{false, inl, inr, length, refl, subst, sym, true, ℕ, ℤ, ◌<◌, ◌∙◌, ◌∷◌, ◌≡◌}
 use Rattle.std.proofs.lemmas.Bool.{and_from, ne_eqb, true≢false}
 use Rattle.std.specs.Prelude.{◌++◌}
 use Rattle.aom_image.specs.Image.{Image}
@@ -17,7 +18,8 @@ use Rattle.aom_safety.proofs.Finishing.{ended, none_owns_at, none_owns_from}
 use Rattle.aom_safety.proofs.Straight.{At, Fitted, Law, claim_register, fits_unowning, fitted, settle, stepped, well}
 use Rattle.aom_safety.proofs.Words.{has_word}
 use Rattle.aom_semantics.specs.Calls.{none_owns_but}
-use Rattle.aom_safety.specs.Claims.{Dispatching, Dying, Form, Layer, Mark, Method, Unwinding, claim, declared, entry_claim, entry_form, forms, home_claim, items_of, objects, root_claim, tasks_of, Ending, delivered, serves}
+use Rattle.aom_safety.specs.Claims.{Dispatching, Dying, Form, Layer, Mark, Method, Unwinding, claim, declared, entry_claim, entry_form}
+use Rattle.aom_safety.specs.Claims.{forms, home_claim, items_of, objects, root_claim, tasks_of, Ending, delivered, serves}
 use Rattle.aom_safety.proofs.Attending.{served_claim}
 use Rattle.aom_shape.specs.Kinds.{is_here}
 use Rattle.aom_shape.specs.declared.kind.Delivery.{Delivery}
@@ -25,7 +27,8 @@ use Rattle.aom_shape.specs.declared.kind.Delivery.TheVariants.{Here}
 use Rattle.aom_semantics.specs.Cleanup.{above_trap_is_free, has_trap, is_negative, leave_needs, to_trap}
 use Rattle.aom_semantics.specs.Places.{In_service, Cell, Elsewhere, Entry, Field, Object, Place, Register, Request, Root, Sight, held, named, requested, seen}
 use Rattle.aom_semantics.specs.State.{home_holder, AtRoot, Choice, Dispatch, Frame, Home, Inside, Run, State, Static, Unwind, next}
-use Rattle.aom_safety.specs.WellTyped.{CountsAs, HasMessage, Houses, AllUndo, EndsDispatch, Fits, IsApart, IsHoused, Leaves, Returns, Stack, WellTyped, past_going}
+use Rattle.aom_safety.specs.WellTyped.{CountsAs, HasMessage, Houses, AllUndo, EndsDispatch, Fits, IsApart}
+use Rattle.aom_safety.specs.WellTyped.{IsHoused, Leaves, Returns, Stack, WellTyped, past_going}
 use Rattle.aom_semantics.specs.Effects.{Leaves, Same, applied, updates}
 use Rattle.aom_semantics.specs.Words.{read}
 use Rattle.aom_rules.specs.Requests.{unissued}
@@ -82,8 +85,8 @@ not_going : (p : Image) (t : Typing) (cs : List Cell) (ls : List Layer) (m : ℕ
 not_going p t cs x m home e s = grind arith
 
 -- a method ends by a leave, and its entries are still there
-ended_by_leave :
-    (p : Image) (cs : List Cell) (fr : Frame) (sh : Shape) (ls : List Layer) (code : ℤ) → Houses p (home_holder fr.home) (holder_of p fr.method) → CountsAs p (home_holder fr.home) fr.view (holder_of p fr.method) → IsHoused p cs ls fr.home → IsApart p fr.view fr.method fr.home ls → past_going ls ≡ ls →
+ended_by_leave : (p : Image) (cs : List Cell) (fr : Frame) (sh : Shape) (ls : List Layer) (code : ℤ) → Houses p (home_holder fr.home) (holder_of p fr.method) →
+    CountsAs p (home_holder fr.home) fr.view (holder_of p fr.method) → IsHoused p cs ls fr.home → IsApart p fr.view fr.method fr.home ls → past_going ls ≡ ls →
     none_owns sh.registers ≡ true → (serves p fr.method ≡ true → sh.delivery ≡ Here) → HasMessage p fr ls → (r : Place) (h : Sight) (o : Option Object) →
     Fits p h o (claim p (declared p cs) (Method fr sh ∷ ls) r) → Fits p h o (claim p (declared p cs) (Unwinding code sh.entries ∷ ls) r)
 ended_by_leave p cs fr sh ls code houses counts housed apart at_top n here served r h o fits = go r fits
@@ -115,9 +118,8 @@ ended_by_leave p cs fr sh ls code houses counts housed apart at_top n here serve
     go _ fits = fits
 
 -- all methods over the trap end so
-all_ended :
-    (p : Image) (t : Typing) (cs : List Cell) (code : ℤ) (ls : List Layer) (es : List Pushed) (m : ℕ) (home : Home) → leaves p m ≡ true → Stack p t cs (Returns m home) ls →
-    (r : Place) (h : Sight) (o : Option Object) → Fits p h o (claim p (declared p cs) (Unwinding code es ∷ ls) r) →
+all_ended : (p : Image) (t : Typing) (cs : List Cell) (code : ℤ) (ls : List Layer) (es : List Pushed) (m : ℕ) (home : Home) → leaves p m ≡ true →
+    Stack p t cs (Returns m home) ls → (r : Place) (h : Sight) (o : Option Object) → Fits p h o (claim p (declared p cs) (Unwinding code es ∷ ls) r) →
     Fits p h o (claim p (declared p cs) (Unwinding code (es ++ entries_over ls) ∷ from_trap ls) r)
 all_ended p t cs code (Method fr sh ∷ ls) es m home e s r h o fits =
     let may = s.0.0 e in
@@ -144,7 +146,8 @@ unworked_from_trap n [] u = u
 unworked_from_trap n (l ∷ ls) u = u
 
 -- the home of a method that works on the object
-on_it : (p : Image) (cs : List Cell) (ls : List Layer) (x : Object) (view : Option ℕ) (m : ℕ) (home : Home) → named cs x.name ≡ Some x → works_at x.name home ≡ true → IsHoused p cs ls home → IsApart p view m home ls → Joins p x ls
+on_it : (p : Image) (cs : List Cell) (ls : List Layer) (x : Object) (view : Option ℕ) (m : ℕ) (home : Home) →
+    named cs x.name ≡ Some x → works_at x.name home ≡ true → IsHoused p cs ls home → IsApart p view m home ls → Joins p x ls
 on_it p cs ls x view m home lives w h a = grind arith
 
 -- what is below a frame that is not quiet is not quiet either
@@ -199,9 +202,9 @@ module _ (p : Image) (t : Typing) (wired : IsWired p) (cs : List Cell) (x : Obje
     rested_left _ m home e s j rests = absurd (first_of (assumption tt, cc))
 
     -- the object that a method which may leave works on
-    works_left :
-        (fr : Frame) (sh : Shape) (ls : List Layer) → leaves p fr.method ≡ true → unissued sh.states ≡ true → IsHoused p cs ls fr.home → IsApart p fr.view fr.method fr.home ls →
-        Stack p t cs (Returns fr.method fr.home) ls → works_at x.name fr.home ≡ true → Suits k (known_at p fr sh.states (states_claim p x ls)) r → Suits k (states_claim p x (from_trap ls)) r
+    works_left : (fr : Frame) (sh : Shape) (ls : List Layer) → leaves p fr.method ≡ true →
+        unissued sh.states ≡ true → IsHoused p cs ls fr.home → IsApart p fr.view fr.method fr.home ls → Stack p t cs (Returns fr.method fr.home) ls →
+        works_at x.name fr.home ≡ true → Suits k (known_at p fr sh.states (states_claim p x ls)) r → Suits k (states_claim p x (from_trap ls)) r
     works_left fr sh ls may u housed apart s w h =
         rested_left ls fr.method fr.home may s (on_it p cs ls x fr.view fr.method fr.home lives w housed apart)
         (suits_rests k sh.states r u (subst (λ n. Suits k n r) (known_leaving fr sh.states ls may s) h))
@@ -212,17 +215,15 @@ module _ (p : Image) (t : Typing) (wired : IsWired p) (cs : List Cell) (x : Obje
         below : Known
         below = states_claim p x ls
 
-        go :
-            (b : Bool) → works_at x.name fr.home ≡ b → Suits k (cond b (known_at p fr sh.states below) below) r → (Suits k below r → Suits k (states_claim p x (from_trap ls)) r) →
-            Suits k (states_claim p x (from_trap ls)) r
+        go : (b : Bool) → works_at x.name fr.home ≡ b → Suits k (cond b (known_at p fr sh.states below) below) r →
+            (Suits k below r → Suits k (states_claim p x (from_trap ls)) r) → Suits k (states_claim p x (from_trap ls)) r
         go true w h rest = let may = s.0.0 e in works_left fr sh ls may.0 may.2 s.2 s.3 s.4 w h
         go false w h rest = rest h
     suits_left _ m home e s h = h
 
 -- so it is with all objects
-all_left :
-    (p : Image) (t : Typing) (wired : IsWired p) (cs : List Cell) (code : ℤ) (es : List Pushed) (fr : Frame) (sh : Shape) (ls : List Layer) → Fitted p t cs fr sh ls →
-    leaves p fr.method ≡ true → unissued sh.states ≡ true → AllSuit p cs (Unwinding code es ∷ from_trap ls)
+all_left : (p : Image) (t : Typing) (wired : IsWired p) (cs : List Cell) (code : ℤ) (es : List Pushed) (fr : Frame) (sh : Shape) (ls : List Layer) →
+    Fitted p t cs fr sh ls → leaves p fr.method ≡ true → unissued sh.states ≡ true → AllSuit p cs (Unwinding code es ∷ from_trap ls)
 all_left p t wired cs code es fr sh ls g may u x lives = go (works_at x.name fr.home) refl (g.suits x lives)
   where
     below : Known
@@ -247,9 +248,8 @@ frame_is_free :
 frame_is_free p cs fr sh ls h n = grind (arith, nat_tests, none_owns_from, fits_unowning, none_owns_at, claim_register)
 
 -- under a method that may leave there is a trap, and the registers up to it own nothing
-below_leaving :
-    (p : Image) (t : Typing) (cs : List Cell) (ls : List Layer) (m : ℕ) (home : Home) → leaves p m ≡ true → Stack p t cs (Returns m home) ls → RegistersFit p cs ls →
-    (has_trap (tasks_of ls) ≡ true) × (above_trap_is_free cs (tasks_of ls) ≡ true)
+below_leaving : (p : Image) (t : Typing) (cs : List Cell) (ls : List Layer) (m : ℕ) (home : Home) →
+    leaves p m ≡ true → Stack p t cs (Returns m home) ls → RegistersFit p cs ls → (has_trap (tasks_of ls) ≡ true) × (above_trap_is_free cs (tasks_of ls) ≡ true)
 below_leaving p t cs (Method fr sh ∷ ls) m home e s h =
     grind (arith, nat_tests, below_leaving p t cs ls fr.method fr.home, registers_below p cs fr sh ls h, and_from, frame_is_free p cs fr sh ls h)
 below_leaving p t cs (Mark gv ∷ ls) m home e s h = (refl, refl)
@@ -257,26 +257,23 @@ below_leaving p t cs (Dispatching d seats ∷ ls) m home e s h = no_end p d m ho
 below_leaving p t cs _ m home e s h = absurd (first_of (assumption tt, cc))
 
 -- where a method may leave and its registers own nothing, the needs of a leave are met; any frame may stand for its own
-pub leave_is_met :
-    (p : Image) (t : Typing) (cs : List Cell) (fr top_frame : Frame) (sh : Shape) (ls : List Layer) → Fitted p t cs fr sh ls → leaves p fr.method ≡ true → none_owns sh.registers ≡ true →
-    AllTrue (leave_needs cs (Run top_frame ∷ tasks_of ls))
+pub leave_is_met : (p : Image) (t : Typing) (cs : List Cell) (fr top_frame : Frame) (sh : Shape) (ls : List Layer) →
+    Fitted p t cs fr sh ls → leaves p fr.method ≡ true → none_owns sh.registers ≡ true → AllTrue (leave_needs cs (Run top_frame ∷ tasks_of ls))
 leave_is_met p t cs fr top_frame sh ls g may n =
     grind (arith, nat_tests, below_leaving p t cs ls fr.method fr.home may g.stack, registers_below p cs fr sh ls, and_from, frame_is_free p cs fr sh ls)
 
 -- there is a trap under such a method
-pub trap_is_there :
-    (p : Image) (t : Typing) (cs : List Cell) (fr : Frame) (sh : Shape) (ls : List Layer) → Fitted p t cs fr sh ls → leaves p fr.method ≡ true → none_owns sh.registers ≡ true →
-    has_trap (tasks_of ls) ≡ true
+pub trap_is_there : (p : Image) (t : Typing) (cs : List Cell) (fr : Frame) (sh : Shape) (ls : List Layer) →
+    Fitted p t cs fr sh ls → leaves p fr.method ≡ true → none_owns sh.registers ≡ true → has_trap (tasks_of ls) ≡ true
 trap_is_there p t cs fr sh ls g may n = (leave_is_met p t cs fr fr sh ls g may n).0
 
 pub here_is : (d : Delivery) → is_here d ≡ true → d ≡ Here
 here_is d e = grind arith
 
 -- a leave from such a state is well typed
-pub leave_keeps :
-    (p : Image) (t : Typing) → IsWired p → (s : State) (code : ℤ) (fr : Frame) (sh : Shape) (ls : List Layer) → forms s.items ≡ objects sh.entries (items_of ls) → AllUndo p s.items →
-    Fitted p t s.cells fr sh ls → leaves p fr.method ≡ true → none_owns sh.registers ≡ true → unissued sh.states ≡ true → is_here sh.delivery ≡ true →
-    WellTyped p t (record s { tasks = Unwind code ∷ to_trap (tasks_of ls) })
+pub leave_keeps : (p : Image) (t : Typing) → IsWired p → (s : State) (code : ℤ) (fr : Frame) (sh : Shape) (ls : List Layer) → forms s.items ≡ objects sh.entries
+    (items_of ls) → AllUndo p s.items → Fitted p t s.cells fr sh ls → leaves p fr.method ≡ true → none_owns sh.registers ≡ true →
+    unissued sh.states ≡ true → is_here sh.delivery ≡ true → WellTyped p t (record s { tasks = Unwind code ∷ to_trap (tasks_of ls) })
 leave_keeps p t wired s code fr sh ls items undos g may n u here = record {
   layers = Unwinding code (sh.entries ++ entries_over ls) ∷ from_trap ls;
   tasks = ap (λ ts. Unwind code ∷ ts) (tasks_from_trap ls);
@@ -285,7 +282,8 @@ leave_keeps p t wired s code fr sh ls items undos g may n u here = record {
   good = record {
     stack = (tt, stack_from_trap p t s.cells ls fr.method fr.home may g.stack);
     fits = λ r. all_ended p t s.cells code ls sh.entries fr.method fr.home may g.stack r (seen s.cells) (held s.cells r)
-        (ended_by_leave p s.cells fr sh ls code g.frames.holder g.frames.view g.housed g.apart (not_going p t s.cells ls _ _ may g.stack) n (λ serving. here_is sh.delivery here) g.frames.message r (seen s.cells) (held s.cells r) (g.fits r));
+        (ended_by_leave p s.cells fr sh ls code g.frames.holder g.frames.view g.housed g.apart
+        (not_going p t s.cells ls _ _ may g.stack) n (λ serving. here_is sh.delivery here) g.frames.message r (seen s.cells) (held s.cells r) (g.fits r));
     suits = all_left p t wired s.cells code (sh.entries ++ entries_over ls) fr sh ls g may u;
     tidy = g.tidy;
   };

@@ -1,7 +1,8 @@
 -- A method that stands in a loop's body has rounds left: each instruction and each return keeps that.
 use Rattle.std.proofs.lemmas.Bool.Decides.{nat_tests}
 use Rattle.aom_semantics.specs.Destruction.{destructor_frame}
-use Rattle.std.proofs.Common.{List, None, Some, ap, arith, cond, false, inl, inr, length, subst, suc, sym, true, ℕ, ⊎_elim, ◌-◌, ◌<◌, ◌==◌, ◌∙◌, ◌∷◌, ◌≡◌, ◌≢◌, ◌≤◌}
+use Rattle.std.proofs.Common.{List, None, Some, ap, arith, cond, false, inl, inr, length, subst, suc}
+use Rattle.std.proofs.Common.{sym, true, ℕ, ⊎_elim, ◌-◌, ◌<◌, ◌==◌, ◌∙◌, ◌∷◌, ◌≡◌, ◌≢◌, ◌≤◌}
 use Rattle.std.proofs.lemmas.Bool.{cases_Bool, cases_lt, eq-eqb, eqb-true, ne_eqb}
 use Rattle.aom_image.specs.Image.{Image}
 use Rattle.aom_image.specs.Views.{instr_at}
@@ -83,8 +84,8 @@ module _ (p : Image) (looped_so : IsLooped p) (fr : Frame) (rounds : RoundsAt p 
 
     -- of another loop whose body has the place of the next
     aside : (k from to d n : ℕ) → Body p fr.method from to d n → from ≢ closing.0 → IsIn from to fr.place → (0 < counter (set_counter fr e k) d) × (counter (set_counter fr e k) d ≤ n)
-    aside k from to d n body differs inside =
-        let apart = looped_so.apart fr.method from to d n closing.0 fr.place e closing.1 fr.place body closing.2 differs inside (closing.2.later, omega arith) in
+    aside k from to d n body differs inside = let apart =
+        looped_so.apart fr.method from to d n closing.0 fr.place e closing.1 fr.place body closing.2 differs inside (closing.2.later, omega arith) in
         let is = other_counter e k d (λ same. apart (sym same)) in
         let old = rounds from to d n body inside in
         (rw is old.0, rw is old.1)

@@ -54,8 +54,8 @@ served_unseated cs (x ∷ xs) s = (apart x.place s.0.2, served_unseated cs xs s.
 served_outside : (p : Image) (t : Typing) (cs : List Cell) (ls : List Layer) (back : Back) → IsServed ls → Stack p t cs back ls → NoneFrom (Elsewhere In_service) ls
 served_outside p t cs ls back served s = grind (arith, served_unseated)
 
-served_elsewhere :
-    (p : Image) (cs : List Cell) (ls : List Layer) (home : Home) → IsHoused p cs ls home → (o : Object) (from : Place) → home ≡ Inside o from → same_place (Elsewhere In_service) from ≡ false
+served_elsewhere : (p : Image) (cs : List Cell) (ls : List Layer) (home : Home) →
+    IsHoused p cs ls home → (o : Object) (from : Place) → home ≡ Inside o from → same_place (Elsewhere In_service) from ≡ false
 served_elsewhere p cs ls home h o from e = grind (arith, nat_tests, served_apart)
 
 -- once it is taken no claim of it is left
@@ -113,9 +113,8 @@ module _ (p : Image) (t : Typing) (c : Choice) (s : State) (fr : Frame) (sh : Sh
       free : held s.cells (top ls a) ≡ None
       free = free_register p t c s fr sh ls at_hand a n.0
 
-      claims :
-          (r : Place) →
-          claim p d (Method fr after ∷ ls) r ≡ changed (changed (claim p d (Method fr sh ∷ ls)) (Elsewhere In_service) Null) (top ls a) (claim p d (Method fr sh ∷ ls) (Elsewhere In_service)) r
+      claims : (r : Place) → claim p d (Method fr after ∷ ls) r ≡ changed
+          (changed (claim p d (Method fr sh ∷ ls)) (Elsewhere In_service) Null) (top ls a) (claim p d (Method fr sh ∷ ls) (Elsewhere In_service)) r
       claims r =
           claim-set_register p d fr (record sh { delivery = Gone }) ls a (Own Message Ready) r
           ∙ ap (λ x. cond (same_place (top ls a) r) (Own Message Ready) x) (claim_taken p d fr sh ls r n.1.0)
@@ -130,7 +129,8 @@ module _ (p : Image) (t : Typing) (c : Choice) (s : State) (fr : Frame) (sh : Sh
 
 -- ---- a message goes from a register
 
-module _ (p : Image) (t : Typing) (s : State) (fr : Frame) (sh : Shape) (ls : List Layer) (at_hand : At p t s fr sh ls) (a : ℕ) (it : Object) (there : held s.cells (top ls a) ≡ Some it) (message : it.thing ≡ Message) where
+module _ (p : Image) (t : Typing) (s : State) (fr : Frame) (sh : Shape)
+    (ls : List Layer) (at_hand : At p t s fr sh ls) (a : ℕ) (it : Object) (there : held s.cells (top ls a) ≡ Some it) (message : it.thing ≡ Message) where
   abbrev after : Shape
   after = set_register sh a Null
 
@@ -149,18 +149,21 @@ module _ (p : Image) (t : Typing) (s : State) (fr : Frame) (sh : Shape) (ls : Li
       go : (b : Bool) → same_place r (top ls a) ≡ b → Fits p (seen left) (held left r) (cond (same_place (top ls a) r) Null (claim p (declared p left) (Method fr sh ∷ ls) r))
       go true e =
           rw (held_dropped (λ r. same_place r (top ls a)) s.cells r ∙ ap (λ b. cond b None (held s.cells r)) e) (rw (same_place_comm (top ls a) r ∙ e) tt)
-      go false e =
-          rw (same_place_comm (top ls a) r ∙ e) (rw (claim_rel (λ x y. x ≡ y) (λ k. refl) p (declared p s.cells) (declared p left) (Method fr sh ∷ ls) r (sym (declared_dropped (λ r. same_place r (top ls a)) p s.cells at_hand.good.tidy messages r))) at (fits_dropped (λ r. same_place r (top ls a)) p s.cells at_hand.good.tidy messages r _ e (at_hand.good.fits r)))
+      go false e = rw (same_place_comm (top ls a) r ∙ e) (rw (claim_rel (λ x y. x ≡ y) (λ k. refl) p (declared p s.cells) (declared p left)
+          (Method fr sh ∷ ls) r (sym (declared_dropped (λ r. same_place r (top ls a)) p s.cells at_hand.good.tidy messages r))) at (fits_dropped
+          (λ r. same_place r (top ls a)) p s.cells at_hand.good.tidy messages r _ e (at_hand.good.fits r)))
 
   replied : Fitted p t left (next (set_word fr a None)) after ls
   replied = record {
     fits = fits;
-    suits = same_suits p left fr (next (set_word fr a None)) sh after ls refl refl refl (suits_dropped (λ r. same_place r (top ls a)) p s.cells at_hand.good.tidy messages (Method fr sh ∷ ls) at_hand.good.suits);
+    suits = same_suits p left fr (next (set_word fr a None)) sh after ls refl refl refl
+        (suits_dropped (λ r. same_place r (top ls a)) p s.cells at_hand.good.tidy messages (Method fr sh ∷ ls) at_hand.good.suits);
     tidy = tidy_dropped (λ r. same_place r (top ls a)) s.cells at_hand.good.tidy;
     frames = record { words = words_set fr.words sh a None Null at_hand.good.stack.1.words refl; holder = at_hand.good.stack.1.holder; view = at_hand.good.stack.1.view; height = at_hand.good.stack.1.height; alone = at_hand.good.stack.1.alone; message = at_hand.good.stack.1.message };
     housed = subst (λ l. IsHoused p l ls fr.home) (place_dropped (top ls a) s.cells) (grind (arith, nat_tests, housed_without p t s.cells (top ls a) it at_hand.good.tidy there ls fr.home, top ls a));
     apart = at_hand.good.stack.3;
-    stack = subst (λ l. Stack p t l (Returns fr.method fr.home) ls) (place_dropped (top ls a) s.cells) (stack_without p t s.cells (top ls a) it at_hand.good.tidy there ls (Returns fr.method fr.home) (omega arith) (λ from. tt) at_hand.good.stack.4);
+    stack = subst (λ l. Stack p t l (Returns fr.method fr.home) ls) (place_dropped (top ls a) s.cells)
+        (stack_without p t s.cells (top ls a) it at_hand.good.tidy there ls (Returns fr.method fr.home) (omega arith) (λ from. tt) at_hand.good.stack.4);
   }
 
   goes_from : Fitted p t (without (top ls a) s.cells) (next (set_word fr a None)) after ls
@@ -176,7 +179,8 @@ module _ (p : Image) (t : Typing) (c : Choice) (s : State) (fr : Frame) (sh : Sh
       let cs = redeemed_by order code s.cells in
       let at_then : At p t (record s { cells = cs }) fr sh ls = record { tasks = at_hand.tasks; items = at_hand.items; undos = at_hand.undos; good = redeemed_good p t order code s.cells (Method fr sh ∷ ls) at_hand.good } in
       well p t c s fr sh ls at_hand _ (next (set_word fr a None)) (set_register sh a Null) refl at_hand.items at_hand.undos
-      (settle p t (without (top ls a) cs) (next (set_word fr a None)) (set_register sh a Null) ls (goes_from p t (record s { cells = cs }) fr sh ls at_then a it ((redeemed_by_alike order code s.cells).held_so (top ls a) ∙ there) message) leads)
+      (settle p t (without (top ls a) cs) (next (set_word fr a None)) (set_register sh a Null) ls
+      (goes_from p t (record s { cells = cs }) fr sh ls at_then a it ((redeemed_by_alike order code s.cells).held_so (top ls a) ∙ there) message) leads)
 
   pub law_reply : (a b : ℕ) → Law p t c s fr sh ls at_hand (Reply a b)
   law_reply a b n leads = (

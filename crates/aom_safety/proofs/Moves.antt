@@ -17,7 +17,9 @@ use Rattle.aom_shape.specs.declared.kind.Filling.TheVariants.{Empty}
 use Rattle.aom_shape.specs.declared.kind.Kind.{Kind}
 use Rattle.aom_shape.specs.declared.kind.Kind.TheVariants.{Null, Unset}
 use Rattle.aom_safety.proofs.Claimed.{claim-set_field, claim-set_register}
-use Rattle.aom_safety.proofs.Straight.{At, Fitted, Law, claim_field, claim_register, declared_object, declared_ok, empties, field_fits, field_not_from, field_outside, filled_ready, filled_word, fits_unowning, fitted, free_register, kind_fits, may_be_some, no_word, no_word_fits, refills, relocate, settle, this_is_ready, top, well, widened, words_null, words_set}
+use Rattle.aom_safety.proofs.Straight.{At, Fitted, Law, claim_field, claim_register, declared_object, declared_ok, empties, field_fits, field_not_from}
+use Rattle.aom_safety.proofs.Straight.{field_outside, filled_ready, filled_word, fits_unowning, fitted, free_register, kind_fits, may_be_some, no_word}
+use Rattle.aom_safety.proofs.Straight.{no_word_fits, refills, relocate, settle, this_is_ready, top, well, widened, words_null, words_set}
 use Rattle.aom_safety.proofs.Housing.{houses_field}
 use Rattle.aom_safety.specs.Claims.{Layer, Method, claim, declared, tasks_of}
 use Rattle.aom_semantics.specs.Moves.{does}
@@ -51,7 +53,9 @@ module _ (p : Image) (t : Typing) (c : Choice) (s : State) (fr : Frame) (sh : Sh
   pub law_put : (f b : ℕ) → Law p t c s fr sh ls at_hand (Put f b)
   law_put f b n leads = (
     (ap is_none no, (declared_ok p t c s fr sh ls at_hand _ _ k n.0 (kind_fits p t c s fr sh ls at_hand b), (ap is_none free, tt))),
-    well p t c s fr sh ls at_hand (does p c fr (tasks_of ls) s (Put f b)) (next fr) (set_field (set_register sh b Null) f (filling_of k)) refl at_hand.items at_hand.undos (settle p t (moved (top ls b) (field_place fr.home f) s.cells) (next fr) (set_field (set_register sh b Null) f (filling_of k)) ls goes leads.0),
+    well p t c s fr sh ls at_hand
+        (does p c fr (tasks_of ls) s (Put f b)) (next fr) (set_field (set_register sh b Null) f (filling_of k)) refl at_hand.items at_hand.undos
+        (settle p t (moved (top ls b) (field_place fr.home f) s.cells) (next fr) (set_field (set_register sh b Null) f (filling_of k)) ls goes leads.0),
   )
     where
       d : Place → Kind
@@ -105,8 +109,8 @@ module _ (p : Image) (t : Typing) (c : Choice) (s : State) (fr : Frame) (sh : Sh
           ∙ ap (λ y. cond (same_place q r) l y) (claim-set_register p d fr wide ls b Null r)
           ∙ ap (λ y. changed (changed (claim p d (Method fr wide ∷ ls)) (top ls b) Null) q y r) (sym (claim_register p d fr wide ls b ∙ register_wide))
 
-      fresh_aside :
-          (r : Place) (y : Object) → held s.cells r ≡ Some y → is_ready_kind (claim p d (Method fr wide ∷ ls) r) ≡ false → (g : ℕ) → same_place q (Field y.name g) ≡ false
+      fresh_aside : (r : Place) (y : Object) →
+          held s.cells r ≡ Some y → is_ready_kind (claim p d (Method fr wide ∷ ls) r) ≡ false → (g : ℕ) → same_place q (Field y.name g) ≡ false
       fresh_aside r y h is_fresh = go (same_place (top ls b) r) refl
         where
           here : (same : Bool) → same_place (top ls b) r ≡ same → is_ready_kind (cond same l (claim p d (Method fr sh ∷ ls) r)) ≡ false
@@ -130,7 +134,9 @@ module _ (p : Image) (t : Typing) (c : Choice) (s : State) (fr : Frame) (sh : Sh
   pub law_take : (a f : ℕ) → Law p t c s fr sh ls at_hand (Take a f)
   law_take a f n leads = (
     (n.0, (ap is_none free, tt)),
-    well p t c s fr sh ls at_hand (does p c fr (tasks_of ls) s (Take a f)) (next (set_word fr a None)) (set_register (set_field sh f Empty) a k) refl at_hand.items at_hand.undos (settle p t (moved (field_place fr.home f) (top ls a) s.cells) (next (set_word fr a None)) (set_register (set_field sh f Empty) a k) ls goes leads.0),
+    well p t c s fr sh ls at_hand
+        (does p c fr (tasks_of ls) s (Take a f)) (next (set_word fr a None)) (set_register (set_field sh f Empty) a k) refl at_hand.items at_hand.undos
+        (settle p t (moved (field_place fr.home f) (top ls a) s.cells) (next (set_word fr a None)) (set_register (set_field sh f Empty) a k) ls goes leads.0),
   )
     where
       d : Place → Kind
@@ -155,9 +161,8 @@ module _ (p : Image) (t : Typing) (c : Choice) (s : State) (fr : Frame) (sh : Sh
       no_word_in (Some x) Empty = refl
       no_word_in _ _ = refl
 
-      claims :
-          (r : Place) →
-          claim p d (Method fr (set_register (set_field sh f Empty) a k) ∷ ls) r ≡ changed (changed (claim p d (Method fr sh ∷ ls)) q Null) (top ls a) (claim p d (Method fr sh ∷ ls) q) r
+      claims : (r : Place) → claim p d (Method fr (set_register (set_field sh f Empty) a k) ∷ ls) r ≡ changed
+          (changed (claim p d (Method fr sh ∷ ls)) q Null) (top ls a) (claim p d (Method fr sh ∷ ls) q) r
       claims r =
           claim-set_register p d fr (set_field sh f Empty) ls a k r
           ∙ ap (λ x. cond (same_place (top ls a) r) k x) (grind (arith, nat_tests, claim-set_field, d, same, some, null_filled))

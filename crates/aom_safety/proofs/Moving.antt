@@ -14,7 +14,8 @@ use Rattle.aom_semantics.specs.Destruction.{vanished, parting_from, closing, gon
 use Rattle.aom_semantics.specs.Effects.{applied, effect}
 use Rattle.aom_semantics.specs.Moves.{needs_end, act, counted, does, needs, step_instr, step_task}
 use Rattle.aom_semantics.specs.Places.{Entry, Going, held}
-use Rattle.aom_semantics.specs.State.{Closing, A_mark, An_object, An_operation, Choice, Destroy, Dispatched, Frame, Goes, IsStuck, Item, NullOrDead, Run, State, Task, Trapped, Unwind}
+use Rattle.aom_semantics.specs.State.{Closing, A_mark, An_object, An_operation, Choice, Destroy, Dispatched, Frame}
+use Rattle.aom_semantics.specs.State.{Goes, IsStuck, Item, NullOrDead, Run, State, Task, Trapped, Unwind}
 use Rattle.aom_safety.specs.Steps.{Empties, Acts, Arrives, Clears, Comes_out, Ends, Fits, IsStill, Move, Rests, StepsAreMoves, Undoes, Vanishes}
 use Rattle.aom_semantics.specs.Servers.{without_queue}
 
@@ -28,24 +29,22 @@ vanishes p c ts s u at e = some_given (λ o. gone o ts (counted p s) ≡ Goes u)
 
 -- a server that goes has its sessions go first
 empties : (p : Image) (c : Choice) (ts : List Task) (s u : State) → s.tasks ≡ Closing ∷ ts → closing p ts (counted p s) ≡ Goes u → Move p c s u
-empties p c (Destroy ∷ ts) s u at e =
-    some_given (λ o. parting_from p o ts (counted p s) ≡ Goes u) (held s.cells (Going (length ts))) e (λ stuck. cc) (λ o there e. Empties ts o at there (sym (goes_same _ u e)))
+empties p c (Destroy ∷ ts) s u at e = some_given (λ o. parting_from p o ts (counted p s) ≡ Goes u)
+    (held s.cells (Going (length ts))) e (λ stuck. cc) (λ o there e. Empties ts o at there (sym (goes_same _ u e)))
 empties p c _ s u at e = cc
 
 -- a code arrives
-arrives :
-    (p : Image) (c : Choice) (code : ℤ) (ts : List Task) (items : List Item) (s u : State) → s.tasks ≡ Unwind code ∷ ts → s.items ≡ A_mark ∷ items → arrived p code ts items (counted p s) ≡ Goes u →
-    Move p c s u
+arrives : (p : Image) (c : Choice) (code : ℤ) (ts : List Task) (items : List Item) (s u : State) →
+    s.tasks ≡ Unwind code ∷ ts → s.items ≡ A_mark ∷ items → arrived p code ts items (counted p s) ≡ Goes u → Move p c s u
 arrives p c code (Trapped ∷ Run fr ∷ ts) items s u at top e = Arrives code fr ts items at top (sym (goes_same _ u e))
 arrives p c code (Trapped ∷ Dispatched d ∷ ts) items s u at top e = Comes_out code d ts items at top (sym (goes_same _ u e))
 arrives p c code _ items s u at top e = cc
 
-unwinds :
-    (p : Image) (c : Choice) (code : ℤ) (ts : List Task) (items : List Item) (s u : State) → s.tasks ≡ Unwind code ∷ ts → s.items ≡ items → unwound p code ts (counted p s) items ≡ Goes u →
-    Move p c s u
+unwinds : (p : Image) (c : Choice) (code : ℤ) (ts : List Task) (items : List Item) (s u : State) →
+    s.tasks ≡ Unwind code ∷ ts → s.items ≡ items → unwound p code ts (counted p s) items ≡ Goes u → Move p c s u
 unwinds p c code ts [] s u at top e = cc
-unwinds p c code ts (An_object ∷ items) s u at top e =
-    some_given (λ o. cond (is_some o) (Goes (destroyed p o items (Unwind code ∷ ts) (counted p s))) (IsStuck NullOrDead) ≡ Goes u) (held s.cells (Entry (length items))) e
+unwinds p c code ts (An_object ∷ items) s u at top e = some_given
+    (λ o. cond (is_some o) (Goes (destroyed p o items (Unwind code ∷ ts) (counted p s))) (IsStuck NullOrDead) ≡ Goes u) (held s.cells (Entry (length items))) e
     (λ stuck. cc) (λ o there e. Clears code ts items o at top there (sym (goes_same _ u e)))
 unwinds p c code ts (An_operation m w ∷ items) s u at top e = Undoes code ts items m w at top (sym (goes_same _ u e))
 unwinds p c code ts (A_mark ∷ items) s u at top e = arrives p c code ts items s u at top e

@@ -53,7 +53,8 @@ module _ (p : Image) (t : Typing) (wired : IsWired p) (s : State) (w : WellTyped
   sends_well : (refused : Option Refusal) (name : ℕ) (words : List ℤ) → named s.cells name ≡ None → (k : Client) → client_at s.clients c ≡ k → WellTyped p t (sending p c s refused k name words)
   sends_well None name words free (Open server session slots) at =
       let there = server_there p c s good.tidy fit server (fit.listed server c (ap server_of at)) in
-      well _ refl refl (rw there.1 at (good_sent p t s.cells good there.0 there.2 there.3 c name free (the_message there.0.name) refl refl refl refl refl (none_named name (service_of s.cells there.0.name).queue (nobody p c s good.tidy fit there.0.name name free))))
+      well _ refl refl (rw there.1 at (good_sent p t s.cells good there.0 there.2 there.3 c name free (the_message there.0.name) refl refl refl refl refl
+      (none_named name (service_of s.cells there.0.name).queue (nobody p c s good.tidy fit there.0.name name free))))
     where
       the_message : ℕ → Cell
       the_message = sent_message c name words
@@ -72,7 +73,8 @@ module _ (p : Image) (t : Typing) (wired : IsWired p) (s : State) (w : WellTyped
       go : (k : Client) → client_at s.clients c ≡ k → Good p t (told p c s k (withdrawn c s.cells)) []
       go (Open server session slots) at =
           let there = server_there p c s good.tidy fit server (fit.listed server c (ap server_of at)) in
-          rw there.1 at (good_asked p t (withdrawn c s.cells) there.0 (server_stays p c s good.tidy fit waiting there.0 there.2 (fit.listed there.0.name c (ap server_of at ∙ ap (λ n. Some n) (sym there.1)))) (Close_of c) (λ m. refl) alone)
+          rw there.1 at (good_asked p t (withdrawn c s.cells) there.0 (server_stays p c s good.tidy fit waiting there.0 there.2
+          (fit.listed there.0.name c (ap server_of at ∙ ap (λ n. Some n) (sym there.1)))) (Close_of c) (λ m. refl) alone)
       go _ at = alone
 
   -- whatever is commanded

@@ -46,9 +46,8 @@ comes_same cs us asks serves = record {
 pub comes_moved : (cs : List Cell) (p q : Place) → NoneComes cs (moved p q cs)
 comes_moved cs p q = comes_same cs (moved p q cs) (requested_moved cs p q) (service_moved cs p q)
 
-comes_altered :
-    {change : List Cell → List Cell} (a : Alters change) → ((c : Cell) → (a.each c).request ≡ c.request) → ((c : Cell) → (a.each c).service ≡ c.service) → (cs : List Cell) →
-    NoneComes cs (change cs)
+comes_altered : {change : List Cell → List Cell} (a : Alters change) →
+    ((c : Cell) → (a.each c).request ≡ c.request) → ((c : Cell) → (a.each c).service ≡ c.service) → (cs : List Cell) → NoneComes cs (change cs)
 comes_altered {change = change} a asks serves cs = comes_same cs (change cs) (read_kept a requests asks cs) (read_kept a services serves cs)
 
 pub comes_opened : (cs : List Cell) (home : Home) (b : Bool) → NoneComes cs (resessioned cs home b)
@@ -131,9 +130,9 @@ comes_each_unslotted cs (c ∷ clients) = comes_then cs (all_unslotted c cs) (ea
 
 -- a server goes with what waits in its queue
 pub comes_gone : (cs : List Cell) → Tidy cs → (n : ℕ) (g : Place) (clients : List ℕ) → NoneComes cs (each_unslotted clients (without g (without_queue n cs)))
-comes_gone cs tidy n g clients =
-    comes_then cs (without g (without_queue n cs)) (each_unslotted clients (without g (without_queue n cs)))
-    (subst (λ l. NoneComes cs l) (sym (gone_so n g cs)) (comes_sifted (goes_with n g) (λ c. c.service) (λ c. refl) cs tidy)) (comes_each_unslotted (without g (without_queue n cs)) clients)
+comes_gone cs tidy n g clients = comes_then cs (without g (without_queue n cs)) (each_unslotted clients (without g (without_queue n cs)))
+    (subst (λ l. NoneComes cs l) (sym (gone_so n g cs)) (comes_sifted (goes_with n g) (λ c. c.service) (λ c. refl) cs tidy))
+    (comes_each_unslotted (without g (without_queue n cs)) clients)
 
 -- ---- a native is killed
 
@@ -144,8 +143,8 @@ waits_bereaved : (p : Image) (native : ℕ) (cs : List Cell) (n k : ℕ) → awa
 waits_bereaved p native [] n k e = e
 waits_bereaved p native (c ∷ cs) n k e = go (c.object.name == n) e (waits_bereaved p native cs n k)
   where
-    go :
-        (b : Bool) → awaited (cond b (cond (is_served_by p native c.object.thing) (terminated_request c.request) c.request) (requested (all_bereaved p native cs) n)) ≡ Some k →
+    go : (b : Bool) → awaited
+        (cond b (cond (is_served_by p native c.object.thing) (terminated_request c.request) c.request) (requested (all_bereaved p native cs) n)) ≡ Some k →
         (awaited (requested (all_bereaved p native cs) n) ≡ Some k → awaited (requested cs n) ≡ Some k) → awaited (cond b c.request (requested cs n)) ≡ Some k
     go true e rest = waits_terminated (is_served_by p native c.object.thing) c.request k e
     go false e rest = rest e

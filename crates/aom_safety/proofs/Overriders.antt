@@ -5,7 +5,8 @@ use Rattle.std.proofs.lemmas.Bool.{eqb-true}
 use Rattle.std.specs.Prelude.{IsSome, is_some}
 use Rattle.aom_image.proofs.Given.{some_given}
 use Rattle.aom_image.specs.Image.{Image}
-use Rattle.aom_image.specs.Views.{arguments_in, arguments_of, class_in, gives_in, gives_of, has, is_quiet, leaves, leaves_in, method_at, method_class, method_role, quiet_in, role_in}
+use Rattle.aom_image.specs.Views.{arguments_in, arguments_of, class_in, gives_in, gives_of, has, is_quiet, leaves}
+use Rattle.aom_image.specs.Views.{leaves_in, method_at, method_class, method_role, quiet_in, role_in}
 use Rattle.aom_image.specs.declared.method.Method.{Method}
 use Rattle.aom_image.specs.declared.method.Role.TheVariants.{Construct, Do}
 use Rattle.aom_classes.proofs.Facts.{all_there}
@@ -102,7 +103,8 @@ overrider_runs p wired m v k h e called x counts = record {
   quiet = λ q. ap quiet_in x.alike.there ∙ x.alike.asks.quiet (sym (ap quiet_in x.alike.named) ∙ q);
   before = grind (arith, nat_tests);
   after = grind (arith, nat_tests);
-  holder = subst (λ y. Houses p h y) (sym works) (subst (λ y. Houses p y (Member x.class)) (sym object.1) (houses_family p wired.family object.0 x.class (through p object.0 v x.class object.2 x.family)));
+  holder = subst (λ y. Houses p h y) (sym works) (subst
+      (λ y. Houses p y (Member x.class)) (sym object.1) (houses_family p wired.family object.0 x.class (through p object.0 v x.class object.2 x.family)));
   only = grind (arith, nat_tests, overrides_plainly p wired.overriders m k x.method e x.alike.named x.alike.there x.overrides, role);
   counts = record {
     some = λ c is. (v, refl);

@@ -13,7 +13,8 @@ use Rattle.aom_shape.specs.declared.kind.Filling.{Filling}
 use Rattle.aom_shape.specs.declared.kind.Filling.TheVariants.{Full, Perhaps}
 use Rattle.aom_shape.specs.declared.kind.Kind.{Kind}
 use Rattle.aom_shape.specs.declared.kind.Kind.TheVariants.{Maybe, Own}
-use Rattle.aom_safety.specs.Claims.{Dispatching, Dying, Ending, Form, Layer, Mark, Method, Unwinding, by_close, by_session, claim, declared, entry_claim, items_of, root_claim}
+use Rattle.aom_safety.specs.Claims.{Dispatching, Dying, Ending, Form, Layer, Mark, Method, Unwinding, by_close}
+use Rattle.aom_safety.specs.Claims.{by_session, claim, declared, entry_claim, items_of, root_claim}
 use Rattle.aom_semantics.specs.Objects.{is_no_message}
 use Rattle.aom_safety.proofs.Things.{stands_object}
 use Rattle.aom_semantics.specs.Places.{Cell, Elsewhere, Entry, Object, Place, Root, Session, Sight, held, seen}

@@ -1,6 +1,7 @@
 -- In a well-typed state each cell has one living owner, and following owners ends: by what the layers claim of the owner.
 use Rattle.std.proofs.lemmas.Bool.Decides.{nat_tests}
-use Rattle.std.proofs.Common.{Bool, List, None, Option, Some, [], ap, arith, cond, false, length, refl, subst, suc, sym, true, zero, ℕ, ⊎_elim, ◌+◌, ◌<◌, ◌==◌, ◌∙◌, ◌∷◌, ◌≡◌, ◌≤◌}
+use Rattle.std.proofs.Common.{Bool, List, None, Option, Some, [], ap, arith, cond, false, length, refl, subst}
+use Rattle.std.proofs.Common.{suc, sym, true, zero, ℕ, ⊎_elim, ◌+◌, ◌<◌, ◌==◌, ◌∙◌, ◌∷◌, ◌≡◌, ◌≤◌}
 use Rattle.aom_image.proofs.Given.{false_given, nil_given, some_given}
 use Rattle.std.proofs.lemmas.Bool.{cases_lt, eqb-true, ne_eqb}
 use Rattle.std.proofs.lemmas.Option.{slice_get_within}
@@ -24,10 +25,13 @@ use Rattle.aom_safety.proofs.Items.{length_forms}
 use Rattle.aom_semantics.proofs.Maps.{found, of_name, same_place-true, same_place_refl}
 use Rattle.aom_safety.proofs.Housing.{stands_session}
 use Rattle.aom_safety.proofs.Things.{serving_class, stands_message}
-use Rattle.aom_safety.specs.Claims.{own_field, Dispatching, Dying, Ending, Layer, Mark, Mark_form, Method, Object_form, Unwinding, by_close, by_stage, claim, delivered, serves, declared, entry_claim, form, forms, home_claim, is_of_root, items_of, objects, task_of, tasks_of}
+use Rattle.aom_safety.specs.Claims.{own_field, Dispatching, Dying, Ending, Layer, Mark, Mark_form, Method, Object_form, Unwinding, by_close, by_stage, claim}
+use Rattle.aom_safety.specs.Claims.{delivered, serves, declared, entry_claim, form, forms, home_claim, is_of_root, items_of, objects, task_of, tasks_of}
 use Rattle.aom_safety.specs.Laws.{EndsEmpty, EndsOwned, IsWired}
-use Rattle.aom_semantics.specs.Owned.{AllOwned, Ends, HasRegisters, HasService, IsObjects, Lives, NoneGoes, Owned, at_entry, at_register, at_root, at_service, by_cell, by_server, over}
-use Rattle.aom_semantics.specs.Places.{Cell, Elsewhere, Entry, Field, Going, Object, Place, Register, Root, Sight, Tidy, held, named, seen, service_of, Session, In_service, Queued}
+use Rattle.aom_semantics.specs.Owned.{AllOwned, Ends, HasRegisters, HasService, IsObjects, Lives, NoneGoes, Owned}
+use Rattle.aom_semantics.specs.Owned.{at_entry, at_register, at_root, at_service, by_cell, by_server, over}
+use Rattle.aom_semantics.specs.Places.{Cell, Elsewhere, Entry, Field, Going, Object, Place, Register, Root, Sight}
+use Rattle.aom_semantics.specs.Places.{Tidy, held, named, seen, service_of, Session, In_service, Queued}
 use Rattle.aom_safety.specs.Registers.{AllInRange, IsInRange}
 use Rattle.aom_semantics.specs.Servers.{has_message, has_session, message_thing, session_thing}
 use Rattle.aom_semantics.specs.State.{home_holder, AtRoot, Dispatch, Dispatched, Home, Inside, Item, State, Static, thing_holder}
@@ -58,8 +62,8 @@ later cs c q o t h = grind (arith, nat_tests, same_place-true c.owner q)
 
 -- a cell that is named is held somewhere
 pub named_held : (cs : List Cell) (n : ℕ) (o : Object) → Tidy cs → named cs n ≡ Some o → (q : Place) × (held cs q ≡ Some o)
-named_held cs n o t e = found (of_name n) o (λ cs. Tidy cs → (q : Place) × (held cs q ≡ Some o)) (λ c cs at is t. (c.owner, held_first c cs ∙ ap (λ x. Some x) is))
-    (λ c cs other e rest t. let w = rest t.2 in (w.0, later cs c w.0 o t w.1)) cs e t
+named_held cs n o t e = found (of_name n) o (λ cs. Tidy cs → (q : Place) × (held cs q ≡ Some o))
+    (λ c cs at is t. (c.owner, held_first c cs ∙ ap (λ x. Some x) is)) (λ c cs other e rest t. let w = rest t.2 in (w.0, later cs c w.0 o t w.1)) cs e t
 
 -- what is claimed to be filled is declared for a thing
 filled_thing : (k : Option Thing) (y : Filling) (x : Thing) → HasThing (filled k y) x → k ≡ Some x
@@ -74,20 +78,18 @@ below_null : (b : Bool) (k : Kind) (x : Thing) → HasThing (cond b Null k) x �
 below_null b k x h = false_given (λ b. HasThing (cond b Null k) x) b h (λ h. h) (λ _ h. h)
 
 -- what is declared of a field, by the cell that has it
-declared_thing_of :
-    (p : Image) (cs : List Cell) (n f : ℕ) (c : Thing) → HasThing (declared p cs (Field n f)) c → (o : Object) × (named cs n ≡ Some o) × (field_thing p (thing_holder o.thing) f ≡ Some c)
+declared_thing_of : (p : Image) (cs : List Cell) (n f : ℕ) (c : Thing) →
+    HasThing (declared p cs (Field n f)) c → (o : Object) × (named cs n ≡ Some o) × (field_thing p (thing_holder o.thing) f ≡ Some c)
 declared_thing_of p cs n f c h = grind (arith, nat_tests)
 
-pub field_thing_of :
-    (p : Image) (t : Typing) (cs : List Cell) (ls : List Layer) (back : Back) (n f : ℕ) (c : Thing) → Stack p t cs back ls → HasThing (claim p (declared p cs) ls (Field n f)) c →
-    (o : Object) × (named cs n ≡ Some o) × (field_thing p (thing_holder o.thing) f ≡ Some c)
+pub field_thing_of : (p : Image) (t : Typing) (cs : List Cell) (ls : List Layer) (back : Back) (n f : ℕ) (c : Thing) → Stack p t cs back ls →
+    HasThing (claim p (declared p cs) ls (Field n f)) c → (o : Object) × (named cs n ≡ Some o) × (field_thing p (thing_holder o.thing) f ≡ Some c)
 field_thing_of p t cs [] back n f c s h = declared_thing_of p cs n f c h
 field_thing_of p t cs (Method fr sh ∷ ls) back n f c s h = go fr.home s.1.holder s.2 (field_thing_of p t cs ls (Returns fr.method fr.home) n f c s.4) h
   where
-    go :
-        (home : Home) → Houses p (home_holder home) (holder_of p fr.method) → IsHoused p cs ls home →
-        (HasThing (claim p (declared p cs) ls (Field n f)) c → (o : Object) × (named cs n ≡ Some o) × (field_thing p (thing_holder o.thing) f ≡ Some c)) →
-        HasThing (home_claim p (holder_of p fr.method) home sh n f (claim p (declared p cs) ls (Field n f))) c → (o : Object) × (named cs n ≡ Some o) × (field_thing p (thing_holder o.thing) f ≡ Some c)
+    go : (home : Home) → Houses p (home_holder home) (holder_of p fr.method) → IsHoused p cs ls home → (HasThing (claim p (declared p cs) ls (Field n f)) c →
+        (o : Object) × (named cs n ≡ Some o) × (field_thing p (thing_holder o.thing) f ≡ Some c)) → HasThing (home_claim p (holder_of p fr.method) home sh n f
+        (claim p (declared p cs) ls (Field n f))) c → (o : Object) × (named cs n ≡ Some o) × (field_thing p (thing_holder o.thing) f ≡ Some c)
     go Static houses hs ih h = ih h
     go AtRoot houses hs ih h = ih h
     go (Inside o from) houses hs ih h = inside (o.name == n) refl (field_thing p (holder_of p fr.method) f) refl h
@@ -145,9 +147,8 @@ served_below ls h = grind arith
 by_stage_serves : (d : Dispatch) (ls : List Layer) (k : Kind) (x : Thing) → (HasThing k x → ⊥) → HasThing (by_stage d k) x → HasService (Dispatched d ∷ tasks_of ls)
 by_stage_serves x ls k y none h = grind arith
 
-pub service_lives :
-    (p : Image) (t : Typing) (cs : List Cell) (ls : List Layer) (back : Back) (x : Thing) → Stack p t cs back ls → HasThing (claim p (declared p cs) ls (Elsewhere In_service)) x →
-    HasService (tasks_of ls)
+pub service_lives : (p : Image) (t : Typing) (cs : List Cell) (ls : List Layer) (back : Back) (x : Thing) →
+    Stack p t cs back ls → HasThing (claim p (declared p cs) ls (Elsewhere In_service)) x → HasService (tasks_of ls)
 service_lives p t cs [] back x s h = absurd h
 service_lives p t cs (Method fr sh ∷ ls) back x s h = go (serves p fr.method) refl (service_lives p t cs ls (Returns fr.method fr.home) x s.4) h
   where

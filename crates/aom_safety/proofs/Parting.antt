@@ -9,7 +9,8 @@ use Rattle.aom_rules.specs.Typing.{Typing}
 use Rattle.aom_shape.specs.declared.kind.Kind.{Kind}
 use Rattle.aom_shape.specs.declared.kind.Kind.TheVariants.{Null}
 use Rattle.aom_safety.proofs.Claimed.{fits_age}
-use Rattle.aom_safety.proofs.Dropping.{declared_dropped, dropped, fits_dropped, held_dropped, is_sent, place_dropped, stack_dropped, suits_dropped, tidy_dropped}
+use Rattle.aom_safety.proofs.Dropping.{declared_dropped, dropped, fits_dropped, held_dropped, is_sent}
+use Rattle.aom_safety.proofs.Dropping.{place_dropped, stack_dropped, suits_dropped, tidy_dropped}
 use Rattle.aom_semantics.proofs.Maps.{same_place-true}
 use Rattle.aom_safety.proofs.Services.{held_served, named_served, requested_served, service_here, service_there, sits_lives, tidy_served}
 use Rattle.aom_safety.proofs.Things.{stands_message}
@@ -65,8 +66,8 @@ module _ (p : Image) (t : Typing) (s : State) (x : Seat) (client : ℕ) (seats :
     left = dropped goes s.cells
 
     left_good : Good p t left (Dispatching (Of_object x) seats ∷ [])
-    left_good =
-        let stack = stack_dropped goes p s.cells good.tidy goes_message goes_sent t (Dispatching (Of_server x client (Service_left code)) seats ∷ []) Now good.stack in
+    left_good = let stack =
+        stack_dropped goes p s.cells good.tidy goes_message goes_sent t (Dispatching (Of_server x client (Service_left code)) seats ∷ []) Now good.stack in
         record {
           stack = (tt, refl, stack.2, stack.3, tt);
           fits = fits;

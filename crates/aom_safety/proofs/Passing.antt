@@ -1,6 +1,7 @@
 -- The arguments of a call go over to the method called, one after the other.
 use Rattle.std.proofs.lemmas.Bool.Decides.{nat_tests}
-use Rattle.std.proofs.Common.{Bool, List, None, Option, [], ap, append-nil, append_assoc, arith, cond, false, length, refl, subst, suc, sym, true, ℕ, ℤ, ◌<◌, ◌==◌, ◌∙◌, ◌∷◌, ◌≡◌}
+use Rattle.std.proofs.Common.{Bool, List, None, Option, [], ap, append-nil, append_assoc, arith, cond, false}
+use Rattle.std.proofs.Common.{length, refl, subst, suc, sym, true, ℕ, ℤ, ◌<◌, ◌==◌, ◌∙◌, ◌∷◌, ◌≡◌}
 use Rattle.std.proofs.lemmas.Bool.{eq-eqb, eqb-true, ne_eqb}
 use Rattle.std.specs.Prelude.{map, ◌++◌}
 use Rattle.aom_image.specs.Image.{Image}
@@ -104,11 +105,10 @@ module _ (p : Image) (t : Typing) (fr : Frame) (ls : List Layer) (depth : ℕ) (
   over : (d : Place → Kind) (sh : Shape) (regs : List Kind) (v : Kind) (r : Place) → filling d (regs ++ v ∷ []) sh r ≡ changed (filling d regs sh) (upper (length regs)) v r
   over d sh regs v r = grind (arith, nat_tests, put_at_end Unset regs v, at-put_at Unset regs)
 
-  given_more :
-      (regs : List Kind) (ws : List (Option ℤ)) (k : Kind) (w : Option ℤ) → length ws ≡ length regs → ((i : ℕ) → WordFits (at None ws i) (at Unset regs i)) → WordFits w k → (i : ℕ) →
-      WordFits (at None (ws ++ w ∷ []) i) (at Unset (regs ++ k ∷ []) i)
-  given_more regs ws k w even given new i =
-      rw (put_at_end Unset regs k) at (rw (ap (λ n. put_at None ws n w) (sym even) ∙ put_at_end None ws w) at (words_set ws (taken regs) (length regs) w k given new i))
+  given_more : (regs : List Kind) (ws : List (Option ℤ)) (k : Kind) (w : Option ℤ) → length ws ≡ length regs →
+      ((i : ℕ) → WordFits (at None ws i) (at Unset regs i)) → WordFits w k → (i : ℕ) → WordFits (at None (ws ++ w ∷ []) i) (at Unset (regs ++ k ∷ []) i)
+  given_more regs ws k w even given new i = rw (put_at_end Unset regs k) at (rw
+      (ap (λ n. put_at None ws n w) (sym even) ∙ put_at_end None ws w) at (words_set ws (taken regs) (length regs) w k given new i))
 
   even_more : (regs : List Kind) (ws : List (Option ℤ)) (k : Kind) (w : Option ℤ) → length ws ≡ length regs → length (ws ++ w ∷ []) ≡ length (regs ++ k ∷ [])
   even_more regs ws k w even = length_more ws w ∙ ap suc even ∙ sym (length_more regs k)
@@ -130,12 +130,12 @@ module _ (p : Image) (t : Typing) (fr : Frame) (ls : List Layer) (depth : ℕ) (
       go r x e = grind (arith, nat_tests, same_place-true, next_free cs sh regs ws g)
 
   -- an object moves
-  object_passed :
-      (cs : List Cell) (sh : Shape) (regs : List Kind) (ws : List (Option ℤ)) (a : ℕ) (k : Kind) → register sh a ≡ k → is_object_or_null k ≡ true → Passed cs sh regs ws →
-      Passed (moved (lower a) (upper (length regs)) cs) (set_register sh a Null) (regs ++ k ∷ []) (ws ++ None ∷ [])
+  object_passed : (cs : List Cell) (sh : Shape) (regs : List Kind) (ws : List (Option ℤ)) (a : ℕ) (k : Kind) → register sh a ≡ k → is_object_or_null k ≡ true →
+      Passed cs sh regs ws → Passed (moved (lower a) (upper (length regs)) cs) (set_register sh a Null) (regs ++ k ∷ []) (ws ++ None ∷ [])
   object_passed cs sh regs ws a k here object g = record {
     fits = λ r. subst (λ d. Fits p (seen cs') (held cs' r) (filling d (regs ++ k ∷ []) (set_register sh a Null) r)) (sym (declared_moved p cs q to))
-        (keep_fits p (seen cs) (seen cs') before (filling (declared p cs) (regs ++ k ∷ []) (set_register sh a Null)) q to (λ r. held_moved cs q to r free) (requested_moved cs q to) claims (λ r x e f j. refl) g.fits r);
+        (keep_fits p (seen cs) (seen cs') before (filling (declared p cs) (regs ++ k ∷ []) (set_register sh a Null)) q to
+        (λ r. held_moved cs q to r free) (requested_moved cs q to) claims (λ r x e f j. refl) g.fits r);
     suits = all_moved p cs q to (Method fr sh ∷ ls) g.suits;
     tidy = tidy_moved cs q to free g.tidy;
     words = words_null fr.words sh a g.words (word_of_object (word fr a) (register sh a) (ap is_object_or_null here ∙ object) (g.words a));
@@ -170,9 +170,8 @@ module _ (p : Image) (t : Typing) (fr : Frame) (ls : List Layer) (depth : ℕ) (
           ∙ ap (λ x. changed (changed before q Null) to x r) (sym at_source)
 
   -- the last register is taken for another kind
-  wider_passed :
-      (cs : List Cell) (sh : Shape) (regs : List Kind) (ws : List (Option ℤ)) (k v : Kind) → Widens p k v → length ws ≡ length regs → ((i : ℕ) → WordFits (at None ws i) (at Unset regs i)) →
-      Passed cs sh (regs ++ k ∷ []) (ws ++ None ∷ []) → Passed cs sh (regs ++ v ∷ []) (ws ++ None ∷ [])
+  wider_passed : (cs : List Cell) (sh : Shape) (regs : List Kind) (ws : List (Option ℤ)) (k v : Kind) → Widens p k v → length ws ≡ length regs →
+      ((i : ℕ) → WordFits (at None ws i) (at Unset regs i)) → Passed cs sh (regs ++ k ∷ []) (ws ++ None ∷ []) → Passed cs sh (regs ++ v ∷ []) (ws ++ None ∷ [])
   wider_passed cs sh regs ws k v wide even given g = record {
     fits = grind (arith, nat_tests, over);
     suits = g.suits;
@@ -195,10 +194,9 @@ module _ (p : Image) (t : Typing) (fr : Frame) (ls : List Layer) (depth : ℕ) (
   each_kept (x ∷ xs) sh a j lt h = grind (arith, nat_tests, all_parts, at-put_at Unset sh.registers a j Null, ne_eqb a j, all_join, each_kept xs sh a)
 
   -- all of them
-  pub all_passed :
-      (ts : State) (xs : List Argument) (first to : ℕ) (cs : List Cell) (sh : Shape) (regs : List Kind) (ws : List (Option ℤ)) → to ≡ length regs → AllTrue (each_argument p sh xs first) →
-      Passed cs sh regs ws
-      → Passed (passed_cells p fr (tasks_of ls) ts depth xs first to cs) (arguments_moved xs first sh) (regs ++ map argument_kind xs) (ws ++ passed_words p fr (tasks_of ls) ts xs first)
+  pub all_passed : (ts : State) (xs : List Argument) (first to : ℕ) (cs : List Cell) (sh : Shape) (regs : List Kind) (ws : List (Option ℤ)) →
+      to ≡ length regs → AllTrue (each_argument p sh xs first) → Passed cs sh regs ws → Passed (passed_cells p fr (tasks_of ls) ts depth xs first to cs)
+      (arguments_moved xs first sh) (regs ++ map argument_kind xs) (ws ++ passed_words p fr (tasks_of ls) ts xs first)
   all_passed s [] first to cs sh regs ws e n g = rw (append-nil ws) (rw (append-nil regs) g)
   all_passed s (Takes_word ∷ xs) first to cs sh regs ws e n g =
       let new : WordFits (word fr first) Word = (word_is p s (word fr first) (register sh first) n.0 (g.words first)).1 in
@@ -210,7 +208,8 @@ module _ (p : Image) (t : Typing) (fr : Frame) (ls : List Layer) (depth : ℕ) (
       let cs' = moved (lower first) (upper to) cs in
       let sh' = set_register sh first Null in
       let one : Passed cs' sh' (regs ++ Own x Ready ∷ []) (ws ++ None ∷ []) =
-      rw e (wider_passed (moved (lower first) (upper (length regs)) cs) sh' regs ws (register sh first) (Own x Ready) k g.even g.given (object_passed cs sh regs ws first (register sh first) refl k.object g)) in
+      rw e (wider_passed (moved (lower first) (upper (length regs)) cs) sh' regs ws
+      (register sh first) (Own x Ready) k g.even g.given (object_passed cs sh regs ws first (register sh first) refl k.object g)) in
       let rest =
       all_passed s xs (suc first) (suc to) cs' sh' (regs ++ Own x Ready ∷ []) (ws ++ None ∷ []) (ap suc e ∙ sym (length_more regs (Own x Ready)))
       (each_kept xs sh first (suc first) (omega arith) n.1.1) one in

@@ -16,7 +16,8 @@ use Rattle.aom_safety.specs.Claims.{Dispatching, Layer, claim, declared, forms}
 use Rattle.aom_semantics.specs.Clients.{client_at}
 use Rattle.aom_safety.specs.Kept.{ClientsFit, QueueFits}
 use Rattle.aom_safety.specs.Laws.{IsWired}
-use Rattle.aom_semantics.specs.Places.{Asked, Cell, Close_of, Elsewhere, Going, Object, Place, Request, Session, changed, held, moved, named, requested, seen, service_of}
+use Rattle.aom_semantics.specs.Places.{Asked, Cell, Close_of, Elsewhere, Going, Object, Place, Request, Session}
+use Rattle.aom_semantics.specs.Places.{changed, held, moved, named, requested, seen, service_of}
 use Rattle.aom_semantics.specs.Servers.{has_session, is_server, reserved, taken_first}
 use Rattle.aom_semantics.specs.State.{Dispatched, Of_server, Parts, Seat, State}
 use Rattle.aom_semantics.specs.Destruction.{begun}
@@ -24,7 +25,8 @@ use Rattle.aom_safety.specs.WellTyped.{AllSit, AllUndo, Fits, Keeps, SitsIn, Som
 use Rattle.aom_semantics.specs.World.{parting_with, taken_from}
 
 module _ (p : Image) (t : Typing) (wired : IsWired p) (typed : IsTyped p t) (s : State) (w : WellTyped p t s) (idle_now : s.tasks ≡ []) (fit : ClientsFit p s.clients s.cells)
-    (x : Seat) (r : Request) (there : held s.cells x.place ≡ Some x.object) (lives : named s.cells x.object.name ≡ Some x.object) (asked : requested s.cells x.object.name ≡ Some r) (server : is_server p x.object.thing ≡ true)
+    (x : Seat) (r : Request) (there : held s.cells x.place ≡ Some x.object)
+    (lives : named s.cells x.object.name ≡ Some x.object) (asked : requested s.cells x.object.name ≡ Some r) (server : is_server p x.object.thing ≡ true)
     (client : ℕ) (es : List Asked) (queue : (service_of s.cells x.object.name).queue ≡ Close_of client ∷ es) where
   abbrev n : ℕ
   n = x.object.name

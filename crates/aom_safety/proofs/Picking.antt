@@ -1,6 +1,7 @@
 -- A server is picked: its `accept` or the `service` of a session enters over the dispatch.
 use Rattle.std.proofs.lemmas.Bool.Decides.{nat_tests}
-use Rattle.std.proofs.Common.{Bool, List, None, Option, Some, [], ap, arith, cond, false, inl, inr, length, refl, subst, sym, true, ℕ, ℤ, ◌&&◌, ◌<◌, ◌==◌, ◌∙◌, ◌∷◌, ◌≡◌}
+use Rattle.std.proofs.Common.{Bool, List, None, Option, Some, [], ap, arith, cond, false, inl, inr}
+use Rattle.std.proofs.Common.{length, refl, subst, sym, true, ℕ, ℤ, ◌&&◌, ◌<◌, ◌==◌, ◌∙◌, ◌∷◌, ◌≡◌}
 use Rattle.std.proofs.lemmas.Bool.{eq-eqb, eqb-true, true≢false, and_parts}
 use Rattle.std.specs.List.{list_any}
 use Rattle.std.specs.Prelude.{is_some, map, replicate, ◌||◌}
@@ -45,9 +46,11 @@ use Rattle.aom_semantics.specs.Clients.{client_at}
 use Rattle.aom_semantics.specs.Enlisted.{part_of}
 use Rattle.aom_safety.specs.Kept.{ClientsFit, QueueFits}
 use Rattle.aom_safety.specs.Laws.{IsAcceptor, IsAttendant, IsWired}
-use Rattle.aom_semantics.specs.Places.{Asked, Cell, Connect_of, Elsewhere, Field, In_service, Message_of, Object, Place, Queued, Request, Session, Sight, Tidy, held, moved, named, requested, seen, service_of}
+use Rattle.aom_semantics.specs.Places.{Asked, Cell, Connect_of, Elsewhere, Field, In_service, Message_of, Object, Place, Queued}
+use Rattle.aom_semantics.specs.Places.{Request, Session, Sight, Tidy, held, moved, named, requested, seen, service_of}
 use Rattle.aom_safety.specs.Requests.{Known, Suits, resting_in, rests_in, thing_kind}
-use Rattle.aom_semantics.specs.Servers.{has_message, has_session, is_message, is_server, of_class, session_class, message_thing, reserved, rest_of, session_thing, taken_first}
+use Rattle.aom_semantics.specs.Servers.{has_message, has_session, is_message, is_server, of_class, session_class}
+use Rattle.aom_semantics.specs.Servers.{message_thing, reserved, rest_of, session_thing, taken_first}
 use Rattle.aom_semantics.specs.State.{A_mark, Accepts, Inside, Of_server, Serves, Seat, State, frame_of, thing_holder}
 use Rattle.aom_safety.specs.WellTyped.{AllSit, Fits, Good, Keeps, SitsIn, SomeSits, WellTyped, WordFits}
 use Rattle.aom_semantics.specs.World.{accepting, attended, message_words, serving, taken_from}
@@ -81,7 +84,8 @@ pub plain_message : (d : Place → Kind) (r : Place) → with_message false d r 
 plain_message d x = grind arith
 
 module _ (p : Image) (t : Typing) (wired : IsWired p) (typed : IsTyped p t) (s : State) (w : WellTyped p t s) (idle_now : s.tasks ≡ []) (fit : ClientsFit p s.clients s.cells)
-    (x : Seat) (r : Request) (there : held s.cells x.place ≡ Some x.object) (lives : named s.cells x.object.name ≡ Some x.object) (asked : requested s.cells x.object.name ≡ Some r) (server : is_server p x.object.thing ≡ true) where
+    (x : Seat) (r : Request) (there : held s.cells x.place ≡ Some x.object) (lives : named s.cells x.object.name ≡ Some x.object)
+    (asked : requested s.cells x.object.name ≡ Some r) (server : is_server p x.object.thing ≡ true) where
   abbrev n : ℕ
   n = x.object.name
 
@@ -202,7 +206,8 @@ module _ (p : Image) (t : Typing) (wired : IsWired p) (typed : IsTyped p t) (s :
     then = serving x client Accepts (frame_of its_method.0 (Inside x.object x.place) (length (A_mark ∷ s.items))) (taken_from n s)
 
     accept_well : WellTyped p t then
-    accept_well = enters p t typed cs x above over its_method.0 [] entering then (length (A_mark ∷ s.items)) (ap (λ is. length (A_mark ∷ is)) no_items) refl refl (ap (λ is. forms (A_mark ∷ is)) no_items) w.undos
+    accept_well = enters p t typed cs x above over its_method.0 [] entering then
+        (length (A_mark ∷ s.items)) (ap (λ is. length (A_mark ∷ is)) no_items) refl refl (ap (λ is. forms (A_mark ∷ is)) no_items) w.undos
 
     pub accepts_well : Keeps p t (accepting (part_of p Accepts_role x.object.thing) x client (taken_from n s))
     accepts_well = subst (λ h. Keeps p t (accepting h x client (taken_from n s))) (sym its_method.1) accept_well
@@ -216,7 +221,8 @@ module _ (p : Image) (t : Typing) (wired : IsWired p) (typed : IsTyped p t) (s :
 
     pub its_session : (z : Object) × (held s.cells (Elsewhere (Session n client)) ≡ Some z) × (stands_for p z.thing (An_object_of its_class.1) ≡ true)
     its_session = own_held p (seen s.cells) (held s.cells (Elsewhere (Session n client))) (An_object_of its_class.1)
-        (rw (ap (λ b. cond b (filled (session_thing p (named s.cells n)) Full) Null) has_now ∙ ap (λ y. filled (session_thing p y) Full) lives ∙ ap (λ y. filled y Full) session_now) at (good.fits (Elsewhere (Session n client))))
+        (rw (ap (λ b. cond b (filled (session_thing p (named s.cells n)) Full) Null) has_now
+        ∙ ap (λ y. filled (session_thing p y) Full) lives ∙ ap (λ y. filled y Full) session_now) at (good.fits (Elsewhere (Session n client))))
 
     pub session_is : its_session.0.thing ≡ An_object_of its_class.1
     session_is = stands_session p wired.family its_class.0 its_class.1 its_class.3 its_session.0.thing its_session.2
@@ -261,7 +267,8 @@ module _ (p : Image) (t : Typing) (wired : IsWired p) (typed : IsTyped p t) (s :
 
     its_message : (y : Object) × (held s.cells (Elsewhere (Queued n m)) ≡ Some y) × (stands_for p y.thing Message ≡ true)
     its_message = own_held p (seen s.cells) (held s.cells (Elsewhere (Queued n m))) Message
-        (rw (ap (λ b. cond b (filled (message_thing p (named s.cells n)) Full) Null) waits ∙ ap (λ y. filled (message_thing p y) Full) lives ∙ ap (λ y. filled y Full) message_now) at (good.fits (Elsewhere (Queued n m))))
+        (rw (ap (λ b. cond b (filled (message_thing p (named s.cells n)) Full) Null) waits
+        ∙ ap (λ y. filled (message_thing p y) Full) lives ∙ ap (λ y. filled y Full) message_now) at (good.fits (Elsewhere (Queued n m))))
 
     -- ---- the cells as it is served
 
@@ -275,9 +282,9 @@ module _ (p : Image) (t : Typing) (wired : IsWired p) (typed : IsTyped p t) (s :
     held_served_so q = held_moved cs (Elsewhere (Queued n m)) (Elsewhere In_service) q free
 
     messages_other : (i j : ℕ) → ((n == i) && (m == j)) ≡ false → has_message (service_of cs i) j ≡ has_message (service_of s.cells i) j
-    messages_other i j = by_server s.cells x.object lives taken_first (λ i v. ((n == i) && (m == j)) ≡ false → has_message v j ≡ has_message (service_of s.cells i) j)
-        (λ other. ap (λ q. list_any (λ e. is_message j e) (rest_of q)) queue ∙ sym (grind (arith, nat_tests, eq-eqb)))
-        (λ i other same. refl) i
+    messages_other i j =
+        by_server s.cells x.object lives taken_first (λ i v. ((n == i) && (m == j)) ≡ false → has_message v j ≡ has_message (service_of s.cells i) j)
+        (λ other. ap (λ q. list_any (λ e. is_message j e) (rest_of q)) queue ∙ sym (grind (arith, nat_tests, eq-eqb))) (λ i other same. refl) i
 
     none_twice : has_message (service_of cs n) m ≡ false
     none_twice = grind (arith, nat_tests, service_here s.cells)
@@ -309,7 +316,8 @@ module _ (p : Image) (t : Typing) (wired : IsWired p) (typed : IsTyped p t) (s :
             subst (λ y. Fits p (seen served) y (declared p served (Elsewhere (Queued i j)))) (sym (now ∙ ap (λ b. cond b None (held cs (Elsewhere (Queued i j)))) e))
             (subst (λ k. Fits p (seen served) None k) (sym (kind ∙ ap (λ b. cond b (filled (message_thing p (named cs i)) Full) Null) none)) tt)
         go false e = there_still (Elsewhere (Queued i j)) (now ∙ ap (λ b. cond b None (held cs (Elsewhere (Queued i j)))) e)
-            (ap (λ b. cond b (filled (message_thing p (named cs i)) Full) Null) (messages_other i j e) ∙ ap (λ y. cond (has_message (service_of s.cells i) j) (filled (message_thing p y) Full) Null) (named_now i))
+            (ap (λ b. cond b (filled (message_thing p (named cs i)) Full) Null) (messages_other i j e)
+            ∙ ap (λ y. cond (has_message (service_of s.cells i) j) (filled (message_thing p y) Full) Null) (named_now i))
     fits_served r = there_still r (held_served_so r) refl
 
     named_served_so : (i : ℕ) → named served i ≡ named s.cells i
@@ -380,7 +388,8 @@ module _ (p : Image) (t : Typing) (wired : IsWired p) (typed : IsTyped p t) (s :
       stack = ((service.gives, tt, ap is_cancel service.role), (refl, refl, sits_served (x ∷ above) sits_now, (ap is_some (requested_served_so n ∙ asked), above, refl), (server, has_served)));
       fits = fits_served;
       own = subst (λ y. Suits (thing_kind p y) (resting_in (before_of p its_service.0)) (requested served z.name)) (sym z_thing)
-          (suits_session p its_class.1 (before_of p its_service.0) (resting_in (rests_in p z)) (requested served z.name) service.session (grind (arith, nat_tests, z_thing, suits_served, named_served_so, z_lives)));
+          (suits_session p its_class.1 (before_of p its_service.0) (resting_in (rests_in p z))
+          (requested served z.name) service.session (grind (arith, nat_tests, z_thing, suits_served, named_served_so, z_lives)));
       others = λ y there other. suits_served y there;
       tidy = tidy_moved cs (Elsewhere (Queued n m)) (Elsewhere In_service) free tidy_now;
       sits = sits_all;
@@ -401,7 +410,8 @@ module _ (p : Image) (t : Typing) (wired : IsWired p) (typed : IsTyped p t) (s :
         (record (taken_from n s) { cells = served })
 
     service_well : WellTyped p t state_served
-    service_well = enters p t typed served seat (x ∷ above) served_over its_service.0 words entering_service state_served (length (A_mark ∷ s.items)) (ap (λ is. length (A_mark ∷ is)) no_items) refl refl (ap (λ is. forms (A_mark ∷ is)) no_items) w.undos
+    service_well = enters p t typed served seat (x ∷ above) served_over its_service.0 words entering_service state_served
+        (length (A_mark ∷ s.items)) (ap (λ is. length (A_mark ∷ is)) no_items) refl refl (ap (λ is. forms (A_mark ∷ is)) no_items) w.undos
 
     pub attends_well : Keeps p t (attended p x client (held s.cells (Elsewhere (Session n client))) m (taken_from n s))
     attends_well = grind (arith, nat_tests, service_well)

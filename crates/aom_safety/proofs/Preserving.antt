@@ -17,10 +17,13 @@ use Rattle.aom_semantics.specs.Calls.{below_top, entered, received, returned}
 use Rattle.aom_semantics.specs.Cleanup.{code_told, has_trap, operation_frame, to_trap}
 use Rattle.aom_classes.specs.Roles.{role_of}
 use Rattle.aom_semantics.specs.Destruction.{destructor_frame, line_on, destructed, parting, begun}
-use Rattle.aom_semantics.specs.Effects.{Cancels, Counts, Destroys, Destroys_last, Effect, Goes_on, Jumps, Leaves, Operates, Repeats, Returns, applied, with_words}
+use Rattle.aom_semantics.specs.Effects.{Cancels, Counts, Destroys, Destroys_last, Effect, Goes_on, Jumps}
+use Rattle.aom_semantics.specs.Effects.{Leaves, Operates, Repeats, Returns, applied, with_words}
 use Rattle.aom_semantics.specs.Moves.{answered, asking, counted, dispatch_ends, error_frame, handled, main_ends, needs, object_ends, step}
 use Rattle.aom_semantics.specs.Places.{Elsewhere, Object, Root, held}
-use Rattle.aom_semantics.specs.State.{Home, Of_server, Accepts, Serves, Parts, A_mark, An_operation, Choice, Destroy, Dispatch, Dispatched, Frame, Goes, Inside, Item, Asks, Of_object, Run, Seat, State, Task, Trapped, Unwind, counter, frame_as, frame_of, next, resumed, set_counter, to_place}
+use Rattle.aom_semantics.specs.State.{Home, Of_server, Accepts, Serves, Parts, A_mark, An_operation, Choice, Destroy, Dispatch}
+use Rattle.aom_semantics.specs.State.{Dispatched, Frame, Goes, Inside, Item, Asks, Of_object, Run, Seat, State, Task, Trapped}
+use Rattle.aom_semantics.specs.State.{Unwind, counter, frame_as, frame_of, next, resumed, set_counter, to_place}
 use Rattle.aom_safety.specs.Steps.{Empties, Acts, Arrives, Clears, Comes_out, Ends, Fits, IsStraight, Move, Rests, Sets, Undoes, Vanishes}
 use Rattle.aom_safety.specs.Tasks.{Below, Holds, TaskLaw}
 use Rattle.aom_semantics.specs.World.{heard_one, Heard, Environment, turn}
@@ -57,16 +60,16 @@ pub record Kept (p : Image) (c : Choice) (l : TaskLaw) (s : State) : Type 0 wher
   pub unwinds : (code : ℤ) (ts : List Task) → l.Stands ts → l.Unwinds code (Trapped ∷ ts)
 
 -- a result, and a code, change words alone
-pub receives :
-    (p : Image) (fr : Frame) (ts : List Task) (v : State) (g : Gives) (a x : ℕ) (caller : Frame) → received p fr ts v g a x caller ≡ with_words caller (received p fr ts v g a x caller).words
+pub receives : (p : Image) (fr : Frame) (ts : List Task) (v : State) (g : Gives) (a x : ℕ) (caller : Frame) →
+    received p fr ts v g a x caller ≡ with_words caller (received p fr ts v g a x caller).words
 receives p fr ts v x a y caller = grind arith
 
 pub told : (g : Gives) (x : ℕ) (code : ℤ) (fr : Frame) → code_told g x code fr ≡ with_words fr (code_told g x code fr).words
 told x y code fr = grind arith
 
 -- a destruction begins
-module _ (p : Image) (l : TaskLaw)
-    (destructs : (o : Object) (x m height : ℕ) (ts : List Task) → role_of p x Destruct ≡ Some m → l.Runs (destructor_frame p m o (length ts) height) (Destroy ∷ ts)) where
+module _ (p : Image) (l : TaskLaw) (destructs : (o : Object) (x m height : ℕ) (ts : List Task) →
+    role_of p x Destruct ≡ Some m → l.Runs (destructor_frame p m o (length ts) height) (Destroy ∷ ts)) where
   destructed_holds : (o : Object) (height : ℕ) (ts : List Task) → Below l ts → Holds l (destructed p o height ts)
   destructed_holds o height ts b = grind (arith, nat_tests, destroyed, destructs)
 
@@ -154,11 +157,10 @@ pub keeps : (p : Image) (c : Choice) (l : TaskLaw) (s u : State) → Kept p c l 
 keeps p c l s u k h e = kept p c l s k u h (steps_are_moves p c s u e)
 
 -- a turn keeps it, where it holds of each method that is dispatched and of each destructor
-pub turn_keeps_it :
-    (p : Image) (outside : Environment) (heard : Heard) (l : TaskLaw) (s u : State) →
-    ((m height : ℕ) (home : Home) (words : List (Option ℤ)) (d : Dispatch) → l.Runs (record (frame_of m home height) { words = words }) (Trapped ∷ Dispatched d ∷ [])) → ((d : Dispatch) → l.Stands (Dispatched d ∷ [])) →
-    ((o : Object) (x m height : ℕ) (ts : List Task) → role_of p x Destruct ≡ Some m → l.Runs (destructor_frame p m o (length ts) height) (Destroy ∷ ts)) →
-    Holds l s.tasks → turn p outside heard s ≡ Goes u → Holds l u.tasks
+pub turn_keeps_it : (p : Image) (outside : Environment) (heard : Heard) (l : TaskLaw) (s u : State) → ((m height : ℕ)
+    (home : Home) (words : List (Option ℤ)) (d : Dispatch) → l.Runs (record (frame_of m home height) { words = words }) (Trapped ∷ Dispatched d ∷ [])) →
+    ((d : Dispatch) → l.Stands (Dispatched d ∷ [])) → ((o : Object) (x m height : ℕ) (ts : List Task) → role_of p x Destruct ≡ Some m →
+    l.Runs (destructor_frame p m o (length ts) height) (Destroy ∷ ts)) → Holds l s.tasks → turn p outside heard s ≡ Goes u → Holds l u.tasks
 turn_keeps_it p outside heard l s u runs stands destructs h e = elim (turns_so p outside heard s u e) as (λ v d. Holds l v.tasks) [
   | keeps_all r ↦ h
   | completes code o r other ↦ h

@@ -32,8 +32,8 @@ is_of c e = c == client_of e
 -- ---- tests of queues
 
 -- none passes where none can
-pub none_passes :
-    (test : Asked → Bool) (clients : List Client) (n : ℕ) → ((e : Asked) → test e ≡ true → EntryFits clients n e → ⊥) → (es : List Asked) → QueueFits clients n es → list_any test es ≡ false
+pub none_passes : (test : Asked → Bool) (clients : List Client) (n : ℕ) →
+    ((e : Asked) → test e ≡ true → EntryFits clients n e → ⊥) → (es : List Asked) → QueueFits clients n es → list_any test es ≡ false
 none_passes test clients n never [] fits = refl
 none_passes test clients n never (e ∷ es) fits = grind (arith, nat_tests, none_passes test clients n never es fits.1)
 
@@ -65,7 +65,7 @@ queue_stays clients n stays [] fits = tt
 queue_stays clients n stays (e ∷ es) fits = grind (arith, nat_tests, queue_stays clients n stays es fits.1, none_stays)
 
 -- something is asked last
-pub queue_last :
-    (clients : List Client) (n : ℕ) (x : Asked) (es : List Asked) → EntryFits clients n x → list_any (asked_again x) es ≡ false → QueueFits clients n es → QueueFits clients n (es ++ x ∷ [])
+pub queue_last : (clients : List Client) (n : ℕ) (x : Asked) (es : List Asked) →
+    EntryFits clients n x → list_any (asked_again x) es ≡ false → QueueFits clients n es → QueueFits clients n (es ++ x ∷ [])
 queue_last clients n x [] own none fits = ((own, refl), tt)
 queue_last clients n x (e ∷ es) own none fits = grind (arith, nat_tests, or_parts, list_any-append, again_swap x e, queue_last clients n x es own)

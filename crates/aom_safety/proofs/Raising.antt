@@ -41,15 +41,14 @@ is_that_one m x e = grind (arith, nat_tests, eqb-true)
 module _ (p : Image) (t : Typing) (wired : IsWired p) (s : State) (fr : Frame) (sh : Shape) (ls : List Layer) (at_hand : At p t s fr sh ls) where
   -- what the parent of the method's class declares, the method's class declares
   inherited : (y e f : ℕ) (x : Thing) → method_class p fr.method ≡ Some y → parent_of p y ≡ Some e → field_thing p (Member e) f ≡ Some x → field_thing p (holder_of p fr.method) f ≡ Some x
-  inherited y e f x class above there =
-      let own : holder_of p fr.method ≡ Member y =
-      ap (λ k. holder_by (method_role p fr.method) k) class ∙ holder_member (method_role p fr.method) y (λ r. let clash : Some y ≡ None = sym class ∙ wired.static_main fr.method r in cc) in
+  inherited y e f x class above there = let own : holder_of p fr.method ≡ Member y = ap (λ k. holder_by (method_role p fr.method) k) class
+      ∙ holder_member (method_role p fr.method) y (λ r. let clash : Some y ≡ None = sym class ∙ wired.static_main fr.method r in cc) in
       ap (λ h. field_thing p h f) own ∙ wired.family.inherits y e f x (child p y e e above (itself p e)) there
 
   -- where the state says that such a field is empty, it is
-  null_by :
-      (cs : List Cell) (sh' : Shape) (f : ℕ) (x : Thing) → field_thing p (holder_of p fr.method) f ≡ Some x → is_empty (field sh' f) ≡ true →
-      Fits p (seen cs) (held cs (field_place fr.home f)) (claim p (declared p cs) (Method fr sh' ∷ ls) (field_place fr.home f)) → held cs (field_place fr.home f) ≡ None
+  null_by : (cs : List Cell) (sh' : Shape) (f : ℕ) (x : Thing) → field_thing p (holder_of p fr.method) f ≡ Some x → is_empty (field sh' f) ≡ true →
+      Fits p (seen cs) (held cs (field_place fr.home f)) (claim p (declared p cs) (Method fr sh' ∷ ls) (field_place fr.home f)) →
+      held cs (field_place fr.home f) ≡ None
   null_by cs sh' f x own empty fits =
       let there = at_hand.good.stack.1.holder.fields f x own in
       let claims = claim_field p (declared p cs) fr sh' ls fr.home f refl (there ∙ sym own) (ap is_some there) in
@@ -58,9 +57,8 @@ module _ (p : Image) (t : Typing) (wired : IsWired p) (s : State) (fr : Frame) (
       fits_unowning p (seen cs) (held cs (field_place fr.home f)) Null refl (subst (λ k. Fits p (seen cs) (held cs (field_place fr.home f)) k) kind fits)
 
   -- what the machine asks of the fields of the parent
-  none_there :
-      (y e : ℕ) → method_class p fr.method ≡ Some y → parent_of p y ≡ Some e → all_empty (fields_of p e) sh.fields ≡ true → (n : ℕ) → n ≤ length (fields_of p e) →
-      none_filled s.cells fr.home n ≡ true
+  none_there : (y e : ℕ) → method_class p fr.method ≡ Some y →
+      parent_of p y ≡ Some e → all_empty (fields_of p e) sh.fields ≡ true → (n : ℕ) → n ≤ length (fields_of p e) → none_filled s.cells fr.home n ≡ true
   none_there y e class above empty zero le = refl
   none_there y e class above empty (suc n) le =
       let x = get_or (fields_of p e) n Message in
@@ -92,7 +90,8 @@ module _ (p : Image) (t : Typing) (wired : IsWired p) (s : State) (fr : Frame) (
         let its = wired.constructs e m is in
         let member : holder_of p m ≡ Member its.class = ap (λ r. holder_by r (method_class p m)) role ∙ ap (λ c. holder_by (Some Construct) c) its.of in
         let there : field_thing p (Member e) f ≡ Some x = wired.family.inherits e its.class f x its.above (ap (λ h. field_thing p h f) (sym member) ∙ own) in
-        null_by cs sh' f x (inherited y e f x class above there) (subst (λ xs. all_empty (fields_of p e) xs ≡ true → is_empty (field sh' f) ≡ true) same (λ e'. empty_at (fields_of p e) sh'.fields f x e' there) empty) (fits f)
+        null_by cs sh' f x (inherited y e f x class above there) (subst (λ xs. all_empty (fields_of p e) xs ≡ true → is_empty (field sh' f) ≡ true) same
+        (λ e'. empty_at (fields_of p e) sh'.fields f x e' there) empty) (fits f)
 
     abbrev Null_there : Type 0
     Null_there = (f : ℕ) (x : Thing) → field_thing p (holder_of p m) f ≡ Some x → held cs (field_place fr.home f) ≡ None
@@ -109,9 +108,9 @@ module _ (p : Image) (t : Typing) (wired : IsWired p) (s : State) (fr : Frame) (
         of None class is empty = cc
         of (Some y) class is empty = over y class (parent_of p y) refl is empty
 
-  pub raised :
-      (m : ℕ) → method_role p m ≡ Some Construct → AllTrue (above_needs p fr.method m (is_construct (method_role p m)) sh.fields) → (cs : List Cell) (sh' : Shape) → sh'.fields ≡ sh.fields →
-      (o : Object) (from : Place) → fr.home ≡ Inside o from → ((f : ℕ) → Fits p (seen cs) (held cs (Field o.name f)) (claim p (declared p cs) (Method fr sh' ∷ ls) (Field o.name f))) →
+  pub raised : (m : ℕ) → method_role p m ≡ Some Construct → AllTrue (above_needs p fr.method m (is_construct (method_role p m)) sh.fields) →
+      (cs : List Cell) (sh' : Shape) → sh'.fields ≡ sh.fields → (o : Object) (from : Place) →
+      fr.home ≡ Inside o from → ((f : ℕ) → Fits p (seen cs) (held cs (Field o.name f)) (claim p (declared p cs) (Method fr sh' ∷ ls) (Field o.name f))) →
       (f : ℕ) (x : Thing) → field_thing p (holder_of p m) f ≡ Some x → held cs (Field o.name f) ≡ None
   raised m role n cs sh' same o from home fits f x own =
       let asked = subst (λ r. AllTrue (above_needs p fr.method m (is_construct r) sh.fields)) role n in

@@ -48,7 +48,8 @@ suits_redeemed order code k n r s = grind (arith, nat_tests, suits_settled, reco
 pub awaits_owed : (order : ℕ) (k : Option ClassKind) (n : Known) (r : Option Request) → Suits k n r → awaits order r ≡ true → is_owed r ≡ true
 awaits_owed order k n r s e = grind arith
 
-redeemable_cells : (order : ℕ) (cs : List Cell) → ((o : Object) → named cs o.name ≡ Some o → awaits order (requested cs o.name) ≡ true → is_owed (requested cs o.name) ≡ true) → Tidy cs → is_redeemable (Some order) cs ≡ true
+redeemable_cells : (order : ℕ) (cs : List Cell) → ((o : Object) → named cs o.name ≡ Some o →
+    awaits order (requested cs o.name) ≡ true → is_owed (requested cs o.name) ≡ true) → Tidy cs → is_redeemable (Some order) cs ≡ true
 redeemable_cells order [] h tidy = refl
 redeemable_cells order (c ∷ cs) h tidy = grind (arith, nat_tests, redeemable_cells order cs, eq-eqb c.object.name c.object.name, ne_eqb c.object.name)
 
@@ -59,7 +60,8 @@ module _ (p : Image) (t : Typing) where
   all_redeemed_good : (order : ℕ) (code : ℤ) (cs : List Cell) (ls : List Layer) → Good p t cs ls → Good p t (all_redeemed order code cs) ls
   all_redeemed_good order code cs ls good = record {
     stack = grind (arith, nat_tests, stack_alike p t cs, redeemed_alike order code cs, requested_redeemed order code cs, redeemed_listed order code);
-    fits = λ r. fits_listed p t cs (all_redeemed order code cs) (redeemed_alike order code cs) ls r (λ x none. requested_redeemed order code cs x.name ∙ redeemed_none order code (requested cs x.name) none) (good.fits r);
+    fits = λ r. fits_listed p t cs (all_redeemed order code cs) (redeemed_alike order code cs) ls r
+        (λ x none. requested_redeemed order code cs x.name ∙ redeemed_none order code (requested cs x.name) none) (good.fits r);
     suits = grind (arith, nat_tests, requested_redeemed order code cs, suits_redeemed order code, redeemed_alike order code cs);
     tidy = (redeemed_alike order code cs).tidy good.tidy;
   }

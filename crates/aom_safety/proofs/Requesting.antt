@@ -21,13 +21,15 @@ use Rattle.aom_shape.specs.Shape.{Shape}
 use Rattle.aom_shape.specs.declared.kind.Kind.{Kind}
 use Rattle.aom_roles.specs.Things.{holder_by, holder_of}
 use Rattle.aom_safety.proofs.Callees.{holder_member, home_member, member_kind}
-use Rattle.aom_safety.proofs.Storing.{Alike, alike_itself, fits_alike, housed_alike, listed_still, on_some, requested_here, requested_there, rerequested_alike, stack_alike}
+use Rattle.aom_safety.proofs.Storing.{Alike, alike_itself, fits_alike, housed_alike, listed_still, on_some}
+use Rattle.aom_safety.proofs.Storing.{requested_here, requested_there, rerequested_alike, stack_alike}
 use Rattle.aom_safety.proofs.Straight.{began, At, Fitted, Law, fitted, reframed, settle, stepped, this_is_ready, well}
 use Rattle.aom_safety.proofs.Suiting.{same_object}
 use Rattle.aom_safety.proofs.Words.{has_word, unowned, writes_word}
 use Rattle.aom_safety.specs.Claims.{Layer, Method, claim, declared, tasks_of}
 use Rattle.aom_semantics.specs.Effects.{Requested, applied, jumps_if, updates, asking_with}
-use Rattle.aom_semantics.specs.Enlisted.{aborted, first_request, home_kind, in_phase, is_active, is_busy, is_cancelling, is_idle, is_issued, issued_of, on_request, own_request, rerequested, status_of, waits, Asking}
+use Rattle.aom_semantics.specs.Enlisted.{aborted, first_request, home_kind, in_phase, is_active, is_busy, is_cancelling, is_idle}
+use Rattle.aom_semantics.specs.Enlisted.{is_issued, issued_of, on_request, own_request, rerequested, status_of, waits, Asking}
 use Rattle.aom_safety.specs.Laws.{IsWired}
 use Rattle.aom_semantics.specs.Places.{Cell, Object, Place, Request, held, named, requested, seen}
 use Rattle.aom_safety.specs.Requests.{Known, Suits, known_at, state_of, states_claim, thing_kind, works_at}
@@ -40,7 +42,8 @@ use Rattle.aom_roles.specs.Kinds.{is_active_kind, is_issuing_kind, is_listed_kin
 -- ---- what is known of a request
 
 -- the states count for no place
-claim_states : (p : Image) (d : Place → Kind) (fr : Frame) (sh : Shape) (ls : List Layer) (states : ℕ) (r : Place) → claim p d (Method fr (record sh { states = states }) ∷ ls) r ≡ claim p d (Method fr sh ∷ ls) r
+claim_states : (p : Image) (d : Place → Kind) (fr : Frame) (sh : Shape) (ls : List Layer) (states : ℕ) (r : Place) →
+    claim p d (Method fr (record sh { states = states }) ∷ ls) r ≡ claim p d (Method fr sh ∷ ls) r
 claim_states p d fr sh ls states x = grind arith
 
 -- the object that a method works on has another request perhaps, and is in these states
@@ -53,7 +56,8 @@ restated :
     Suits (thing_kind p o.thing) (known_at p fr states (states_claim p o ls)) (requested cs' o.name) →
     Fitted p t cs fr sh ls → Fitted p t cs' fr (record sh { states = states }) ls
 restated p t cs cs' fr sh ls o from states home lives alike listed others ready suit g = record {
-  fits = λ q. subst (λ k. Fits p (seen cs') (held cs' q) k) (sym (claim_states p (declared p cs') fr sh ls states q)) (fits_alike p t cs cs' alike (Method fr sh ∷ ls) q (λ x e fresh. others x.name (ready q x e fresh)) (g.fits q));
+  fits = λ q. subst (λ k. Fits p (seen cs') (held cs' q) k) (sym (claim_states p (declared p cs') fr sh ls states q))
+      (fits_alike p t cs cs' alike (Method fr sh ∷ ls) q (λ x e fresh. others x.name (ready q x e fresh)) (g.fits q));
   suits = grind (arith, nat_tests);
   tidy = alike.tidy g.tidy;
   frames = record { words = g.frames.words; holder = g.frames.holder; view = g.frames.view; height = g.frames.height; alone = g.frames.alone; message = g.frames.message };
@@ -72,7 +76,8 @@ pub suits_in : (k : Option ClassKind) (n : Known) (r : Option Request) → is_li
 suits_in k n r e s = grind arith
 
 -- and in these, where it is in one of them
-suits_within : (k : Option ClassKind) (b : ℕ) (n : Known) (r : Option Request) → is_listed_kind k ≡ true → IsTrue (has b (state_of r)) → Suits k n r → Suits k (record { states = b; cancelled = n.cancelled }) r
+suits_within : (k : Option ClassKind) (b : ℕ) (n : Known) (r : Option Request) →
+    is_listed_kind k ≡ true → IsTrue (has b (state_of r)) → Suits k n r → Suits k (record { states = b; cancelled = n.cancelled }) r
 suits_within k b n r e h s = grind arith
 
 pub active_listed : (k : Option ClassKind) → is_active_kind k ≡ true → is_listed_kind k ≡ true
@@ -111,16 +116,20 @@ only_cancelled : (r : Option Request) → IsTrue (has (bit_or cancel_open cancel
 only_cancelled r h = grind arith
 
 -- an object that is enlisted is idle, one with a request made is issued, one that waits is active, and what is aborted is answered; whether it is being cancelled stays as it was
-suits_enlisted : (k : Option ClassKind) (n : Known) (cs : List Cell) (priority : ℤ) → is_listed_kind k ≡ true → Suits k n None → Suits k (record { states = idle; cancelled = n.cancelled }) (Some (first_request cs priority))
+suits_enlisted : (k : Option ClassKind) (n : Known) (cs : List Cell) (priority : ℤ) →
+    is_listed_kind k ≡ true → Suits k n None → Suits k (record { states = idle; cancelled = n.cancelled }) (Some (first_request cs priority))
 suits_enlisted k n cs priority l s = grind arith
 
-suits_issued : (k : Option ClassKind) (n : Known) (asking : Asking) (a : ℤ) (r : Option Request) → is_active_kind k ≡ true → in_phase is_idle r ≡ true → Suits k n r → Suits k (record { states = issued; cancelled = n.cancelled }) (on_request (issued_of k asking a) r)
+suits_issued : (k : Option ClassKind) (n : Known) (asking : Asking) (a : ℤ) (r : Option Request) → is_active_kind k ≡ true →
+    in_phase is_idle r ≡ true → Suits k n r → Suits k (record { states = issued; cancelled = n.cancelled }) (on_request (issued_of k asking a) r)
 suits_issued k n asking a r e free s = grind arith
 
-suits_active : (k : Option ClassKind) (n : Known) (r : Option Request) → is_active_kind k ≡ true → in_phase is_issued r ≡ true → Suits k n r → Suits k (record { states = active; cancelled = n.cancelled }) (on_request waits r)
+suits_active : (k : Option ClassKind) (n : Known) (r : Option Request) →
+    is_active_kind k ≡ true → in_phase is_issued r ≡ true → Suits k n r → Suits k (record { states = active; cancelled = n.cancelled }) (on_request waits r)
 suits_active k n r e made s = grind arith
 
-suits_aborted : (k : Option ClassKind) (n : Known) (r : Option Request) → is_active_kind k ≡ true → in_phase is_cancelling r ≡ true → Suits k n r → Suits k (record { states = cancel_done; cancelled = n.cancelled }) (on_request aborted r)
+suits_aborted : (k : Option ClassKind) (n : Known) (r : Option Request) → is_active_kind k ≡ true →
+    in_phase is_cancelling r ≡ true → Suits k n r → Suits k (record { states = cancel_done; cancelled = n.cancelled }) (on_request aborted r)
 suits_aborted k n r e under s = grind arith
 
 -- what is in each of two sets is in what they share
@@ -150,9 +159,8 @@ unfolding kind_of
 main_of_none p wired m e = ap (λ c. kind_of p c) (wired.static_main m e)
 
 -- what a method works on, by the class that it is of
-of_class :
-    (p : Image) → ((m : ℕ) → method_role p m ≡ Some Main → own_kind p m ≡ None) → (fr : Frame) → Houses p (home_holder fr.home) (holder_of p fr.method) → is_listed_kind (own_kind p fr.method) ≡ true →
-    (o : Object) × (from : Place) × (fr.home ≡ Inside o from) × (thing_kind p o.thing ≡ own_kind p fr.method)
+of_class : (p : Image) → ((m : ℕ) → method_role p m ≡ Some Main → own_kind p m ≡ None) → (fr : Frame) → Houses p (home_holder fr.home) (holder_of p fr.method) →
+    is_listed_kind (own_kind p fr.method) ≡ true → (o : Object) × (from : Place) × (fr.home ≡ Inside o from) × (thing_kind p o.thing ≡ own_kind p fr.method)
 unfolding kind_of
 of_class p main_none fr holder listed = some_given (λ class. is_listed_kind (kind_of p class) ≡ true) (method_class p fr.method) listed (λ none. cc) (λ c e l.
     let no_main : method_role p fr.method ≡ Some Main → ⊥ = λ main. (let none = main_none fr.method main in grind arith) in
@@ -160,8 +168,8 @@ of_class p main_none fr holder listed = some_given (λ class. is_listed_kind (ki
     let found = home_member fr.home w.0 w.1 in
     (found.0, found.1, found.2, member_kind p found.0.thing w.0 found.3 ∙ w.3 ∙ ap (λ x. kind_of p x) (sym e)))
 
-module _ (p : Image) (t : Typing) (main_none : (m : ℕ) → method_role p m ≡ Some Main → own_kind p m ≡ None) (c : Choice) (s : State) (fr : Frame) (sh : Shape) (ls : List Layer)
-    (at_hand : At p t s fr sh ls) where
+module _ (p : Image) (t : Typing) (main_none : (m : ℕ) → method_role p m ≡ Some Main → own_kind p m ≡ None)
+    (c : Choice) (s : State) (fr : Frame) (sh : Shape) (ls : List Layer) (at_hand : At p t s fr sh ls) where
   -- its object is one of the cells, and what is known of its request holds
   pub record OfObject : Type 0 where
     pub object : Object
@@ -209,14 +217,16 @@ module _ (p : Image) (t : Typing) (main_none : (m : ℕ) → method_role p m ≡
   nowhere_fresh it q x e fresh = grind (arith, nat_tests, this_is_ready p t c s fr sh ls at_hand (Inside it.object it.from) 0 it.home q x e fresh 0)
 
   -- it has that request, and is known to be in these states
-  pub asked : (listed : is_listed_kind (own_kind p fr.method) ≡ true) (states : ℕ) (r : Option Request) → (is_some own ≡ true → is_some r ≡ true) → Suits (own_kind p fr.method) (its listed states) r → Fitted p t (rerequested s.cells fr.home r) fr (record sh { states = states }) ls
+  pub asked : (listed : is_listed_kind (own_kind p fr.method) ≡ true) (states : ℕ) (r : Option Request) → (is_some own ≡ true → is_some r ≡ true) →
+      Suits (own_kind p fr.method) (its listed states) r → Fitted p t (rerequested s.cells fr.home r) fr (record sh { states = states }) ls
   asked listed states r more suit =
       let it = of_object listed in
       let others : (m : ℕ) → (it.object.name == m) ≡ false → requested (rerequested s.cells fr.home r) m ≡ requested s.cells m = λ m other.
       subst (λ h. requested (rerequested s.cells h r) m ≡ requested s.cells m) (sym it.home) (requested_there s.cells it.object.name m r other) in
       let here : requested (rerequested s.cells fr.home r) it.object.name ≡ r =
       subst (λ h. requested (rerequested s.cells h r) it.object.name ≡ r) (sym it.home) (requested_here s.cells it.object.name r it.object it.lives) in
-      restated p t s.cells (rerequested s.cells fr.home r) fr sh ls it.object it.from states it.home it.lives (rerequested_alike s.cells fr.home r) (listed_still s.cells fr.home r more) others (nowhere_fresh it)
+      restated p t s.cells (rerequested s.cells fr.home r) fr sh ls it.object it.from states it.home it.lives
+      (rerequested_alike s.cells fr.home r) (listed_still s.cells fr.home r more) others (nowhere_fresh it)
       (subst (λ k. Suits k (its listed states) (requested (rerequested s.cells fr.home r) it.object.name)) (sym it.kind) (grind (arith, nat_tests)))
       (fitted p t s.cells fr sh ls at_hand.good)
 
@@ -250,7 +260,8 @@ module _ (p : Image) (t : Typing) (main_none : (m : ℕ) → method_role p m ≡
       parts : AllLead t fr.method (flow_narrowed sh (suc fr.place) here) × AllLead t fr.method (flow_narrowed sh to there)
       parts = lead_parts t fr.method (flow_narrowed sh (suc fr.place) here) (flow_narrowed sh to there) leads
 
-      goes : (fr' : Frame) (place x : ℕ) → fr'.home ≡ fr.home → fr'.method ≡ fr.method → began fr' ≡ began fr → fr'.words ≡ fr.words → fr'.place ≡ place → IsTrue (has x (state_of own)) → AllLead t fr.method (flow_narrowed sh place x) → WellTyped p t (record s { tasks = Run fr' ∷ tasks_of ls })
+      goes : (fr' : Frame) (place x : ℕ) → fr'.home ≡ fr.home → fr'.method ≡ fr.method → began fr' ≡ began fr → fr'.words ≡ fr.words → fr'.place ≡ place →
+          IsTrue (has x (state_of own)) → AllLead t fr.method (flow_narrowed sh place x) → WellTyped p t (record s { tasks = Run fr' ∷ tasks_of ls })
       goes fr' place x eh em eg ew ep h l =
           let sh' : Shape = record sh { states = bit_and sh.states x } in
           let goes_on = narrowed_leads t fr.method place x sh (some_left listed x h) l in
@@ -268,11 +279,14 @@ module _ (p : Image) (t : Typing) (main_none : (m : ℕ) → method_role p m ≡
   law_jump_added to n leads = ((listed_home n.0, tt), goes_by n.0 enlisted unlisted to (is_some own) (listed_in own) (unlisted_in own) leads)
 
   -- the object's request is another, and the method goes on
-  asks : (listed : is_listed_kind (own_kind p fr.method) ≡ true) (states : ℕ) (r : Option Request) → (is_some own ≡ true → is_some r ≡ true) → Suits (own_kind p fr.method) (its listed states) r → Leads t fr.method (suc fr.place) (record sh { states = states }) → WellTyped p t (applied p fr (tasks_of ls) s (updates fr (Requested r)))
+  asks : (listed : is_listed_kind (own_kind p fr.method) ≡ true) (states : ℕ) (r : Option Request) →
+      (is_some own ≡ true → is_some r ≡ true) → Suits (own_kind p fr.method) (its listed states) r →
+      Leads t fr.method (suc fr.place) (record sh { states = states }) → WellTyped p t (applied p fr (tasks_of ls) s (updates fr (Requested r)))
   asks listed states r more suit leads =
       let cs = rerequested s.cells fr.home r in
       let sh' : Shape = record sh { states = states } in
-      well p t c s fr sh ls at_hand (applied p fr (tasks_of ls) s (updates fr (Requested r))) (next fr) sh' refl at_hand.items at_hand.undos (settle p t cs (next fr) sh' ls (stepped p t cs fr sh' ls (asked listed states r more suit)) leads)
+      well p t c s fr sh ls at_hand (applied p fr (tasks_of ls) s (updates fr (Requested r)))
+      (next fr) sh' refl at_hand.items at_hand.undos (settle p t cs (next fr) sh' ls (stepped p t cs fr sh' ls (asked listed states r more suit)) leads)
 
   -- a state of the object that is one of these
   pub in_state : (listed : is_listed_kind (own_kind p fr.method) ≡ true) (x : ℕ) → IsTrue (has x sh.states) → IsTrue (has x (state_of own))
@@ -293,7 +307,8 @@ module _ (p : Image) (t : Typing) (main_none : (m : ℕ) → method_role p m ≡
       let free = only_idle own (in_state listed idle n.1.1.1.1.0) in
       let code = read fr (tasks_of ls) s a in
       let asking = asking_with p c fr (tasks_of ls) s in
-      let suit = subst (λ k. Suits (own_kind p fr.method) (its listed issued) (on_request (issued_of k asking code) own)) (sym (home_is_own listed)) (suits_issued (own_kind p fr.method) (its listed sh.states) asking code own active free.1 it.suits) in (
+      let suit = subst (λ k. Suits (own_kind p fr.method) (its listed issued) (on_request (issued_of k asking code) own))
+      (sym (home_is_own listed)) (suits_issued (own_kind p fr.method) (its listed sh.states) asking code own active free.1 it.suits) in (
         (has_word p t c s fr sh ls at_hand a n.0, (has_word p t c s fr sh ls at_hand b n.1.0, grind (arith, nat_tests, home_is_own))),
         grind (arith, nat_tests, asks, on_some),
       )

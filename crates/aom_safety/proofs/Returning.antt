@@ -1,6 +1,7 @@
 -- A method returns to the one that called it.
 use Rattle.std.proofs.lemmas.Bool.Decides.{nat_tests}
-use Rattle.std.proofs.Common.{Bool, IsTrue, List, None, Option, Some, [], ap, arith, cond, false, length, pos, refl, subst, suc, sym, true, ℕ, ℤ, ◌<◌, ◌∙◌, ◌∷◌, ◌≡◌}
+use Rattle.std.proofs.Common.{Bool, IsTrue, List, None, Option, Some, [], ap, arith, cond, false}
+use Rattle.std.proofs.Common.{length, pos, refl, subst, suc, sym, true, ℕ, ℤ, ◌<◌, ◌∙◌, ◌∷◌, ◌≡◌}
 use Rattle.std.proofs.lemmas.Bool.{ne_eqb}
 use Rattle.std.specs.Prelude.{is_none, is_some}
 use Rattle.aom_image.specs.Image.{Image}
@@ -21,17 +22,23 @@ use Rattle.aom_shape.specs.declared.kind.Entry.TheVariants.{Object as Pushed_obj
 use Rattle.aom_shape.specs.declared.kind.Kind.{Kind}
 use Rattle.aom_shape.specs.declared.kind.Kind.TheVariants.{Maybe, Null, Own, Word}
 use Rattle.aom_safety.proofs.Claimed.{claim-set_register, claim_frame, claim_push, claim_register_above, declared_moved, keep_fits, mark_claims, stack_moved}
-use Rattle.aom_safety.proofs.Finishing.{message_gone, after_return, Returnable, ended, ended_plainly, left_alone, left_held, none_left, return_needs, returnable, same_items}
+use Rattle.aom_safety.proofs.Finishing.{message_gone, after_return, Returnable, ended, ended_plainly, left_alone}
+use Rattle.aom_safety.proofs.Finishing.{left_held, none_left, return_needs, returnable, same_items}
 use Rattle.aom_safety.proofs.Items.{forms_below, mark_on_top, undos_below}
 use Rattle.aom_semantics.proofs.Maps.{held_moved, requested_moved, same_place-true, same_place_refl, tidy_moved}
-use Rattle.aom_safety.proofs.Straight.{At, Fitted, Law, claim_register, fits_unowning, housed_relocated, next_unowning, no_word_fits, register_fits, settle, stepped, top, word_of_object, words_set, write, may_be_object}
+use Rattle.aom_safety.proofs.Straight.{At, Fitted, Law, claim_register, fits_unowning, housed_relocated, next_unowning, no_word_fits}
+use Rattle.aom_safety.proofs.Straight.{register_fits, settle, stepped, top, word_of_object, words_set, write, may_be_object}
 use Rattle.aom_safety.proofs.Widening.{hold_widens, own_widens, own_widens_more, retaken}
 use Rattle.aom_semantics.specs.Calls.{needs_ended, below_top, received, result_cells, result_needs, result_register, returned, told_answer}
-use Rattle.aom_safety.specs.Claims.{home_claim, root_claim, serves, Dispatching, Layer, Mark, Mark_form, Method, Unwinding, claim, declared, forms, items_of, objects, tasks_of}
+use Rattle.aom_safety.specs.Claims.{home_claim, root_claim, serves, Dispatching, Layer, Mark, Mark_form, Method}
+use Rattle.aom_safety.specs.Claims.{Unwinding, claim, declared, forms, items_of, objects, tasks_of}
 use Rattle.aom_semantics.specs.Objects.{is_thing}
-use Rattle.aom_semantics.specs.Places.{In_service, Session, Queued, Cell, Entry, Object, Place, Sight, changed, held, moved, requested, same_place, seen, Elsewhere, Field, Going, Register, Root}
-use Rattle.aom_semantics.specs.State.{Of_server, Serves, Static, AtRoot, Home, Dispatched, Answered, Asks, Choice, Dispatch, Frame, Inside, Of_main, Of_object, Run, Seat, State, next, set_word, word}
-use Rattle.aom_safety.specs.WellTyped.{SitsFirst, IsAttended, seat_of, Awaits, Back, Caught, EndsDispatch, EndsWell, Fits, IsApart, LeavesNone, Now, Returns, Stack, WellTyped, WordFits, past_going}
+use Rattle.aom_semantics.specs.Places.{In_service, Session, Queued, Cell, Entry, Object, Place, Sight, changed, held}
+use Rattle.aom_semantics.specs.Places.{moved, requested, same_place, seen, Elsewhere, Field, Going, Register, Root}
+use Rattle.aom_semantics.specs.State.{Of_server, Serves, Static, AtRoot, Home, Dispatched, Answered, Asks, Choice, Dispatch}
+use Rattle.aom_semantics.specs.State.{Frame, Inside, Of_main, Of_object, Run, Seat, State, next, set_word, word}
+use Rattle.aom_safety.specs.WellTyped.{SitsFirst, IsAttended, seat_of, Awaits, Back, Caught, EndsDispatch, EndsWell, Fits}
+use Rattle.aom_safety.specs.WellTyped.{IsApart, LeavesNone, Now, Returns, Stack, WellTyped, WordFits, past_going}
 use Rattle.aom_safety.proofs.Suiting.{all_moved, all_returned, known_plain, known_resting, rejoins_caller, rejoins_trap, rests_there, suits_rests}
 use Rattle.aom_safety.specs.Requests.{AllSuit, Suits, states_claim, thing_kind}
 use Rattle.aom_shape.specs.Arguments.{after_of}
@@ -46,17 +53,15 @@ use Rattle.aom_roles.specs.Roles.{is_cancel}
 use Rattle.aom_roles.specs.Tests.{AllTrue}
 use Rattle.aom_rules.specs.Rules.{rule_needs}
 
-module _ (p : Image) (t : Typing) (c : Choice) (s : State) (fr fr2 : Frame) (sh sh2 : Shape) (ls below : List Layer) (at_hand : At p t s fr sh below) (back : Back)
-    (caller : Stack p t s.cells back (Method fr2 sh2 ∷ ls))
-    (same_claims : (d : Place → Kind) (r : Place) → claim p d below r ≡ claim p d (Method fr2 sh2 ∷ ls) r)
-    (deeper : length (tasks_of ls) < length (tasks_of below))
-    (at_top : past_going below ≡ below)
-    (suits : AllSuit p s.cells (Method fr2 sh2 ∷ ls))
-    (unserving : serves p fr.method ≡ true → ⊥) where
+module _ (p : Image) (t : Typing) (c : Choice) (s : State) (fr fr2 : Frame) (sh sh2 : Shape) (ls below : List Layer)
+    (at_hand : At p t s fr sh below) (back : Back) (caller : Stack p t s.cells back (Method fr2 sh2 ∷ ls)) (same_claims : (d : Place → Kind) (r : Place) →
+    claim p d below r ≡ claim p d (Method fr2 sh2 ∷ ls) r) (deeper : length (tasks_of ls) < length (tasks_of below))
+    (at_top : past_going below ≡ below) (suits : AllSuit p s.cells (Method fr2 sh2 ∷ ls)) (unserving : serves p fr.method ≡ true → ⊥) where
   -- with no result in cells
   pub plain : no_entry sh.entries ≡ true → none_owns sh.registers ≡ true → Fitted p t s.cells fr2 sh2 ls
   plain e n = let g = at_hand.good in record {
-    fits = λ r. rw (same_claims (declared p s.cells) r) at (ended p s.cells fr sh below g.stack.1.holder g.stack.1.view g.stack.2 g.stack.3 at_top e n (λ serving. absurd (unserving serving)) r (seen s.cells) (held s.cells r) (g.fits r));
+    fits = λ r. rw (same_claims (declared p s.cells) r) at (ended p s.cells fr sh below g.stack.1.holder g.stack.1.view g.stack.2 g.stack.3 at_top e n
+        (λ serving. absurd (unserving serving)) r (seen s.cells) (held s.cells r) (g.fits r));
     suits = suits;
     tidy = g.tidy;
     frames = caller.1;
@@ -91,27 +96,28 @@ module _ (p : Image) (t : Typing) (c : Choice) (s : State) (fr fr2 : Frame) (sh 
       bare = record sh { entries = [] }
 
       without : (r : Place) → same_place spot r ≡ false → claim p (declared p s.cells) (Method fr sh ∷ below) r ≡ claim p (declared p s.cells) (Method fr bare ∷ below) r
-      without r f =
-          ap (λ es. claim p (declared p s.cells) (Method fr (record sh { entries = es }) ∷ below) r) (left_alone p x sh.entries e).alone
-          ∙ claim_push p (declared p s.cells) fr bare below itself r
-          ∙ ap (λ b. cond b (entry_kind itself) (claim p (declared p s.cells) (Method fr bare ∷ below) r)) (ap (λ l. same_place (Entry (length (items_of l))) r) over ∙ f)
+      without r f = ap (λ es. claim p (declared p s.cells) (Method fr (record sh { entries = es }) ∷ below) r) (left_alone p x sh.entries e).alone
+          ∙ claim_push p (declared p s.cells) fr bare below itself r ∙ ap (λ b. cond b
+          (entry_kind itself) (claim p (declared p s.cells) (Method fr bare ∷ below) r)) (ap (λ l. same_place (Entry (length (items_of l))) r) over ∙ f)
 
       go : (r : Place) (b : Bool) → same_place spot r ≡ b → Fits p (seen s.cells) (held s.cells r) (cond b (entry_kind entry) (claim p (declared p s.cells) (Method fr2 sh2 ∷ ls) r))
       go r true f = rw (ap (λ l. Entry (length (items_of l))) over ∙ same_place-true spot r f) at (left_held p t c s fr sh below at_hand x e)
-      go r false f = rw (same_claims (declared p s.cells) r) at (ended p s.cells fr bare below at_hand.good.stack.1.holder at_hand.good.stack.1.view at_hand.good.stack.2 at_hand.good.stack.3 at_top refl n (λ serving. absurd (unserving serving)) r (seen s.cells) (held s.cells r)
+      go r false f = rw (same_claims (declared p s.cells) r) at (ended p s.cells fr bare below at_hand.good.stack.1.holder at_hand.good.stack.1.view
+          at_hand.good.stack.2 at_hand.good.stack.3 at_top refl n (λ serving. absurd (unserving serving)) r (seen s.cells) (held s.cells r)
           (rw (without r f) at (at_hand.good.fits r)))
 
   -- the result goes to its register
   pub carried :
-      (a x : ℕ) → no_entry sh.entries ≡ true → none_owns (set_register sh a Null).registers ≡ true → is_unowning (register sh2 x) ≡ true → is_object_or_null (register sh a) ≡ true →
-      Fitted p t (moved (top below a) (top ls x) s.cells) (set_word fr2 x None) (set_register sh2 x (register sh a)) ls
+      (a x : ℕ) → no_entry sh.entries ≡ true → none_owns (set_register sh a Null).registers ≡ true → is_unowning (register sh2 x) ≡ true → is_object_or_null
+      (register sh a) ≡ true → Fitted p t (moved (top below a) (top ls x) s.cells) (set_word fr2 x None) (set_register sh2 x (register sh a)) ls
   carried a x e n u obj =
       let g = at_hand.good in
       let free = fits_unowning p h _ (register sh2 x) u caller_fits in
       record {
         fits = λ r. subst (λ d. Fits p (seen cs') (held cs' r) (claim p d (Method (set_word fr2 x None) (set_register sh2 x k) ∷ ls) r)) (sym (declared_moved p cs q to))
             (subst (λ k. Fits p (seen cs') (held cs' r) k) (sym (claim_frame p d fr2 (set_word fr2 x None) (set_register sh2 x k) ls r refl refl))
-            (keep_fits p h (seen cs') (changed (claim p d (Method fr2 sh2 ∷ ls)) q k) (claim p d (Method fr2 (set_register sh2 x k) ∷ ls)) q to (λ r. held_moved cs q to r free) (requested_moved cs q to) same (λ r x e k f. refl) fits_aside r));
+            (keep_fits p h (seen cs') (changed (claim p d (Method fr2 sh2 ∷ ls)) q k) (claim p d (Method fr2 (set_register sh2 x k) ∷ ls)) q to
+            (λ r. held_moved cs q to r free) (requested_moved cs q to) same (λ r x e k f. refl) fits_aside r));
         suits = all_moved p cs q to (Method fr2 sh2 ∷ ls) suits;
         tidy = tidy_moved cs q to free g.tidy;
         frames = record { words = words_set fr2.words sh2 x None k caller.1.words (no_word_fits k obj); holder = caller.1.holder; view = caller.1.view; height = caller.1.height; alone = caller.1.alone; message = caller.1.message };
@@ -142,25 +148,25 @@ module _ (p : Image) (t : Typing) (c : Choice) (s : State) (fr fr2 : Frame) (sh 
       cs' = moved q to s.cells
 
       caller_fits : Fits p (seen s.cells) (held s.cells (top ls x)) (register sh2 x)
-      caller_fits = rw (ap (λ b. cond b (register sh x) (claim p d below (top ls x))) (ne_eqb (length (tasks_of below)) (length (tasks_of ls)) (λ e. absurd (omega arith))) ∙ same_claims d (top ls x) ∙ claim_register p d fr2 sh2 ls x) at (at_hand.good.fits (top ls x))
+      caller_fits = rw (ap (λ b. cond b (register sh x) (claim p d below (top ls x))) (ne_eqb (length (tasks_of below))
+          (length (tasks_of ls)) (λ e. absurd (omega arith))) ∙ same_claims d (top ls x) ∙ claim_register p d fr2 sh2 ls x) at (at_hand.good.fits (top ls x))
 
       fits_aside : (r : Place) → Fits p (seen s.cells) (held s.cells r) (changed (claim p (declared p s.cells) (Method fr2 sh2 ∷ ls)) q k r)
       fits_aside r = go (same_place q r) refl
         where
           go : (b : Bool) → same_place q r ≡ b → Fits p (seen s.cells) (held s.cells r) (cond b k (claim p (declared p s.cells) (Method fr2 sh2 ∷ ls) r))
           go true e = subst (λ y. Fits p (seen s.cells) (held s.cells y) k) (same_place-true q r e) (register_fits p s.cells fr sh below at_hand.good.fits a)
-          go false f =
-              rw (same_claims (declared p s.cells) r) at (ended p s.cells fr (set_register sh a Null) below at_hand.good.stack.1.holder at_hand.good.stack.1.view at_hand.good.stack.2 at_hand.good.stack.3 at_top e n (λ serving. absurd (unserving serving)) r (seen s.cells) (held s.cells r)
+          go false f = rw (same_claims (declared p s.cells) r) at (ended p s.cells fr
+              (set_register sh a Null) below at_hand.good.stack.1.holder at_hand.good.stack.1.view at_hand.good.stack.2 at_hand.good.stack.3 at_top e n
+              (λ serving. absurd (unserving serving)) r (seen s.cells) (held s.cells r)
               (rw (claim-set_register p (declared p s.cells) fr sh below a Null r ∙ ap (λ b. cond b Null (claim p (declared p s.cells) (Method fr sh ∷ below) r)) f) (at_hand.good.fits r)))
 
-      same :
-          (r : Place) →
-          claim p d (Method fr2 (set_register sh2 x k) ∷ ls) r ≡ changed (changed (changed (claim p d (Method fr2 sh2 ∷ ls)) q k) q Null) to (changed (claim p d (Method fr2 sh2 ∷ ls)) q k q) r
+      same : (r : Place) → claim p d (Method fr2 (set_register sh2 x k) ∷ ls) r ≡ changed
+          (changed (changed (claim p d (Method fr2 sh2 ∷ ls)) q k) q Null) to (changed (claim p d (Method fr2 sh2 ∷ ls)) q k q) r
       same r = claim-set_register p d fr2 sh2 ls x k r ∙ go (same_place to r) (same_place q r) refl
         where
-          go :
-              (b c : Bool) → same_place q r ≡ c →
-              cond b k (claim p d (Method fr2 sh2 ∷ ls) r) ≡ cond b (cond (same_place q q) k (claim p d (Method fr2 sh2 ∷ ls) q)) (cond c Null (cond c k (claim p d (Method fr2 sh2 ∷ ls) r)))
+          go : (b c : Bool) → same_place q r ≡ c → cond b k (claim p d (Method fr2 sh2 ∷ ls) r) ≡ cond b
+              (cond (same_place q q) k (claim p d (Method fr2 sh2 ∷ ls) q)) (cond c Null (cond c k (claim p d (Method fr2 sh2 ∷ ls) r)))
           go true c f = ap (λ b. cond b k (claim p d (Method fr2 sh2 ∷ ls) q)) (sym (same_place_refl q))
           go false true f = ap (λ y. claim p d (Method fr2 sh2 ∷ ls) y) (sym (same_place-true q r f)) ∙ claim_register_above p s.cells (Method fr2 sh2 ∷ ls) (length (tasks_of below)) a (omega arith)
           go false false f = refl
@@ -193,7 +199,8 @@ module _ (p : Image) (t : Typing) (wired : IsWired p) (c : Choice) (s : State) (
       suits still = all_returned p s.cells s.cells fr sh below at_hand.good.suits at_hand.good.stack.2 (λ n. refl) (λ n off. refl) (λ o from e h.
           let apart : IsApart p fr.view fr.method (Inside o from) below = subst (λ h. IsApart p fr.view fr.method h below) e at_hand.good.stack.3 in
           let well : EndsWell p fr.method (Inside o from) fr2 sh2 = subst (λ h. EndsWell p fr.method h fr2 sh2) e at_hand.good.stack.4.0.3 in
-          rejoins_caller p o fr2 sh2 sh.states ls (after_of p fr.method) (requested s.cells o.name) apart.3 (λ w. subst (λ n. IsTrue (has sh2.states n)) (ap (λ b. cond b idle (after_of p fr.method)) still) (well w)) ended_so.ends ended_so.settled
+          rejoins_caller p o fr2 sh2 sh.states ls (after_of p fr.method) (requested s.cells o.name) apart.3
+          (λ w. subst (λ n. IsTrue (has sh2.states n)) (ap (λ b. cond b idle (after_of p fr.method)) still) (well w)) ended_so.ends ended_so.settled
           (subst (λ k. Suits (thing_kind p o.thing) k (requested s.cells o.name)) (known_plain p fr sh.states (states_claim p o below) still) h))
 
       x : ℕ
@@ -202,13 +209,16 @@ module _ (p : Image) (t : Typing) (wired : IsWired p) (c : Choice) (s : State) (
       items : no_entry sh.entries ≡ true → forms s.items ≡ objects sh2.entries (items_of ls)
       items e = same_items p t c s fr sh below at_hand e
 
-      finish : (cs : List Cell) (fr' : Frame) (sh' : Shape) → fr'.method ≡ fr2.method → fr'.place ≡ fr2.place → forms s.items ≡ objects sh'.entries (items_of ls) → Fitted p t cs fr' sh' ls → Leads t fr2.method (suc fr2.place) sh' → WellTyped p t (record s { cells = cs; tasks = Run (next fr') ∷ tasks_of ls })
+      finish : (cs : List Cell) (fr' : Frame) (sh' : Shape) →
+          fr'.method ≡ fr2.method → fr'.place ≡ fr2.place → forms s.items ≡ objects sh'.entries (items_of ls) →
+          Fitted p t cs fr' sh' ls → Leads t fr2.method (suc fr2.place) sh' → WellTyped p t (record s { cells = cs; tasks = Run (next fr') ∷ tasks_of ls })
       finish cs fr' sh' em ep items f leads =
           let g = settle p t cs (next fr') sh' ls (stepped p t cs fr' sh' ls f) (grind (arith, nat_tests)) in
           record { layers = Method (next fr') g.0 ∷ ls; tasks = refl; items = items ∙ ap (λ es. objects es (items_of ls)) (sym g.2); undos = at_hand.undos; good = g.1 }
 
       Goal : Gives → Type 0
-      Goal g = AllTrue (result_needs p fr (tasks_of below) s g a) × WellTyped p t (record s { cells = result_cells p fr (tasks_of below) s g a x (tasks_of ls); tasks = Run (next (received p fr (tasks_of below) s g a x fr2)) ∷ tasks_of ls })
+      Goal g = AllTrue (result_needs p fr (tasks_of below) s g a) × WellTyped p t (record s
+          { cells = result_cells p fr (tasks_of below) s g a x (tasks_of ls); tasks = Run (next (received p fr (tasks_of below) s g a x fr2)) ∷ tasks_of ls })
 
       go :
           is_cancel (method_role p fr.method) ≡ false → (g : Gives) → AllTrue (rule_result p fr.method fr.place sh g a) → entries_done p g sh.entries ≡ true →
@@ -219,12 +229,14 @@ module _ (p : Image) (t : Typing) (wired : IsWired p) (c : Choice) (s : State) (
           ((i.0, tt), finish s.cells (set_word fr2 x (word fr a)) (set_register sh2 x Word) refl refl (items e) (write p t s.cells fr2 sh2 ls x (word fr a) Word (plain p t c s fr fr2 sh sh2 ls below at_hand (Returns fr.method fr.home) at_hand.good.stack.4 (λ d r. refl) (omega arith) refl (suits still) at_hand.good.stack.1.message.0 e n) w (λ h. tt) i.1) leads)
       go still (An_own y) r e n w leads =
           let k = own_widens p y (register sh a) r.0 r.1.0 in
-          let f = carried p t c s fr fr2 sh sh2 ls below at_hand (Returns fr.method fr.home) at_hand.good.stack.4 (λ d r. refl) (omega arith) refl (suits still) at_hand.good.stack.1.message.0 a x e n w k.object in
+          let f = carried p t c s fr fr2 sh sh2 ls below at_hand (Returns fr.method fr.home) at_hand.good.stack.4
+          (λ d r. refl) (omega arith) refl (suits still) at_hand.good.stack.1.message.0 a x e n w k.object in
           let h = held_thing p s y (held s.cells (top below a)) (grind (arith, nat_tests, top, register_fits)) in
           ((ap is_none (word_of_object (word fr a) (register sh a) k.object (at_hand.good.stack.1.words a)), (h.0, (h.1, tt))), finish (moved (top below a) (top ls x) s.cells) (set_word fr2 x None) (set_register sh2 x (Own y Ready)) refl refl (items e) (retaken p t (moved (top below a) (top ls x) s.cells) (set_word fr2 x None) sh2 ls x (register sh a) (Own y Ready) k f) leads)
       go still (A_maybe y) r e n w leads =
           let obj : is_object_or_null (register sh a) ≡ true = object_of p s y (register sh a) r.0 in
-          let f = carried p t c s fr fr2 sh sh2 ls below at_hand (Returns fr.method fr.home) at_hand.good.stack.4 (λ d r. refl) (omega arith) refl (suits still) at_hand.good.stack.1.message.0 a x e n w obj in
+          let f = carried p t c s fr fr2 sh sh2 ls below at_hand
+          (Returns fr.method fr.home) at_hand.good.stack.4 (λ d r. refl) (omega arith) refl (suits still) at_hand.good.stack.1.message.0 a x e n w obj in
           let weak = hold_widens p y (register sh a) r.0 r.1.0 in
           let h = held_maybe p s y (held s.cells (top below a)) (grind (arith, nat_tests, top, register_fits)) in
           ((ap is_none (word_of_object (word fr a) (register sh a) obj (at_hand.good.stack.1.words a)), (h, tt)), finish (moved (top below a) (top ls x) s.cells) (set_word fr2 x None) (set_register sh2 x (Maybe y Ready)) refl refl (items e) (retaken p t (moved (top below a) (top ls x) s.cells) (set_word fr2 x None) sh2 ls x (register sh a) (Maybe y Ready) weak f) leads)
@@ -241,7 +253,8 @@ module _ (p : Image) (t : Typing) (wired : IsWired p) (c : Choice) (s : State) (
           let fitted = cancel_fitted p t c s fr fr2 sh sh2 ls at_hand a ended_so cancels entries free in (
             return_needs p t c s fr sh below at_hand a ended_so (subst (λ g. AllTrue (result_needs p fr (tasks_of below) s g a)) (sym nothing) tt) tt,
             subst (λ g. WellTyped p t (returned p fr (tasks_of below) (record s { cells = ended_cells p fr s.cells }) g a (tasks_of below))) (sym nothing)
-                (subst (λ b. WellTyped p t (record s { cells = cond b then s.cells; tasks = Run (next fr2) ∷ tasks_of ls })) (sym cancels) (finish then fr2 sh2 refl refl (items entries) fitted leads)),
+                (subst (λ b. WellTyped p t (record s { cells = cond b then s.cells; tasks = Run (next fr2) ∷ tasks_of ls }))
+                (sym cancels) (finish then fr2 sh2 refl refl (items entries) fitted leads)),
           )
 
       by_role : (b : Bool) → is_cancel (method_role p fr.method) ≡ b → AllTrue (needs p c fr (tasks_of below) s (Return a)) × WellTyped p t (does p c fr (tasks_of below) s (Return a))
@@ -288,7 +301,10 @@ module _ (p : Image) (t : Typing) (wired : IsWired p) (c : Choice) (s : State) (
       items e = forms_below s.items Mark_form _ (same_items p t c s fr sh marked at_hand e)
 
       -- the code, and on
-      finish : (cs : List Cell) (fr' : Frame) (sh' : Shape) → fr'.method ≡ fr2.method → fr'.place ≡ fr2.place → forms (below_top s.items) ≡ objects sh'.entries (items_of ls) → is_unowning (register sh' (suc x)) ≡ true → Fitted p t cs fr' sh' ls → Leads t fr2.method (suc fr2.place) (set_register sh' (suc x) Word) → WellTyped p t (record s { cells = cs; tasks = Run (next (set_word fr' (suc x) (Some (pos 0)))) ∷ tasks_of ls; items = below_top s.items })
+      finish : (cs : List Cell) (fr' : Frame) (sh' : Shape) →
+          fr'.method ≡ fr2.method → fr'.place ≡ fr2.place → forms (below_top s.items) ≡ objects sh'.entries (items_of ls) →
+          is_unowning (register sh' (suc x)) ≡ true → Fitted p t cs fr' sh' ls → Leads t fr2.method (suc fr2.place) (set_register sh' (suc x) Word) →
+          WellTyped p t (record s { cells = cs; tasks = Run (next (set_word fr' (suc x) (Some (pos 0)))) ∷ tasks_of ls; items = below_top s.items })
       finish cs fr' sh' em ep items u f leads =
           let fr'' = set_word fr' (suc x) (Some (pos 0)) in
           let sh'' = set_register sh' (suc x) Word in
@@ -316,13 +332,15 @@ module _ (p : Image) (t : Typing) (wired : IsWired p) (c : Choice) (s : State) (
           ((i.0, tt), finish s.cells (set_word fr2 x (word fr a)) (set_register sh2 x Word) refl refl (items e) (next_unowning sh2.registers x Word u) (write p t s.cells fr2 sh2 ls x (word fr a) Word (plain p t c s fr fr2 sh sh2 ls marked at_hand (Caught gv) caller (λ d r. mark_claims p d gv (Method fr2 sh2 ∷ ls) r) (omega arith) refl suits at_hand.good.stack.1.message.0 e n) w (λ h. tt) i.1) leads)
       go (An_own y) none r e n u w leads =
           let k = own_widens p y (register sh a) r.0 r.1.0 in
-          let f = carried p t c s fr fr2 sh sh2 ls marked at_hand (Caught gv) caller (λ d r. mark_claims p d gv (Method fr2 sh2 ∷ ls) r) (omega arith) refl suits at_hand.good.stack.1.message.0 a x e n w k.object in
+          let f = carried p t c s fr fr2 sh sh2 ls marked at_hand (Caught gv) caller
+          (λ d r. mark_claims p d gv (Method fr2 sh2 ∷ ls) r) (omega arith) refl suits at_hand.good.stack.1.message.0 a x e n w k.object in
           let h = held_thing p s y (held s.cells (top marked a)) (grind (arith, nat_tests, top, register_fits)) in
           let weak = own_widens_more p y (register sh a) r.0 r.1.0 in
           ((ap is_none (word_of_object (word fr a) (register sh a) k.object (at_hand.good.stack.1.words a)), (h.0, (h.1, tt))), finish (moved (top marked a) (top ls x) s.cells) (set_word fr2 x None) (set_register sh2 x (Maybe y Ready)) refl refl (items e) (next_unowning sh2.registers x (Maybe y Ready) u) (retaken p t (moved (top marked a) (top ls x) s.cells) (set_word fr2 x None) sh2 ls x (register sh a) (Maybe y Ready) weak f) leads)
       go (A_maybe y) none r e n u w leads =
           let obj : is_object_or_null (register sh a) ≡ true = object_of p s y (register sh a) r.0 in
-          let f = carried p t c s fr fr2 sh sh2 ls marked at_hand (Caught gv) caller (λ d r. mark_claims p d gv (Method fr2 sh2 ∷ ls) r) (omega arith) refl suits at_hand.good.stack.1.message.0 a x e n w obj in
+          let f = carried p t c s fr fr2 sh sh2 ls marked at_hand
+          (Caught gv) caller (λ d r. mark_claims p d gv (Method fr2 sh2 ∷ ls) r) (omega arith) refl suits at_hand.good.stack.1.message.0 a x e n w obj in
           let weak = hold_widens p y (register sh a) r.0 r.1.0 in
           let h = held_maybe p s y (held s.cells (top marked a)) (grind (arith, nat_tests, top, register_fits)) in
           ((ap is_none (word_of_object (word fr a) (register sh a) obj (at_hand.good.stack.1.words a)), (h, tt)), finish (moved (top marked a) (top ls x) s.cells) (set_word fr2 x None) (set_register sh2 x (Maybe y Ready)) refl refl (items e) (next_unowning sh2.registers x (Maybe y Ready) u) (retaken p t (moved (top marked a) (top ls x) s.cells) (set_word fr2 x None) sh2 ls x (register sh a) (Maybe y Ready) weak f) leads)
@@ -339,8 +357,8 @@ module _ (p : Image) (t : Typing) (c : Choice) (s : State) (fr : Frame) (sh : Sh
   after_it d = record s { tasks = Dispatched d ∷ tasks_of ls; items = below_top s.items }
 
   -- what is claimed with it is what was claimed below the method, but for a message that was served
-  pub dispatch_after :
-      (d : Dispatch) (a : ℕ) → Returnable p fr sh a → no_entry sh.entries ≡ true → EndsDispatch p d Now → SitsFirst s.cells (seat_of d) seats → IsAttended p s.cells d →
+  pub dispatch_after : (d : Dispatch) (a : ℕ) →
+      Returnable p fr sh a → no_entry sh.entries ≡ true → EndsDispatch p d Now → SitsFirst s.cells (seat_of d) seats → IsAttended p s.cells d →
       ((q : Place) → Fits p (seen s.cells) (held s.cells q) (claim p (declared p s.cells) (Dispatching d seats ∷ ls) q)) → WellTyped p t (after_it d)
   dispatch_after d a r entries ends first attended fits = record {
     layers = Dispatching d seats ∷ ls;
@@ -362,15 +380,15 @@ module _ (p : Image) (t : Typing) (c : Choice) (s : State) (fr : Frame) (sh : Sh
   plain_below :
       no_entry sh.entries ≡ true → none_owns sh.registers ≡ true → (serves p fr.method ≡ true → ⊥) → (q : Place) →
       Fits p (seen s.cells) (held s.cells q) (claim p (declared p s.cells) (Dispatching w seats ∷ ls) q)
-  plain_below entries free plain q =
-      rw (mark_claims p (declared p s.cells) gv (Dispatching w seats ∷ ls) q) at (ended p s.cells fr sh dispatched at_hand.good.stack.1.holder at_hand.good.stack.1.view at_hand.good.stack.2 at_hand.good.stack.3 refl entries free (λ serving. absurd (plain serving)) q (seen s.cells) (held s.cells q) (at_hand.good.fits q))
+  plain_below entries free plain q = rw (mark_claims p
+      (declared p s.cells) gv (Dispatching w seats ∷ ls) q) at (ended p s.cells fr sh dispatched at_hand.good.stack.1.holder at_hand.good.stack.1.view
+      at_hand.good.stack.2 at_hand.good.stack.3 refl entries free (λ serving. absurd (plain serving)) q (seen s.cells) (held s.cells q) (at_hand.good.fits q))
 
   -- with nothing given, the needs of a return are those of its end
-  pub return_nothing :
-      (d : Dispatch) (a : ℕ) → AllTrue (rule_needs p fr.method fr.place sh (Return a)) → gv ≡ Nothing → AllTrue (needs_ended w s.cells) →
+  pub return_nothing : (d : Dispatch) (a : ℕ) → AllTrue (rule_needs p fr.method fr.place sh (Return a)) → gv ≡ Nothing → AllTrue (needs_ended w s.cells) →
       ((r : Returnable p fr sh a) → WellTyped p t (after_it d) → WellTyped p t (after_return p t c s fr sh dispatched at_hand a r s.cells)) →
-      EndsDispatch p d Now → SitsFirst s.cells (seat_of d) seats → IsAttended p s.cells d →
-      (Returnable p fr sh a → no_entry sh.entries ≡ true → none_owns sh.registers ≡ true → (q : Place) → Fits p (seen s.cells) (held s.cells q) (claim p (declared p s.cells) (Dispatching d seats ∷ ls) q)) →
+      EndsDispatch p d Now → SitsFirst s.cells (seat_of d) seats → IsAttended p s.cells d → (Returnable p fr sh a → no_entry sh.entries ≡ true →
+      none_owns sh.registers ≡ true → (q : Place) → Fits p (seen s.cells) (held s.cells q) (claim p (declared p s.cells) (Dispatching d seats ∷ ls) q)) →
       AllTrue (needs p c fr (tasks_of dispatched) s (Return a)) × WellTyped p t (does p c fr (tasks_of dispatched) s (Return a))
   return_nothing d a n none met so ends first attended fits =
       let r = returnable p fr sh a n in
@@ -382,19 +400,25 @@ module _ (p : Image) (t : Typing) (c : Choice) (s : State) (fr : Frame) (sh : Sh
       )
 
 -- to that of main, or of an object
-pub law_return_main : (p : Image) (t : Typing) (c : Choice) (s : State) (fr : Frame) (sh : Shape) (gv : Gives) (seats : List Seat) (ls : List Layer) (at_hand : At p t s fr sh (Mark gv ∷ Dispatching Of_main seats ∷ ls)) (a : ℕ) → Law p t c s fr sh (Mark gv ∷ Dispatching Of_main seats ∷ ls) at_hand (Return a)
+pub law_return_main : (p : Image) (t : Typing) (c : Choice) (s : State)
+    (fr : Frame) (sh : Shape) (gv : Gives) (seats : List Seat) (ls : List Layer) (at_hand : At p t s fr sh (Mark gv ∷ Dispatching Of_main seats ∷ ls)) (a : ℕ) →
+    Law p t c s fr sh (Mark gv ∷ Dispatching Of_main seats ∷ ls) at_hand (Return a)
 law_return_main p t c s fr sh gv seats ls at_hand a n leads =
     let below = at_hand.good.stack.4.1 in
-    return_nothing p t c s fr sh gv Of_main seats ls at_hand Of_main a n below.0 tt (λ r v. v) tt below.3 tt (λ r entries free. plain_below p t c s fr sh gv Of_main seats ls at_hand entries free at_hand.good.stack.1.message.0)
+    return_nothing p t c s fr sh gv Of_main seats ls at_hand Of_main a n below.0 tt
+    (λ r v. v) tt below.3 tt (λ r entries free. plain_below p t c s fr sh gv Of_main seats ls at_hand entries free at_hand.good.stack.1.message.0)
 
-pub law_return_object : (p : Image) (t : Typing) (c : Choice) (s : State) (fr : Frame) (sh : Shape) (gv : Gives) (x : Seat) (seats : List Seat) (ls : List Layer) (at_hand : At p t s fr sh (Mark gv ∷ Dispatching (Of_object x) seats ∷ ls)) (a : ℕ) → Law p t c s fr sh (Mark gv ∷ Dispatching (Of_object x) seats ∷ ls) at_hand (Return a)
+pub law_return_object : (p : Image) (t : Typing) (c : Choice) (s : State) (fr : Frame) (sh : Shape)
+    (gv : Gives) (x : Seat) (seats : List Seat) (ls : List Layer) (at_hand : At p t s fr sh (Mark gv ∷ Dispatching (Of_object x) seats ∷ ls)) (a : ℕ) →
+    Law p t c s fr sh (Mark gv ∷ Dispatching (Of_object x) seats ∷ ls) at_hand (Return a)
 law_return_object p t c s fr sh gv x seats ls at_hand a n leads =
     let below = at_hand.good.stack.4.1 in
-    return_nothing p t c s fr sh gv (Of_object x) seats ls at_hand (Of_object x) a n below.0 tt (λ r v. v) tt below.3 tt (λ r entries free. plain_below p t c s fr sh gv (Of_object x) seats ls at_hand entries free at_hand.good.stack.1.message.0)
+    return_nothing p t c s fr sh gv (Of_object x) seats ls at_hand (Of_object x) a n below.0 tt
+    (λ r v. v) tt below.3 tt (λ r entries free. plain_below p t c s fr sh gv (Of_object x) seats ls at_hand entries free at_hand.good.stack.1.message.0)
 
 -- to that of a server which serves a message: it is taken, and the dispatch ends as an object's
-module _ (p : Image) (t : Typing) (c : Choice) (s : State) (fr : Frame) (sh : Shape) (gv : Gives) (x : Seat) (client : ℕ) (o : Object) (seats : List Seat) (ls : List Layer)
-    (at_hand : At p t s fr sh (Mark gv ∷ Dispatching (Of_server x client (Serves o)) seats ∷ ls)) where
+module _ (p : Image) (t : Typing) (c : Choice) (s : State) (fr : Frame) (sh : Shape) (gv : Gives) (x : Seat) (client : ℕ)
+    (o : Object) (seats : List Seat) (ls : List Layer) (at_hand : At p t s fr sh (Mark gv ∷ Dispatching (Of_server x client (Serves o)) seats ∷ ls)) where
   serves_it : serves p fr.method ≡ true
   serves_it = at_hand.good.stack.1.message.1 tt
 
@@ -411,12 +435,11 @@ module _ (p : Image) (t : Typing) (c : Choice) (s : State) (fr : Frame) (sh : Sh
       bare = record sh { delivery = Here }
 
       -- with the message as it was, the method ends
-      whole :
-          (q : Place) → Fits p (seen s.cells) (held s.cells q) (claim p (declared p s.cells) (Method fr bare ∷ Mark gv ∷ Dispatching (Of_server x client (Serves o)) seats ∷ ls) q) →
+      whole : (q : Place) → Fits p
+          (seen s.cells) (held s.cells q) (claim p (declared p s.cells) (Method fr bare ∷ Mark gv ∷ Dispatching (Of_server x client (Serves o)) seats ∷ ls) q) →
           Fits p (seen s.cells) (held s.cells q) (claim p (declared p s.cells) (Mark gv ∷ Dispatching (Of_server x client (Serves o)) seats ∷ ls) q)
-      whole q f =
-          ended p s.cells fr bare (Mark gv ∷ Dispatching (Of_server x client (Serves o)) seats ∷ ls) at_hand.good.stack.1.holder at_hand.good.stack.1.view at_hand.good.stack.2 at_hand.good.stack.3 refl entries free (λ serving. refl) q
-          (seen s.cells) (held s.cells q) f
+      whole q f = ended p s.cells fr bare (Mark gv ∷ Dispatching (Of_server x client (Serves o)) seats ∷ ls) at_hand.good.stack.1.holder
+          at_hand.good.stack.1.view at_hand.good.stack.2 at_hand.good.stack.3 refl entries free (λ serving. refl) q (seen s.cells) (held s.cells q) f
 
       same_fields : (home : Home) (m f : ℕ) (k : Kind) → home_claim p (holder_of p fr.method) home sh m f k ≡ home_claim p (holder_of p fr.method) home (record sh { delivery = Here }) m f k
       same_fields Static m f k = refl
@@ -437,13 +460,11 @@ module _ (p : Image) (t : Typing) (c : Choice) (s : State) (fr : Frame) (sh : Sh
       go (Field n f) =
           whole (Field n f) (grind (arith, nat_tests, same_fields, below))
       go (Going k) = whole (Going k) (at_hand.good.fits (Going k))
-      go (Elsewhere Root) =
-          whole (Elsewhere Root)
-          (subst (λ k. Fits p (seen s.cells) (held s.cells (Elsewhere Root)) k) (same_root fr.home (claim p (declared p s.cells) below (Elsewhere Root))) (at_hand.good.fits (Elsewhere Root)))
+      go (Elsewhere Root) = whole (Elsewhere Root) (subst (λ k. Fits p (seen s.cells) (held s.cells (Elsewhere Root)) k)
+          (same_root fr.home (claim p (declared p s.cells) below (Elsewhere Root))) (at_hand.good.fits (Elsewhere Root)))
       go (Elsewhere (Session m k)) = at_hand.good.fits (Elsewhere (Session m k))
-      go (Elsewhere In_service) =
-          subst (λ l. Fits p (seen s.cells) (held s.cells (Elsewhere In_service)) (claim p (declared p s.cells) (Dispatching (Of_object x) seats ∷ l) (Elsewhere In_service)))
-          (sym at_hand.good.stack.4.1.1) (taken a r)
+      go (Elsewhere In_service) = subst (λ l. Fits p (seen s.cells) (held s.cells (Elsewhere In_service))
+          (claim p (declared p s.cells) (Dispatching (Of_object x) seats ∷ l) (Elsewhere In_service))) (sym at_hand.good.stack.4.1.1) (taken a r)
       go (Elsewhere (Queued m k)) = at_hand.good.fits (Elsewhere (Queued m k))
 
   pub law_return_served : (a : ℕ) → Law p t c s fr sh (Mark gv ∷ Dispatching (Of_server x client (Serves o)) seats ∷ ls) at_hand (Return a)
@@ -474,10 +495,12 @@ module _ (p : Image) (t : Typing) (c : Choice) (s : State) (fr : Frame) (sh : Sh
           undos = at_hand.undos;
           good = record {
             stack = (tt, at_hand.good.stack.4.1);
-            fits = λ q. ended p s.cells fr sh below at_hand.good.stack.1.holder at_hand.good.stack.1.view at_hand.good.stack.2 at_hand.good.stack.3 refl entries free (λ serving. absurd (at_hand.good.stack.1.message.0 serving)) q (seen s.cells) (held s.cells q) (at_hand.good.fits q);
+            fits = λ q. ended p s.cells fr sh below at_hand.good.stack.1.holder at_hand.good.stack.1.view at_hand.good.stack.2 at_hand.good.stack.3
+                refl entries free (λ serving. absurd (at_hand.good.stack.1.message.0 serving)) q (seen s.cells) (held s.cells q) (at_hand.good.fits q);
             suits = all_returned p s.cells s.cells fr sh below at_hand.good.suits at_hand.good.stack.2 (λ n. refl) (λ n off. refl) (λ o from e h.
                 let apart : IsApart p fr.view fr.method (Inside o from) below = rw e at at_hand.good.stack.3 in
-                rests_there p o below (requested s.cells o.name) apart.3 (suits_rests (thing_kind p o.thing) sh.states (requested s.cells o.name) r.settled (rw (known_resting p o fr sh.states below at_hand.good.stack.4.0.2 apart.3) at h)));
+                rests_there p o below (requested s.cells o.name) apart.3 (suits_rests (thing_kind p o.thing) sh.states
+                (requested s.cells o.name) r.settled (rw (known_resting p o fr sh.states below at_hand.good.stack.4.0.2 apart.3) at h)));
             tidy = at_hand.good.tidy;
           };
         }),
@@ -509,7 +532,9 @@ module _ (p : Image) (t : Typing) (c : Choice) (s : State) (fr : Frame) (sh : Sh
           undos = at_hand.undos;
           good = record {
             stack = (tt, below.1, below.2, below.3, tt);
-            fits = λ q. rw (same_claims answer (declared p s.cells) q) (ended p s.cells fr sh asker at_hand.good.stack.1.holder at_hand.good.stack.1.view at_hand.good.stack.2 at_hand.good.stack.3 refl entries free (λ serving. absurd (at_hand.good.stack.1.message.0 serving)) q (seen s.cells) (held s.cells q) (at_hand.good.fits q));
+            fits = λ q. rw (same_claims answer (declared p s.cells) q)
+                (ended p s.cells fr sh asker at_hand.good.stack.1.holder at_hand.good.stack.1.view at_hand.good.stack.2 at_hand.good.stack.3 refl entries free
+                (λ serving. absurd (at_hand.good.stack.1.message.0 serving)) q (seen s.cells) (held s.cells q) (at_hand.good.fits q));
             suits = grind (arith, nat_tests, all_returned p s.cells s.cells fr sh, rests_there p, suits_rests, known_resting p);
             tidy = at_hand.good.tidy;
           };

@@ -33,9 +33,8 @@ no_seat cs (Elsewhere w) (x ∷ xs) h s = h
 no_seat cs (Going k) (x ∷ xs) h s = (is_elsewhere (Going k) x.place xs s.0.2 tt, no_seat cs (Going k) xs tt s.1)
 
 -- where all other places and their objects are as they were
-pub sits_kept :
-    (cs cs' : List Cell) (a b : Place) (xs : List Seat) →
-    ((r : Place) (o : Object) → same_place a r ≡ false → same_place b r ≡ false → held cs r ≡ Some o → named cs o.name ≡ Some o → (held cs' r ≡ Some o) × (named cs' o.name ≡ Some o)) →
+pub sits_kept : (cs cs' : List Cell) (a b : Place) (xs : List Seat) → ((r : Place) (o : Object) →
+    same_place a r ≡ false → same_place b r ≡ false → held cs r ≡ Some o → named cs o.name ≡ Some o → (held cs' r ≡ Some o) × (named cs' o.name ≡ Some o)) →
     NoSeatHere a xs → NoSeatHere b xs → AllSit cs xs → AllSit cs' xs
 sits_kept cs cs' a b xs stays na nb s = go xs (no_seat cs a xs na s) (no_seat cs b xs nb s) s
   where
@@ -46,9 +45,8 @@ sits_kept cs cs' a b xs stays na nb s = go xs (no_seat cs a xs na s) (no_seat cs
         ((h.0, h.1, s.0.2, s.0.3), go xs na.1 nb.1 s.1)
 
 -- and what is enlisted stays so
-pub first_kept :
-    (cs cs' : List Cell) (a : Place) (d : Option Seat) (xs : List Seat) →
-    ((r : Place) (o : Object) → same_place a r ≡ false → held cs r ≡ Some o → named cs o.name ≡ Some o → is_some (requested cs o.name) ≡ true → is_some (requested cs' o.name) ≡ true) →
+pub first_kept : (cs cs' : List Cell) (a : Place) (d : Option Seat) (xs : List Seat) → ((r : Place) (o : Object) →
+    same_place a r ≡ false → held cs r ≡ Some o → named cs o.name ≡ Some o → is_some (requested cs o.name) ≡ true → is_some (requested cs' o.name) ≡ true) →
     NoSeatHere a xs → AllSit cs xs → SitsFirst cs d xs → SitsFirst cs' d xs
 first_kept cs cs' a None xs stays na s f = f
 first_kept cs cs' a (Some x) xs stays na s f =

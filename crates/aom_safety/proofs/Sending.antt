@@ -21,7 +21,8 @@ use Rattle.aom_safety.proofs.Services.{held_served, named_served, requested_serv
 use Rattle.aom_safety.proofs.Straight.{fits_unowning}
 use Rattle.aom_safety.proofs.Things.{stands_itself}
 use Rattle.aom_safety.specs.Claims.{declared, declared_field}
-use Rattle.aom_semantics.specs.Places.{Service, unserved, Cell, Elsewhere, Message_of, Object, Place, Queued, Session, Tidy, held, named, same_place, seen, service_of}
+use Rattle.aom_semantics.specs.Places.{Service, unserved, Cell, Elsewhere, Message_of, Object, Place, Queued}
+use Rattle.aom_semantics.specs.Places.{Session, Tidy, held, named, same_place, seen, service_of}
 use Rattle.aom_safety.specs.Requests.{AllSuit, Suits, resting_in, rests_in, thing_kind}
 use Rattle.aom_semantics.specs.Servers.{asked_last, has_message, has_session, is_message, is_server, message_thing, reserved, session_thing}
 use Rattle.aom_safety.specs.WellTyped.{Fits, Good}
@@ -32,9 +33,10 @@ unfolding kind_of
 plain p y e = subst (λ x. Suits (thing_kind p x) (resting_in (rests_in p y)) None) (sym e) refl
 
 -- the message, with nothing in its queue, no session and no request, in the queue of that server
-module _ (p : Image) (t : Typing) (cs : List Cell) (good : Good p t cs []) (o : Object) (lives : named cs o.name ≡ Some o) (server : is_server p o.thing ≡ true) (c name : ℕ) (free : named cs name ≡ None)
-    (message : Cell) (named_so : message.object ≡ record { name = name; thing = Message }) (no_request : message.request ≡ None) (no_queue : message.service.queue ≡ []) (no_session : message.service.sessions ≡ []) (owner : message.owner ≡ Elsewhere (Queued o.name name))
-    (none_waits : has_message (service_of cs o.name) name ≡ false) where
+module _ (p : Image) (t : Typing) (cs : List Cell) (good : Good p t cs []) (o : Object) (lives : named cs o.name ≡ Some o) (server : is_server p o.thing ≡ true)
+    (c name : ℕ) (free : named cs name ≡ None) (message : Cell) (named_so : message.object ≡ record { name = name; thing = Message })
+    (no_request : message.request ≡ None) (no_queue : message.service.queue ≡ []) (no_session : message.service.sessions ≡ [])
+    (owner : message.owner ≡ Elsewhere (Queued o.name name)) (none_waits : has_message (service_of cs o.name) name ≡ false) where
   abbrev rest : List Cell
   rest = reserved (asked_last (Message_of c name)) o.name cs
 
@@ -76,8 +78,9 @@ module _ (p : Image) (t : Typing) (cs : List Cell) (good : Good p t cs []) (o : 
       go : (b : Bool) → (name == n) ≡ b → has_message (cond b message.service (service_of rest n)) m ≡ has_message (service_of cs n) m
       go true e = grind (arith, nat_tests, eqb-true name n e, service_unnamed cs name free)
       go false e = by_server cs o lives (asked_last (Message_of c name)) (λ n v. ((o.name == n) && (name == m)) ≡ false → has_message v m ≡ has_message (service_of cs n) m)
-          (λ other. list_any-append (λ x. is_message m x) (service_of cs o.name).queue (Message_of c name ∷ []) ∙ ap (λ b. list_any (λ x. is_message m x) (service_of cs o.name).queue || (b || false)) (sym (ap (λ b. b && (name == m)) (eq-eqb o.name o.name refl)) ∙ other) ∙ or_false (list_any (λ x. is_message m x) (service_of cs o.name).queue))
-          (λ n apart same. refl) n other
+          (λ other. list_any-append (λ x. is_message m x) (service_of cs o.name).queue (Message_of c name ∷ [])
+          ∙ ap (λ b. list_any (λ x. is_message m x) (service_of cs o.name).queue || (b || false)) (sym (ap (λ b. b && (name == m))
+          (eq-eqb o.name o.name refl)) ∙ other) ∙ or_false (list_any (λ x. is_message m x) (service_of cs o.name).queue)) (λ n apart same. refl) n other
 
   other_name : (name == o.name) ≡ false
   other_name = ne_eqb name o.name (λ same. let clash : Some o ≡ None = sym lives ∙ ap (λ k. named cs k) (sym same) ∙ free in cc)

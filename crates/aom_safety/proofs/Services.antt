@@ -4,10 +4,12 @@ use Rattle.std.proofs.Common.{arith, List, None, Option, Some, ap, false, refl, 
 use Rattle.aom_image.specs.Image.{Image}
 use Rattle.aom_safety.specs.WellTyped.{AllSit, SitsFirst, seat_of, EndsSessions, IsAttended}
 use Rattle.aom_semantics.specs.State.{Seat, Dispatch}
-use Rattle.aom_semantics.proofs.Altering.{asking, bereaving, held_kept, moving, named_kept, read_here, read_kept, read_there, requests, services, serving, storing, tidy_kept}
+use Rattle.aom_semantics.proofs.Altering.{asking, bereaving, held_kept, moving, named_kept, read_here, read_kept}
+use Rattle.aom_semantics.proofs.Altering.{read_there, requests, services, serving, storing, tidy_kept}
 use Rattle.aom_semantics.proofs.Maps.{read_unnamed, read_without}
 use Rattle.aom_semantics.specs.Natives.{all_bereaved}
-use Rattle.aom_semantics.specs.Places.{Cell, Object, Place, Request, Service, Tidy, held, moved, named, requested, service_of, set_request, set_service, set_word_field, unserved, without}
+use Rattle.aom_semantics.specs.Places.{Cell, Object, Place, Request, Service, Tidy, held, moved, named, requested}
+use Rattle.aom_semantics.specs.Places.{service_of, set_request, set_service, set_word_field, unserved, without}
 
 pub service_moved : (cs : List Cell) (p q : Place) (n : ℕ) → service_of (moved p q cs) n ≡ service_of cs n
 service_moved cs p q = read_kept (moving p q) services (λ c. refl) cs
@@ -52,9 +54,8 @@ service_there cs m n v = read_there (serving m v) services m v (λ c. refl) cs n
 -- ---- what a stack says of it
 
 -- where its server has the same sessions
-attended_alike :
-    (p : Image) (cs cs' : List Cell) (d : Dispatch) → ((y : Seat) → seat_of d ≡ Some y → (service_of cs' y.object.name).sessions ≡ (service_of cs y.object.name).sessions) →
-    IsAttended p cs d → IsAttended p cs' d
+attended_alike : (p : Image) (cs cs' : List Cell) (d : Dispatch) → ((y : Seat) →
+    seat_of d ≡ Some y → (service_of cs' y.object.name).sessions ≡ (service_of cs y.object.name).sessions) → IsAttended p cs d → IsAttended p cs' d
 attended_alike p cs cs' x sessions h = grind arith
 
 module _ (p : Image) (cs cs' : List Cell) (service : (n : ℕ) → (service_of cs' n).sessions ≡ (service_of cs n).sessions) where
@@ -62,8 +63,8 @@ module _ (p : Image) (cs cs' : List Cell) (service : (n : ℕ) → (service_of c
   attended_kept d = attended_alike p cs cs' d (λ y e. service y.object.name)
 
 -- where it is so for the server of the dispatch
-pub attended_at :
-    (p : Image) (cs cs' : List Cell) (d : Dispatch) → ((y : Seat) → seat_of d ≡ Some y → service_of cs' y.object.name ≡ service_of cs y.object.name) → IsAttended p cs d → IsAttended p cs' d
+pub attended_at : (p : Image) (cs cs' : List Cell) (d : Dispatch) →
+    ((y : Seat) → seat_of d ≡ Some y → service_of cs' y.object.name ≡ service_of cs y.object.name) → IsAttended p cs d → IsAttended p cs' d
 attended_at p cs cs' d service = attended_alike p cs cs' d (λ y e. ap (λ v. v.sessions) (service y e))
 
 -- the object that is dispatched lives, and is at its place
@@ -73,7 +74,6 @@ sits_there cs seats y sits first = grind arith
 pub sits_lives : (cs : List Cell) (seats : List Seat) (y : Seat) → AllSit cs seats → SitsFirst cs (Some y) seats → named cs y.object.name ≡ Some y.object
 sits_lives cs seats y sits first = (sits_there cs seats y sits first).1
 
-pub sessions_kept :
-    (p : Image) (cs cs' : List Cell) → ((n : ℕ) → named cs' n ≡ named cs n) → ((n : ℕ) → (service_of cs' n).sessions ≡ (service_of cs n).sessions) → (o : Object) (left : List ℕ) →
-    EndsSessions p cs o left → EndsSessions p cs' o left
+pub sessions_kept : (p : Image) (cs cs' : List Cell) → ((n : ℕ) → named cs' n ≡ named cs n) →
+    ((n : ℕ) → (service_of cs' n).sessions ≡ (service_of cs n).sessions) → (o : Object) (left : List ℕ) → EndsSessions p cs o left → EndsSessions p cs' o left
 sessions_kept p cs cs' names service o left h = search (arith, nat_tests)

@@ -34,8 +34,8 @@ native_listed k e = grind arith
 unowed : (r : Option Request) → IsTrue (has server_states (state_of r)) → not (is_owed r) ≡ true
 unowed x h = grind arith
 
-module _ (p : Image) (t : Typing) (main_none : (m : ℕ) → method_role p m ≡ Some Main → own_kind p m ≡ None) (c : Choice) (s : State) (fr : Frame) (sh : Shape) (ls : List Layer)
-    (at_hand : At p t s fr sh ls) where
+module _ (p : Image) (t : Typing) (main_none : (m : ℕ) → method_role p m ≡ Some Main → own_kind p m ≡ None)
+    (c : Choice) (s : State) (fr : Frame) (sh : Shape) (ls : List Layer) (at_hand : At p t s fr sh ls) where
   native_home : is_native_kind (own_kind p fr.method) ≡ true → is_native_kind (home_kind p fr.home) ≡ true
   native_home n = ap is_native_kind (home_is_own p t main_none c s fr sh ls at_hand (native_listed (own_kind p fr.method) n)) ∙ n
 

@@ -23,7 +23,8 @@ use Rattle.aom_semantics.specs.Moves.{IsOpen, answered, dispatch_ends, failed, h
 use Rattle.aom_semantics.specs.Places.{Elsewhere, Object, Root, held}
 use Rattle.aom_safety.specs.Quiet.{IsCalm}
 use Rattle.aom_safety.specs.Registers.{AllInRange}
-use Rattle.aom_semantics.specs.State.{Of_server, Accept_left, Answered, Asks, Object_left, Of_object, Choice, Dispatch, Dispatched, Goes, Main_left, Of_main, Of_root, Outcome, State, Task}
+use Rattle.aom_semantics.specs.State.{Of_server, Accept_left, Answered, Asks, Object_left, Of_object, Choice, Dispatch}
+use Rattle.aom_semantics.specs.State.{Dispatched, Goes, Main_left, Of_main, Of_root, Outcome, State, Task}
 use Rattle.aom_safety.specs.Steps.{Move}
 use Rattle.aom_safety.specs.WellTyped.{Good, Keeps, WellTyped}
 use Rattle.aom_semantics.specs.World.{Heard, IsBetween, IsBusy, Environment, Reaches, Turning, begins, boot_state, moves, turn, turned, turning, turns}

@@ -2,7 +2,8 @@
 use Rattle.std.proofs.lemmas.Bool.Decides.{nat_tests}
 use Rattle.std.proofs.Common.{Bool, List, Option, Some, ap, arith, false, sym, true, ℕ, ◌∙◌, ◌≡◌}
 use Rattle.std.specs.Prelude.{is_some}
-use Rattle.aom_safety.proofs.Sifted.{cell_lives, cell_of, held_cell, named_before, named_cell, object_in, placed_before, service_cell, service_in, service_sifted, sifted}
+use Rattle.aom_safety.proofs.Sifted.{cell_lives, cell_of, held_cell, named_before, named_cell, object_in}
+use Rattle.aom_safety.proofs.Sifted.{placed_before, service_cell, service_in, service_sifted, sifted}
 use Rattle.aom_safety.specs.Kept.{HasSources, ServesSent, one_if_some, sources_of}
 use Rattle.aom_semantics.specs.Places.{Cell, Elsewhere, In_service, Object, Sender, Service, Tidy, held, named, service_of}
 use Rattle.aom_semantics.specs.Servers.{discarded, is_from, unslotted}
@@ -43,7 +44,8 @@ module _ (cs cs' : List Cell) where
 -- ---- some cells go, and those that stay keep that
 
 module _ (drops : Cell → Bool) (f : Cell → Service) where
-  stays_as : {A : Type 0} (read : Service → A) → ((c : Cell) → read (f c) ≡ read c.service) → (cs : List Cell) → Tidy cs → (n : ℕ) (c : Cell) → cell_of cs n ≡ Some c → drops c ≡ false → read (service_of (sifted drops f cs) n) ≡ read (service_of cs n)
+  stays_as : {A : Type 0} (read : Service → A) → ((c : Cell) → read (f c) ≡ read c.service) → (cs : List Cell) →
+      Tidy cs → (n : ℕ) (c : Cell) → cell_of cs n ≡ Some c → drops c ≡ false → read (service_of (sifted drops f cs) n) ≡ read (service_of cs n)
   stays_as read keeps cs tidy n c here stays = grind (arith, nat_tests, service_sifted, service_cell, service_in)
 
   pub sources_sifted : ((c : Cell) → sources_of (f c) ≡ sources_of c.service) → (cs : List Cell) → Tidy cs → HasSources cs → HasSources (sifted drops f cs)

@@ -27,7 +27,8 @@ use Rattle.aom_safety.specs.Claims.{Dispatching, Dying, Layer, Mark, Method, Unw
 use Rattle.aom_safety.specs.Laws.{IsWired}
 use Rattle.aom_semantics.specs.Moves.{counted, does, needs, step, step_instr, step_task}
 use Rattle.aom_semantics.specs.Places.{named}
-use Rattle.aom_semantics.specs.State.{Closing, Seat, Stage, Home, Of_server, Serves, Of_main, Of_object, Accepts, Asks, Choice, Destroy, Dispatch, Dispatched, Frame, IsStuck, Need, Run, State, Task, Trapped, Unwind, guarded, next}
+use Rattle.aom_semantics.specs.State.{Closing, Seat, Stage, Home, Of_server, Serves, Of_main, Of_object, Accepts, Asks, Choice, Destroy}
+use Rattle.aom_semantics.specs.State.{Dispatch, Dispatched, Frame, IsStuck, Need, Run, State, Task, Trapped, Unwind, guarded, next}
 use Rattle.aom_safety.specs.WellTyped.{EndsStage, Caught, Good, Keeps, Now, Returns, WellTyped}
 use Rattle.aom_safety.proofs.Layers.{closing_layer, dispatch_layer, going_layer, leave_layer, mark_layer, method_layer}
 use Rattle.aom_safety.proofs.Cancelling.{law_cancel}
@@ -42,8 +43,8 @@ kept : (p : Image) (t : Typing) (needs : List Need) (s : State) → AllTrue need
 kept p t [] s n w = w
 kept p t (need ∷ needs) s n w = subst (λ b. Keeps p t (cond b (guarded needs s) (IsStuck need.1))) (sym n.0) (kept p t needs s n.1 w)
 
-module _ (p : Image) (t : Typing) (wired : IsWired p) (typed : IsTyped p t) (c : Choice) (s : State) (fr : Frame) (sh : Shape) (ls : List Layer) (at_hand : At p t s fr sh ls)
-    (unused : named s.cells c.name ≡ None) where
+module _ (p : Image) (t : Typing) (wired : IsWired p) (typed : IsTyped p t)
+    (c : Choice) (s : State) (fr : Frame) (sh : Shape) (ls : List Layer) (at_hand : At p t s fr sh ls) (unused : named s.cells c.name ≡ None) where
   law_stop : Law p t c s fr sh ls at_hand Stop
   law_stop n leads = (tt, well p t c s fr sh ls at_hand (does p c fr (tasks_of ls) s Stop) (next fr) sh refl at_hand.items at_hand.undos (settle p t s.cells (next fr) sh ls (stepped p t s.cells fr sh ls (fitted p t s.cells fr sh ls at_hand.good)) leads.0))
 
@@ -94,7 +95,8 @@ no_stage : (p : Image) (x : Seat) (stage : Stage) (m : ℕ) (home : Home) → En
 no_stage p x y m home e = grind arith
 
 -- a method returns to what stands below it
-returns : (p : Image) (t : Typing) → IsWired p → IsTyped p t → (c : Choice) (s : State) (fr : Frame) (sh : Shape) (ls : List Layer) (at_hand : At p t s fr sh ls) (a : ℕ) → Law p t c s fr sh ls at_hand (Return a)
+returns : (p : Image) (t : Typing) → IsWired p → IsTyped p t →
+    (c : Choice) (s : State) (fr : Frame) (sh : Shape) (ls : List Layer) (at_hand : At p t s fr sh ls) (a : ℕ) → Law p t c s fr sh ls at_hand (Return a)
 returns p t wired typed c s fr sh [] h a = let clash : Returns fr.method fr.home ≡ Now = h.good.stack.4 in cc
 returns p t wired typed c s fr sh (Method fr2 sh2 ∷ ls) h a = law_return p t wired c s fr fr2 sh sh2 ls h a
 returns p t wired typed c s fr sh (Dying o ∷ ls) h a = law_destructor p t c s fr sh o ls h wired typed a
@@ -110,9 +112,8 @@ returns p t wired typed c s fr sh (Dispatching (Of_server x client stage) seats 
 returns p t wired typed c s fr sh _ h a = absurd (assumption tt)
 
 -- an instruction of a well-typed state
-pub instruction_keeps :
-    (p : Image) (t : Typing) → IsWired p → IsTyped p t → (c : Choice) (s : State) (fr : Frame) (sh : Shape) (ls : List Layer) → At p t s fr sh ls → named s.cells c.name ≡ None →
-    Keeps p t (step_instr p c fr (tasks_of ls) s (instr_at p fr.method fr.place))
+pub instruction_keeps : (p : Image) (t : Typing) → IsWired p → IsTyped p t → (c : Choice) (s : State) (fr : Frame) (sh : Shape) (ls : List Layer) →
+    At p t s fr sh ls → named s.cells c.name ≡ None → Keeps p t (step_instr p c fr (tasks_of ls) s (instr_at p fr.method fr.place))
 instruction_keeps p t wired typed c s fr sh ls at_hand unused =
     let x = typed.each fr.method fr.place sh at_hand.good.stack.0 in
     let l = law p t wired typed c s fr sh ls at_hand unused x.instr x.stands (λ a. returns p t wired typed c s fr sh ls at_hand a) x.needs x.flows in
@@ -129,8 +130,8 @@ module _ (p : Image) (t : Typing) (c : Choice) (s : State) where
 
   of_method : IsWired p → IsTyped p t → named s.cells c.name ≡ None → (fr : Frame) (ts : List Task) → s.tasks ≡ Run fr ∷ ts → WellTyped p t s → Keeps p t (step_task p c s s.tasks)
   of_method wired typed unused fr ts e w =
-      method_layer Stacked fr ts w.layers (sym w.tasks ∙ e) (w.tasks, w.items, w.good) (λ sh ls rest h.
-      subst (λ l. Keeps p t (step_task p c s l)) (sym h.0) (instruction_keeps p t wired typed c s fr sh ls (record { tasks = h.0; items = h.1; undos = w.undos; good = h.2 }) unused))
+      method_layer Stacked fr ts w.layers (sym w.tasks ∙ e) (w.tasks, w.items, w.good) (λ sh ls rest h. subst (λ l. Keeps p t (step_task p c s l))
+      (sym h.0) (instruction_keeps p t wired typed c s fr sh ls (record { tasks = h.0; items = h.1; undos = w.undos; good = h.2 }) unused))
 
   of_going : (ts : List Task) → s.tasks ≡ Destroy ∷ ts → WellTyped p t s → Keeps p t (step_task p c s s.tasks)
   of_going ts e w =
@@ -162,9 +163,8 @@ module _ (p : Image) (t : Typing) (c : Choice) (s : State) where
   of_any wired typed unused (Dispatched d ∷ ts) e w = of_dispatch wired typed d ts e w
   of_any wired typed unused (Trapped ∷ ts) e w = mark_layer (λ ls. Good p t s.cells ls) ts w.layers (sym w.tasks ∙ e) w.good (λ gv ls rest good. absurd good.stack.0)
 
-pub move_keeps :
-    (p : Image) (t : Typing) → IsWired p → IsTyped p t → (c : Choice) (s : State) (fr : Frame) (ts : List Task) → WellTyped p t s → s.tasks ≡ Run fr ∷ ts → named s.cells c.name ≡ None →
-    Keeps p t (step p c s)
+pub move_keeps : (p : Image) (t : Typing) → IsWired p → IsTyped p t →
+    (c : Choice) (s : State) (fr : Frame) (ts : List Task) → WellTyped p t s → s.tasks ≡ Run fr ∷ ts → named s.cells c.name ≡ None → Keeps p t (step p c s)
 move_keeps p t wired typed c s fr ts w e unused = of_method p t c (counted p s) wired typed unused fr ts e (counted_well p t s w)
 
 pub destruction_keeps : (p : Image) (t : Typing) (c : Choice) (s : State) (ts : List Task) → WellTyped p t s → s.tasks ≡ Destroy ∷ ts → Keeps p t (step p c s)

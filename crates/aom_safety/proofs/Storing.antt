@@ -3,7 +3,8 @@ use Rattle.std.proofs.lemmas.Bool.Decides.{nat_tests}
 use Rattle.std.specs.Prelude.{is_some}
 use Rattle.aom_semantics.proofs.Maps.{requested_unnamed}
 use Rattle.aom_image.proofs.Given.{some_given}
-use Rattle.aom_semantics.proofs.Altering.{Alters, asking, bereaving, held_kept, named_kept, opening, read_here, read_kept, read_so, read_there, requests, services, storing, tidy_kept}
+use Rattle.aom_semantics.proofs.Altering.{Alters, asking, bereaving, held_kept, named_kept, opening, read_here, read_kept}
+use Rattle.aom_semantics.proofs.Altering.{read_so, read_there, requests, services, storing, tidy_kept}
 use Rattle.aom_safety.proofs.Services.{attended_kept, sessions_kept}
 use Rattle.aom_safety.proofs.Seats.{first_kept}
 use Rattle.std.proofs.Common.{arith, Bool, List, Option, Some, [], ap, cond, false, refl, true, ℕ, ℤ, ◌==◌, ◌∙◌, ◌∷◌, ◌≡◌, None}
@@ -31,7 +32,8 @@ pub record Alike (cs cs' : List Cell) : Type 0 where
   pub tidy : Tidy cs → Tidy cs'
 
 -- each is changed by itself, and stays in its place and for its clients
-pub altered_alike : {change : List Cell → List Cell} (a : Alters change) → ((c : Cell) → (a.each c).owner ≡ c.owner) → ((c : Cell) → (a.each c).service ≡ c.service) → (cs : List Cell) → Alike cs (change cs)
+pub altered_alike : {change : List Cell → List Cell} (a : Alters change) →
+    ((c : Cell) → (a.each c).owner ≡ c.owner) → ((c : Cell) → (a.each c).service ≡ c.service) → (cs : List Cell) → Alike cs (change cs)
 altered_alike a stays serves cs = record {
   held_so = held_kept a stays cs;
   named_so = named_kept a cs;
@@ -79,9 +81,8 @@ pub set_listed :
     is_some (requested (set_request n r cs) m) ≡ true
 set_listed cs n r h m some = asked_some cs n m r (λ e. h (ap (λ k. is_some (requested cs k)) (eqb-true n m e) ∙ some)) some
 
-pub listed_still :
-    (cs : List Cell) (home : Home) (r : Option Request) → (is_some (own_request cs home) ≡ true → is_some r ≡ true) → (m : ℕ) → is_some (requested cs m) ≡ true →
-    is_some (requested (rerequested cs home r) m) ≡ true
+pub listed_still : (cs : List Cell) (home : Home) (r : Option Request) →
+    (is_some (own_request cs home) ≡ true → is_some r ≡ true) → (m : ℕ) → is_some (requested cs m) ≡ true → is_some (requested (rerequested cs home r) m) ≡ true
 listed_still cs x r h m some = grind (arith, nat_tests, set_listed cs)
 
 pub rerequested_alike : (cs : List Cell) (home : Home) (r : Option Request) → Alike cs (rerequested cs home r)
@@ -116,18 +117,18 @@ module _ (p : Image) (t : Typing) (cs cs' : List Cell) (alike : Alike cs cs') wh
     stack_alike (Unwinding code es ∷ ls) back s = (s.0, stack_alike ls _ s.1)
 
   -- where what is claimed to be fresh has the request that it had
-  pub fits_alike :
-      (ls : List Layer) (r : Place) → ((x : Object) → held cs r ≡ Some x → is_ready_kind (claim p (declared p cs) ls r) ≡ false → requested cs' x.name ≡ requested cs x.name) →
+  pub fits_alike : (ls : List Layer) (r : Place) →
+      ((x : Object) → held cs r ≡ Some x → is_ready_kind (claim p (declared p cs) ls r) ≡ false → requested cs' x.name ≡ requested cs x.name) →
       Fits p (seen cs) (held cs r) (claim p (declared p cs) ls r) → Fits p (seen cs') (held cs' r) (claim p (declared p cs') ls r)
-  fits_alike ls r requests f =
-      rw (claim_rel (λ x y. x ≡ y) (λ k. refl) p (declared p cs') (declared p cs) ls r (declared_alike r)) (rw (alike.held_so r) (fits_age p (seen cs) (seen cs') (held cs r) _ (λ x e fresh age. (λ f. alike.held_so _ ∙ age.0 f, requests x e fresh ∙ age.1)) f))
+  fits_alike ls r requests f = rw (claim_rel (λ x y. x ≡ y) (λ k. refl) p (declared p cs') (declared p cs) ls r (declared_alike r))
+      (rw (alike.held_so r) (fits_age p (seen cs) (seen cs') (held cs r) _ (λ x e fresh age. (λ f. alike.held_so _ ∙ age.0 f, requests x e fresh ∙ age.1)) f))
 
   -- or where what has none gets none
   pub fits_listed :
       (ls : List Layer) (r : Place) → ((x : Object) → requested cs x.name ≡ None → requested cs' x.name ≡ None) →
       Fits p (seen cs) (held cs r) (claim p (declared p cs) ls r) → Fits p (seen cs') (held cs' r) (claim p (declared p cs') ls r)
-  fits_listed ls r none f =
-      rw (claim_rel (λ x y. x ≡ y) (λ k. refl) p (declared p cs') (declared p cs) ls r (declared_alike r)) (rw (alike.held_so r) (fits_age p (seen cs) (seen cs') (held cs r) _ (λ x e fresh age. (λ f. alike.held_so _ ∙ age.0 f, none x age.1)) f))
+  fits_listed ls r none f = rw (claim_rel (λ x y. x ≡ y) (λ k. refl) p (declared p cs') (declared p cs) ls r (declared_alike r))
+      (rw (alike.held_so r) (fits_age p (seen cs) (seen cs') (held cs r) _ (λ x e fresh age. (λ f. alike.held_so _ ∙ age.0 f, none x age.1)) f))
 
 -- the cells with a session of one of them open or not
 pub resessioned_alike : (cs : List Cell) (home : Home) (b : Bool) → Alike cs (resessioned cs home b)
@@ -139,9 +140,8 @@ resessioned_requests cs (Inside o from) b n = read_kept (opening o.name b) reque
 resessioned_requests cs _ b n = refl
 
 -- other cells in the same places, with the same requests
-pub alike_fitted :
-    (p : Image) (t : Typing) (cs cs' : List Cell) → Alike cs cs' → ((n : ℕ) → requested cs' n ≡ requested cs n) → (fr : Frame) (sh : Shape) (ls : List Layer) → Fitted p t cs fr sh ls →
-    Fitted p t cs' fr sh ls
+pub alike_fitted : (p : Image) (t : Typing) (cs cs' : List Cell) →
+    Alike cs cs' → ((n : ℕ) → requested cs' n ≡ requested cs n) → (fr : Frame) (sh : Shape) (ls : List Layer) → Fitted p t cs fr sh ls → Fitted p t cs' fr sh ls
 alike_fitted p t cs cs' alike requests fr sh ls g =
     record {
       fits = λ r. fits_alike p t cs cs' alike (Method fr sh ∷ ls) r (λ x e fresh. requests x.name) (g.fits r);
@@ -154,13 +154,13 @@ alike_fitted p t cs cs' alike requests fr sh ls g =
     }
 
 -- a session is open or not
-pub sessioned_fitted :
-    (p : Image) (t : Typing) (cs : List Cell) (home : Home) (b : Bool) (fr : Frame) (sh : Shape) (ls : List Layer) → Fitted p t cs fr sh ls → Fitted p t (resessioned cs home b) fr sh ls
+pub sessioned_fitted : (p : Image) (t : Typing) (cs : List Cell) (home : Home) (b : Bool) (fr : Frame) (sh : Shape) (ls : List Layer) →
+    Fitted p t cs fr sh ls → Fitted p t (resessioned cs home b) fr sh ls
 sessioned_fitted p t cs home b = alike_fitted p t cs (resessioned cs home b) (resessioned_alike cs home b) (resessioned_requests cs home b)
 
 -- a word is stored
-pub stored_fitted :
-    (p : Image) (t : Typing) (cs : List Cell) (home : Home) (w : ℕ) (v : ℤ) (fr : Frame) (sh : Shape) (ls : List Layer) → Fitted p t cs fr sh ls → Fitted p t (stored cs home w v) fr sh ls
+pub stored_fitted : (p : Image) (t : Typing) (cs : List Cell) (home : Home) (w : ℕ) (v : ℤ) (fr : Frame) (sh : Shape) (ls : List Layer) →
+    Fitted p t cs fr sh ls → Fitted p t (stored cs home w v) fr sh ls
 stored_fitted p t cs home w v = alike_fitted p t cs (stored cs home w v) (stored_alike cs home w v) (stored_requests cs home w v)
 
 -- a cell with another request and another session perhaps

@@ -7,7 +7,8 @@ use Rattle.aom_image.proofs.Given.{some_given}
 use Rattle.aom_image.specs.Image.{Image}
 use Rattle.aom_instructions.specs.declared.instr.Instr.{Instr}
 use Rattle.aom_image.specs.declared.method.Thing.{Thing}
-use Rattle.aom_shape.specs.Kinds.{field, filled, filling_of, is_empty, is_object_or_null, is_ready_kind, is_unowning, may_be, may_be_declared, register, set_register}
+use Rattle.aom_shape.specs.Kinds.{field, filled, filling_of, is_empty, is_object_or_null, is_ready_kind}
+use Rattle.aom_shape.specs.Kinds.{is_unowning, may_be, may_be_declared, register, set_register}
 use Rattle.aom_rules.specs.Rules.{flows, rule_needs}
 use Rattle.aom_shape.specs.Shape.{Shape}
 use Rattle.aom_roles.specs.Tables.{at, put_at}
@@ -17,7 +18,8 @@ use Rattle.aom_shape.specs.declared.kind.Filling.{Filling}
 use Rattle.aom_shape.specs.declared.kind.Kind.{Kind}
 use Rattle.aom_shape.specs.declared.kind.Kind.TheVariants.{Null, Unset}
 use Rattle.aom_safety.proofs.Seats.{NoFieldHere}
-use Rattle.aom_safety.proofs.Claimed.{Outside, claim-set_register, claim_frame, claim_from, claim_ready, claim_weaker, declared_moved, fits_weaker, holds_moved, keep_fits, outside_differs, own_there, owns_no_more, stack_moved, word_fits_weaker}
+use Rattle.aom_safety.proofs.Claimed.{Outside, claim-set_register, claim_frame, claim_from, claim_ready, claim_weaker, declared_moved, fits_weaker}
+use Rattle.aom_safety.proofs.Claimed.{holds_moved, keep_fits, outside_differs, own_there, owns_no_more, stack_moved, word_fits_weaker}
 use Rattle.aom_safety.proofs.Housing.{houses_field}
 use Rattle.aom_semantics.proofs.Maps.{at-put_at, held_moved, one_place, requested_moved, same_place-true, tidy_moved}
 use Rattle.aom_safety.proofs.Things.{stands_along}
@@ -26,7 +28,8 @@ use Rattle.aom_semantics.specs.Moves.{does, needs}
 use Rattle.aom_semantics.specs.Objects.{is_declared_thing, is_thing}
 use Rattle.aom_semantics.specs.Places.{Cell, Field, Object, Place, Register, Sight, Tidy, changed, held, moved, requested, same_place, seen}
 use Rattle.aom_semantics.specs.State.{AtRoot, Choice, Frame, Home, Inside, Run, State, Static, field_place, home_holder, next, set_word, word}
-use Rattle.aom_safety.specs.WellTyped.{CountsAs, AllUndo, Fits, Frames, Good, Holds, IsAlone, IsApart, IsHoused, Returns, Stack, WellTyped, WordFits, HasMessage}
+use Rattle.aom_safety.specs.WellTyped.{CountsAs, AllUndo, Fits, Frames, Good, Holds, IsAlone, IsApart}
+use Rattle.aom_safety.specs.WellTyped.{IsHoused, Returns, Stack, WellTyped, WordFits, HasMessage}
 use Rattle.aom_safety.proofs.Suiting.{all_moved, claims_less}
 use Rattle.aom_safety.specs.Requests.{AllSuit}
 use Rattle.aom_image.specs.Views.{method_role}
@@ -41,9 +44,8 @@ pub record At (p : Image) (t : Typing) (s : State) (fr : Frame) (sh : Shape) (ls
   pub good : Good p t s.cells (Method fr sh ∷ ls)
 
 -- what a register is, on either side
-pub register_fits :
-    (p : Image) (cs : List Cell) (fr : Frame) (sh : Shape) (ls : List Layer) → ((r : Place) → Fits p (seen cs) (held cs r) (claim p (declared p cs) (Method fr sh ∷ ls) r)) → (i : ℕ) →
-    Fits p (seen cs) (held cs (Register (length (tasks_of ls)) i)) (register sh i)
+pub register_fits : (p : Image) (cs : List Cell) (fr : Frame) (sh : Shape) (ls : List Layer) → ((r : Place) → Fits p (seen cs)
+    (held cs r) (claim p (declared p cs) (Method fr sh ∷ ls) r)) → (i : ℕ) → Fits p (seen cs) (held cs (Register (length (tasks_of ls)) i)) (register sh i)
 register_fits p cs fr sh ls fits i = grind (arith, nat_tests, eq-eqb)
 
 pub fits_unowning : (p : Image) (h : Sight) (o : Option Object) (k : Kind) → is_unowning k ≡ true → Fits p h o k → o ≡ None
@@ -97,20 +99,18 @@ abbrev pub began : Frame → ℕ × Option ℕ
 began fr = (fr.height, fr.view)
 
 -- nor is what the layers below claim of its object
-pub apart_too :
-    (p : Image) (fr fr' : Frame) (ls : List Layer) → fr'.home ≡ fr.home → fr'.method ≡ fr.method → began fr' ≡ began fr → IsApart p fr.view fr.method fr.home ls → IsApart p fr'.view fr'.method fr'.home ls
+pub apart_too : (p : Image) (fr fr' : Frame) (ls : List Layer) →
+    fr'.home ≡ fr.home → fr'.method ≡ fr.method → began fr' ≡ began fr → IsApart p fr.view fr.method fr.home ls → IsApart p fr'.view fr'.method fr'.home ls
 apart_too p fr fr' ls eh em eg apart = grind (arith, nat_tests, apart)
 
 -- a frame of the same method, home and view counts as the same
-counts_too :
-    (p : Image) (fr fr' : Frame) → fr'.home ≡ fr.home → fr'.method ≡ fr.method → began fr' ≡ began fr → CountsAs p (home_holder fr.home) fr.view (holder_of p fr.method) →
-    CountsAs p (home_holder fr'.home) fr'.view (holder_of p fr'.method)
+counts_too : (p : Image) (fr fr' : Frame) → fr'.home ≡ fr.home → fr'.method ≡ fr.method → began fr' ≡ began fr →
+    CountsAs p (home_holder fr.home) fr.view (holder_of p fr.method) → CountsAs p (home_holder fr'.home) fr'.view (holder_of p fr'.method)
 counts_too p fr fr' eh em eg counts = grind (arith, nat_tests)
 
 -- a frame of the same method and home is as alone
-alone_too :
-    (p : Image) (fr fr' : Frame) (ls : List Layer) → fr'.home ≡ fr.home → fr'.method ≡ fr.method → (is_cancel (method_role p fr.method) ≡ true → IsAlone p fr.home ls) →
-    is_cancel (method_role p fr'.method) ≡ true → IsAlone p fr'.home ls
+alone_too : (p : Image) (fr fr' : Frame) (ls : List Layer) → fr'.home ≡ fr.home → fr'.method ≡ fr.method →
+    (is_cancel (method_role p fr.method) ≡ true → IsAlone p fr.home ls) → is_cancel (method_role p fr'.method) ≡ true → IsAlone p fr'.home ls
 alone_too p fr fr' ls eh em alone e = subst (λ h. IsAlone p h ls) (sym eh) (alone (ap (λ m. is_cancel (method_role p m)) (sym em) ∙ e))
 
 -- and serves as it does
@@ -124,24 +124,20 @@ pub same_suits :
 same_suits p cs fr fr' sh sh' ls eh em es s o lives = grind (arith, nat_tests)
 
 -- a thing moves from one local place to another, with its claim
-pub relocate :
-    (p : Image) (t : Typing) (cs : List Cell) (fr fr' : Frame) (sh sh' : Shape) (ls : List Layer) (a b : Place) →
-    Fitted p t cs fr sh ls →
-    fr'.home ≡ fr.home → fr'.method ≡ fr.method → began fr' ≡ began fr → sh'.states ≡ sh.states →
-    held cs b ≡ None →
-    Outside a ls → Outside b ls →
-    ((o : Object) (from : Place) → fr'.home ≡ Inside o from → NoFieldHere a from × NoFieldHere b from) →
-    ((r : Place) (x : Object) → held cs r ≡ Some x → is_ready_kind (claim p (declared p cs) (Method fr sh ∷ ls) r) ≡ false → (f : ℕ) → same_place b (Field x.name f) ≡ false) →
-    ((r : Place) → claim p (declared p cs) (Method fr sh' ∷ ls) r ≡ changed (changed (claim p (declared p cs) (Method fr sh ∷ ls)) a Null) b (claim p (declared p cs) (Method fr sh ∷ ls) a) r) →
-    ((i : ℕ) → WordFits (word fr' i) (register sh' i)) →
-    Fitted p t (moved a b cs) fr' sh' ls
+pub relocate : (p : Image) (t : Typing) (cs : List Cell) (fr fr' : Frame) (sh sh' : Shape) (ls : List Layer) (a b : Place) →
+    Fitted p t cs fr sh ls → fr'.home ≡ fr.home → fr'.method ≡ fr.method → began fr' ≡ began fr → sh'.states ≡ sh.states → held cs b ≡ None → Outside a ls →
+    Outside b ls → ((o : Object) (from : Place) → fr'.home ≡ Inside o from → NoFieldHere a from × NoFieldHere b from) → ((r : Place) (x : Object) →
+    held cs r ≡ Some x → is_ready_kind (claim p (declared p cs) (Method fr sh ∷ ls) r) ≡ false → (f : ℕ) → same_place b (Field x.name f) ≡ false) →
+    ((r : Place) → claim p (declared p cs) (Method fr sh' ∷ ls) r ≡ changed (changed (claim p (declared p cs) (Method fr sh ∷ ls)) a Null) b
+    (claim p (declared p cs) (Method fr sh ∷ ls) a) r) → ((i : ℕ) → WordFits (word fr' i) (register sh' i)) → Fitted p t (moved a b cs) fr' sh' ls
 relocate p t cs fr fr' sh sh' ls a b g eh em eg es free oa ob nf fresh claims words =
     let cs' = moved a b cs in
     let d = declared p cs in
     let fits : (r : Place) → Fits p (seen cs') (held cs' r) (claim p d (Method fr sh' ∷ ls) r) =
     keep_fits p (seen cs) (seen cs') (claim p d (Method fr sh ∷ ls)) (claim p d (Method fr sh' ∷ ls)) a b (λ r. held_moved cs a b r free) (requested_moved cs a b) claims fresh g.fits in
     record {
-      fits = λ r. subst (λ k. Fits p (seen cs') (held cs' r) k) (ap (λ e. claim p e (Method fr sh' ∷ ls) r) (sym (declared_moved p cs a b)) ∙ sym (claim_frame p (declared p cs') fr fr' sh' ls r eh em)) (fits r);
+      fits = λ r. subst (λ k. Fits p (seen cs') (held cs' r) k)
+          (ap (λ e. claim p e (Method fr sh' ∷ ls) r) (sym (declared_moved p cs a b)) ∙ sym (claim_frame p (declared p cs') fr fr' sh' ls r eh em)) (fits r);
       suits = same_suits p (moved a b cs) fr fr' sh sh' ls eh em es (all_moved p cs a b (Method fr sh ∷ ls) g.suits);
       tidy = tidy_moved cs a b free g.tidy;
       frames = record {
@@ -214,9 +210,8 @@ abbrev pub top : List Layer → ℕ → Place
 top ls i = Register (length (tasks_of ls)) i
 
 -- the frame stands elsewhere, or has other counters
-pub reframed :
-    (p : Image) (t : Typing) (cs : List Cell) (fr fr' : Frame) (sh : Shape) (ls : List Layer) → fr'.home ≡ fr.home → fr'.method ≡ fr.method → began fr' ≡ began fr → fr'.words ≡ fr.words →
-    Fitted p t cs fr sh ls → Fitted p t cs fr' sh ls
+pub reframed : (p : Image) (t : Typing) (cs : List Cell) (fr fr' : Frame) (sh : Shape) (ls : List Layer) →
+    fr'.home ≡ fr.home → fr'.method ≡ fr.method → began fr' ≡ began fr → fr'.words ≡ fr.words → Fitted p t cs fr sh ls → Fitted p t cs fr' sh ls
 reframed p t cs fr fr' sh ls eh em eg ew g = record {
   fits = λ r. subst (λ k. Fits p (seen cs) (held cs r) k) (sym (claim_frame p (declared p cs) fr fr' sh ls r eh em)) (g.fits r);
   suits = same_suits p cs fr fr' sh sh ls eh em refl g.suits;
@@ -271,8 +266,8 @@ module _ (p : Image) (t : Typing) (c : Choice) (s : State) (fr : Frame) (sh : Sh
   no_word b e = word_of_object (word fr b) (register sh b) e (at_hand.good.stack.1.words b)
 
   abbrev pub Law : Instr → Type 0
-  Law i =
-      AllTrue (rule_needs p fr.method fr.place sh i) → AllLead t fr.method (flows p fr.method fr.place sh i) → AllTrue (needs p c fr (tasks_of ls) s i) × WellTyped p t (does p c fr (tasks_of ls) s i)
+  Law i = AllTrue (rule_needs p fr.method fr.place sh i) →
+      AllLead t fr.method (flows p fr.method fr.place sh i) → AllTrue (needs p c fr (tasks_of ls) s i) × WellTyped p t (does p c fr (tasks_of ls) s i)
 
   -- a well-typed state from its parts
   pub well :
@@ -330,9 +325,8 @@ module _ (p : Image) (t : Typing) (c : Choice) (s : State) (fr : Frame) (sh : Sh
   may_be_some x k e = grind arith
 
   -- what the frame works on is nowhere claimed to be fresh
-  pub this_is_ready :
-      (home : Home) (f : ℕ) → fr.home ≡ home → (r : Place) (x : Object) → held s.cells r ≡ Some x → is_ready_kind (claim p (declared p s.cells) (Method fr sh ∷ ls) r) ≡ false → (g : ℕ) →
-      same_place (field_place home f) (Field x.name g) ≡ false
+  pub this_is_ready : (home : Home) (f : ℕ) → fr.home ≡ home → (r : Place) (x : Object) → held s.cells r ≡ Some x →
+      is_ready_kind (claim p (declared p s.cells) (Method fr sh ∷ ls) r) ≡ false → (g : ℕ) → same_place (field_place home f) (Field x.name g) ≡ false
   this_is_ready Static f e r x h fresh g = refl
   this_is_ready AtRoot f e r x h fresh g = refl
   this_is_ready (Inside o from) f e r x h fresh g = ap (λ b. b && (f == g)) (ne_eqb o.name x.name differs)

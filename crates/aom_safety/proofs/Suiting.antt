@@ -16,15 +16,16 @@ use Rattle.aom_safety.specs.Claims.{Dispatching, Dying, Layer, Mark, Method, Unw
 use Rattle.aom_semantics.specs.Places.{Cell, Object, Phase, Place, Request, moved, named, requested}
 use Rattle.aom_semantics.specs.Enlisted.{cancelled, is_unanswered, on_request, pending, status_of}
 use Rattle.std.specs.Ordering.{int_eq}
-use Rattle.aom_safety.specs.Requests.{AllSuit, Joins, Known, Suits, Unworked, is_free, is_pledged, is_timed, known_at, phase_state, resting_in, rests_in, state_of, states_claim, thing_kind, works_at}
+use Rattle.aom_safety.specs.Requests.{AllSuit, Joins, Known, Suits, Unworked, is_free, is_pledged, is_timed, known_at}
+use Rattle.aom_safety.specs.Requests.{phase_state, resting_in, rests_in, state_of, states_claim, thing_kind, works_at}
 use Rattle.aom_semantics.specs.State.{Frame, Inside}
 use Rattle.aom_safety.specs.WellTyped.{IsHoused}
 use Rattle.aom_image.specs.declared.method.Gives.{Gives}
 use Rattle.aom_roles.specs.Roles.{is_cancel}
 
 -- a larger set
-pub suits_less :
-    (k : Option ClassKind) (a b : ℕ) (c : Bool) (r : Option Request) → IsTrue (has a b) → Suits k (record { states = b; cancelled = c }) r → Suits k (record { states = a; cancelled = c }) r
+pub suits_less : (k : Option ClassKind) (a b : ℕ) (c : Bool) (r : Option Request) →
+    IsTrue (has a b) → Suits k (record { states = b; cancelled = c }) r → Suits k (record { states = a; cancelled = c }) r
 suits_less x a b' c r h s = grind (arith, nat_tests, has_along a b')
 
 -- what is not issued, nor being cancelled, may rest
@@ -79,8 +80,8 @@ pub rests_there :
 rests_there p o ls r u s = subst (λ k. Suits (thing_kind p o.thing) k r) (sym (unworked_rests p o ls u)) s
 
 -- a method that does not cancel leaves what is known below it
-pub known_plain :
-    (p : Image) (fr : Frame) (states : ℕ) (below : Known) → is_cancel (method_role p fr.method) ≡ false → known_at p fr states below ≡ record { states = states; cancelled = below.cancelled }
+pub known_plain : (p : Image) (fr : Frame) (states : ℕ) (below : Known) →
+    is_cancel (method_role p fr.method) ≡ false → known_at p fr states below ≡ record { states = states; cancelled = below.cancelled }
 known_plain p fr states below e = ap (λ (b : Bool). record { states = states; cancelled = b || below.cancelled }) e
 
 -- nor is an object being cancelled on which none works below it
@@ -109,7 +110,8 @@ completed _ n r h s = ap (λ r. int_eq (status_of r) pending) s
 pub cancel_ends : (k : Option ClassKind) (n : Known) (r : Option Request) → IsTrue (has cancel_done n.states) → Suits k n r → Suits k (resting_in idle) (on_request cancelled r)
 cancel_ends (Some (An_active v)) n r h s = go r (has_along cancel_done n.states (state_of r) h s.0) s.2 s.3 s.4
   where
-    go : (r : Option Request) → IsTrue (has cancel_done (state_of r)) → is_unanswered r ≡ false → is_timed v r ≡ true → is_pledged v r ≡ true → Suits (Some (An_active v)) (resting_in idle) (on_request cancelled r)
+    go : (r : Option Request) → IsTrue (has cancel_done (state_of r)) →
+        is_unanswered r ≡ false → is_timed v r ≡ true → is_pledged v r ≡ true → Suits (Some (An_active v)) (resting_in idle) (on_request cancelled r)
     go r h u t q = grind arith
 cancel_ends (Some (A_server m x)) n r h s = go r (has_along cancel_done n.states (state_of r) h s.0) s.2
   where
@@ -125,16 +127,15 @@ pub rejoins_caller :
     Suits (thing_kind p o.thing) (states_claim p o (Method fr sh ∷ ls)) r
 rejoins_caller p o fr sh states ls ends r x well within u s = grind (arith, nat_tests, suits_less, has_along, rests_there, suits_rests, unworked_rests)
 
-pub rejoins_trap :
-    (p : Image) (o : Object) (gv : Gives) (fr : Frame) (sh : Shape) (ls : List Layer) (states : ℕ) (r : Option Request) → Joins p o (Mark gv ∷ Method fr sh ∷ ls) → unissued states ≡ true →
-    (states_claim p o (Method fr sh ∷ ls)).cancelled ≡ false → Suits (thing_kind p o.thing) (resting_in states) r → Suits (thing_kind p o.thing) (states_claim p o (Method fr sh ∷ ls)) r
+pub rejoins_trap : (p : Image) (o : Object) (gv : Gives) (fr : Frame) (sh : Shape) (ls : List Layer) (states : ℕ) (r : Option Request) →
+    Joins p o (Mark gv ∷ Method fr sh ∷ ls) → unissued states ≡ true → (states_claim p o (Method fr sh ∷ ls)).cancelled ≡ false →
+    Suits (thing_kind p o.thing) (resting_in states) r → Suits (thing_kind p o.thing) (states_claim p o (Method fr sh ∷ ls)) r
 rejoins_trap p o gv fr sh ls states r x u none s =
     grind (arith, nat_tests, rejoins_caller p o fr sh, has_itself, rests_unissued, suits_rests, rests_there p o (Method fr sh ∷ ls) r)
 
 -- a method is over: all but the object that it worked on is as it was
-pub all_returned :
-    (p : Image) (cs cs' : List Cell) (fr : Frame) (sh : Shape) (below : List Layer) → AllSuit p cs (Method fr sh ∷ below) → IsHoused p cs below fr.home →
-    ((n : ℕ) → named cs' n ≡ named cs n) → ((n : ℕ) → works_at n fr.home ≡ false → requested cs' n ≡ requested cs n) →
-    ((o : Object) (from : Place) → fr.home ≡ Inside o from → Suits (thing_kind p o.thing) (known_at p fr sh.states (states_claim p o below)) (requested cs o.name) → Suits (thing_kind p o.thing) (states_claim p o below) (requested cs' o.name)) →
-    AllSuit p cs' below
+pub all_returned : (p : Image) (cs cs' : List Cell) (fr : Frame) (sh : Shape) (below : List Layer) → AllSuit p cs (Method fr sh ∷ below) →
+    IsHoused p cs below fr.home → ((n : ℕ) → named cs' n ≡ named cs n) → ((n : ℕ) → works_at n fr.home ≡ false → requested cs' n ≡ requested cs n) →
+    ((o : Object) (from : Place) → fr.home ≡ Inside o from → Suits (thing_kind p o.thing) (known_at p fr sh.states (states_claim p o below))
+    (requested cs o.name) → Suits (thing_kind p o.thing) (states_claim p o below) (requested cs' o.name)) → AllSuit p cs' below
 all_returned p cs cs' fr sh below s housed same others back x lives' = grind (arith, nat_tests, same_object cs)

@@ -1,6 +1,7 @@
 -- What lies below the mark of a trap stays: as many marks lie on the cleanup stack as traps are at hand, and a move changes its last item at most.
 use Rattle.std.proofs.lemmas.Bool.Decides.{nat_tests}
-use Rattle.std.proofs.Common.{Bool, cond, true, false, List, None, Option, Some, [], ap, arith, inl, inr, length, pos, refl, subst, suc, sym, ℕ, ℤ, ◌+◌, ◌∙◌, ◌∷◌, ◌≡◌, length-append}
+use Rattle.std.proofs.Common.{Bool, cond, true, false, List, None, Option, Some, [], ap, arith, inl, inr, length}
+use Rattle.std.proofs.Common.{pos, refl, subst, suc, sym, ℕ, ℤ, ◌+◌, ◌∙◌, ◌∷◌, ◌≡◌, length-append}
 use Rattle.aom_image.proofs.Given.{cons_given}
 use Rattle.std.specs.Prelude.{◌++◌, ◌⊎◌}
 use Rattle.aom_image.specs.Image.{Image}
@@ -22,15 +23,18 @@ use Rattle.aom_safety.proofs.Standing.{stand}
 use Rattle.aom_safety.proofs.Steps.{step_keeps}
 use Rattle.aom_safety.proofs.View.{under_dispatch as nothing_under}
 use Rattle.aom_semantics.specs.Calls.{below_top, called, received, result_register, returned}
-use Rattle.aom_safety.specs.Claims.{Ending, Dispatching, Dying, Form, Layer, Mark, Mark_form, Method, Object_form, Operation_form, Unwinding, forms, items_of, objects, tasks_of}
+use Rattle.aom_safety.specs.Claims.{Ending, Dispatching, Dying, Form, Layer, Mark, Mark_form, Method, Object_form}
+use Rattle.aom_safety.specs.Claims.{Operation_form, Unwinding, forms, items_of, objects, tasks_of}
 use Rattle.aom_semantics.specs.Cleanup.{code_told, ended_by, to_trap}
 use Rattle.aom_classes.specs.Roles.{destructor_of}
 use Rattle.aom_semantics.specs.Destruction.{line_on, next_destructor, destructed, parting, first_session, begun, begun_by}
-use Rattle.aom_semantics.specs.Effects.{Calls, Cancels, Destroys, Destroys_last, Effect, Goes_on, Leaves, Operates, Returns, Sets_trap, Update, applied, items_after, with_words}
+use Rattle.aom_semantics.specs.Effects.{Calls, Cancels, Destroys, Destroys_last, Effect, Goes_on, Leaves, Operates}
+use Rattle.aom_semantics.specs.Effects.{Returns, Sets_trap, Update, applied, items_after, with_words}
 use Rattle.aom_safety.specs.Laws.{IsWired}
 use Rattle.aom_semantics.specs.Moves.{IsOpen, counted, does, needs, step, step_instr, step_task}
 use Rattle.aom_semantics.specs.Places.{service_of, Object, named}
-use Rattle.aom_semantics.specs.State.{Inside, Home, Closing, Seat, A_mark, An_object, An_operation, Choice, Destroy, Dispatch, Dispatched, Frame, Goes, Item, Run, State, Task, Trapped, Unwind, next, resumed, set_word}
+use Rattle.aom_semantics.specs.State.{Inside, Home, Closing, Seat, A_mark, An_object, An_operation, Choice, Destroy, Dispatch, Dispatched}
+use Rattle.aom_semantics.specs.State.{Frame, Goes, Item, Run, State, Task, Trapped, Unwind, next, resumed, set_word}
 use Rattle.aom_safety.specs.Steps.{Empties, Acts, Arrives, Clears, Comes_out, Ends as A_dispatch_ends, Move, Rests, Undoes, Vanishes}
 use Rattle.aom_safety.specs.Traps.{ComesOff, GoesOnAfter, IsPast, IsTrapping, TellsZero, TrapsKeep, WasPast, marks, traps}
 use Rattle.aom_safety.specs.WellTyped.{WellTyped}
@@ -229,7 +233,8 @@ module _ (p : Image) (c : Choice) (s : State) (below : List Task) where
   moved t u w o (Rests still e) = subst (λ v. Moved p below s v) (sym e) (inl (o, inl refl))
   moved t u w o (Acts fr ts i e at there met fits same) = grind (arith, nat_tests, acts fr ts i e at, under_frame below ts fr)
   moved t u w o (Vanishes ts x at there owns same) = grind (arith, nat_tests, resumes below ts, under_going below ts)
-  moved t u w o (Empties ts x at there same) = rw same (inl (empties_there p x (first_session s.cells x.name (service_of s.cells x.name).sessions) below ts (counted p s) (under_going below ts (under_closing below (Destroy ∷ ts) (rw at at o)))))
+  moved t u w o (Empties ts x at there same) = rw same (inl (empties_there p x (first_session s.cells x.name (service_of s.cells x.name).sessions) below ts
+      (counted p s) (under_going below ts (under_closing below (Destroy ∷ ts) (rw at at o)))))
   moved t u w o (Clears code ts items x at top there same) =
       subst (λ v. Moved p below s v) (sym same) (inl (grind (arith, nat_tests, begins_there), inr (inr (An_object, top))))
   moved t u w o (Undoes code ts items m x at top same) = rw same (inl (with_task below (Unwind code ∷ ts) _ (rw at at o), inr (inr (An_operation m x, top))))
@@ -325,5 +330,6 @@ traps_keep = record {
   stand = stand;
   sets = sets;
   moves = keeps_trap;
-  runs = λ p t outside wired typed before s reached below items h lines u r. lasts p t outside wired typed s (well_on p t outside wired typed (boot_state p) (boot_keeps p t wired typed, clients_keep.boot p) before s reached) below items h lines u r;
+  runs = λ p t outside wired typed before s reached below items h lines u r. lasts p t outside wired typed s
+      (well_on p t outside wired typed (boot_state p) (boot_keeps p t wired typed, clients_keep.boot p) before s reached) below items h lines u r;
 }

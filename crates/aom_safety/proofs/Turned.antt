@@ -10,7 +10,9 @@ use Rattle.aom_semantics.specs.Enlisted.{completed_with, part_of, pending, recor
 use Rattle.aom_semantics.specs.Natives.{all_bereaved, is_outstanding_at}
 use Rattle.aom_semantics.specs.Places.{Asked, Connect_of, Message_of, Close_of, Elsewhere, Session, In_service, Queued, Going, held, moved, Object}
 use Rattle.aom_semantics.specs.State.{Dispatched, Of_server, Accepts, Serves, Parts, frame_of, Inside, A_mark, CompletedTwice, Goes, Counters, Seat, State}
-use Rattle.aom_semantics.specs.World.{Obeys, heard_one, serving, taken_from, message_words, serves_first, attending, attended, picked as any_picked, Completes, Completion, Heard, Kills, Environment, Picks, Polls, Strays, Turning, answered_by, cell_at, dispatched, past_native, polled, run_tasks, turn, turned, turning, with_request}
+use Rattle.aom_semantics.specs.World.{Obeys, heard_one, serving, taken_from, message_words, serves_first, attending, attended, picked as any_picked}
+use Rattle.aom_semantics.specs.World.{Completes, Completion, Heard, Kills, Environment, Picks, Polls, Strays, Turning, answered_by, cell_at}
+use Rattle.aom_semantics.specs.World.{dispatched, past_native, polled, run_tasks, turn, turned, turning, with_request}
 use Rattle.std.specs.Prelude.{[], length}
 use Rattle.aom_clients.specs.declared.client.Client.{Client}
 use Rattle.aom_clients.specs.declared.refusal.Refusal.{Refusal}
@@ -59,8 +61,8 @@ dispatched_so p s u x e = grind (arith, nat_tests)
 serves_so : (p : Image) (s u : State) (x : Seat) (queue : List Asked) → serves_first p x queue s ≡ Goes u → Picked p s x u
 serves_so p s u x [] e = cc
 serves_so p s u x (Connect_of client ∷ es) e = grind (arith, nat_tests, some_given, goes_same, accepts)
-serves_so p s u x (Message_of client message ∷ es) e =
-    some_given (λ o. attended p x client o message (taken_from x.object.name s) ≡ Goes u) (held s.cells (Elsewhere (Session x.object.name client))) e (λ stuck. cc) (λ o there e.
+serves_so p s u x (Message_of client message ∷ es) e = some_given (λ o. attended p x client o message (taken_from x.object.name s) ≡ Goes u)
+    (held s.cells (Elsewhere (Session x.object.name client))) e (λ stuck. cc) (λ o there e.
     some_given (λ m. attending m x client o message (taken_from x.object.name s) ≡ Goes u) (part_of p Attends o.thing) e (λ stuck. cc) (λ m at e.
     subst (λ v. Picked p s x v) (goes_same _ u e) (attends client message m o there at)))
 serves_so p s u x (Close_of client ∷ es) e = grind (arith, nat_tests, some_given, goes_same, parts)

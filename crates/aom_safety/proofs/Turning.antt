@@ -1,6 +1,7 @@
 -- A turn from a well-typed state goes on to one: a timer completes a request, an object is dispatched, or time passes.
 use Rattle.std.proofs.lemmas.Bool.Decides.{nat_tests}
-use Rattle.std.proofs.Common.{Bool, List, None, Option, Some, [], ap, arith, cond, false, inl, inr, length, refl, subst, sym, true, ℕ, ℤ, ◌&&◌, ◌<◌, ◌==◌, ◌∙◌, ◌∷◌, ◌≡◌, pos}
+use Rattle.std.proofs.Common.{Bool, List, None, Option, Some, [], ap, arith, cond, false, inl, inr, length}
+use Rattle.std.proofs.Common.{refl, subst, sym, true, ℕ, ℤ, ◌&&◌, ◌<◌, ◌==◌, ◌∙◌, ◌∷◌, ◌≡◌, pos}
 use Rattle.std.proofs.lemmas.Bool.{eq-eqb, eqb-true, ne_eqb, true≢false}
 use Rattle.std.specs.Prelude.{is_some, map, nat_le, ◌||◌}
 use Rattle.std.specs.Ordering.{int_eq}
@@ -38,12 +39,16 @@ use Rattle.aom_safety.specs.Claims.{Dispatching, Layer, Mark, claim, declared, f
 use Rattle.aom_semantics.specs.Enlisted.{on_request, part_of, pending, taken_up, completed_with}
 use Rattle.aom_safety.specs.Kept.{ClientsFit}
 use Rattle.aom_safety.specs.Laws.{IsHandler, IsWired, TurnGoesOn}
-use Rattle.aom_semantics.specs.Places.{Asked, Cell, Close_of, Connect_of, Elsewhere, Message_of, Object, Place, Request, Root, Tidy, held, named, requested, seen, service_of}
+use Rattle.aom_semantics.specs.Places.{Asked, Cell, Close_of, Connect_of, Elsewhere, Message_of, Object, Place}
+use Rattle.aom_semantics.specs.Places.{Request, Root, Tidy, held, named, requested, seen, service_of}
 use Rattle.aom_semantics.specs.Servers.{has_more, is_server}
 use Rattle.aom_safety.specs.Requests.{AllSuit, Known, Suits, resting_in, rests_in, thing_kind}
 use Rattle.aom_semantics.specs.State.{A_mark, Inside, Of_object, Counters, Seat, State}
 use Rattle.aom_safety.specs.WellTyped.{AllSit, Fits, Good, Keeps, WellTyped, WordFits}
-use Rattle.aom_semantics.specs.World.{AnswersWell, Candidate, Completes, Completion, Cuts, Environment, Timed, Turning, among_ready, before_others, by_timer, dispatched, first_due, first_ready, goes_before, goes_now, has_signal, is_ready, picks, turned, with_request, Polls, answered_by, by_event, delivers, lives, next_event, next_native, next_time, picked as any_picked, polled, polls, serves_first}
+use Rattle.aom_semantics.specs.World.{AnswersWell, Candidate, Completes, Completion, Cuts, Environment, Timed, Turning, among_ready}
+use Rattle.aom_semantics.specs.World.{before_others, by_timer, dispatched, first_due, first_ready, goes_before, goes_now, has_signal}
+use Rattle.aom_semantics.specs.World.{is_ready, picks, turned, with_request, Polls, answered_by, by_event, delivers, lives, next_event}
+use Rattle.aom_semantics.specs.World.{next_native, next_time, picked as any_picked, polled, polls, serves_first}
 use Rattle.aom_semantics.specs.Natives.{all_bereaved, is_outstanding_at, is_served_by, terminated_request}
 use Rattle.aom_transcript.specs.declared.event.Event.{Event}
 use Rattle.aom_transcript.specs.declared.event.TimedEvent.{TimedEvent}
@@ -268,13 +273,14 @@ module _ (p : Image) (t : Typing) (s : State) (w : WellTyped p t s) (idle_now : 
         }
 
         well : WellTyped p t (picked it.0 y.seat s)
-        well = enters p t typed cs y.seat sits.0 over it.0 [] entering (picked it.0 y.seat s) (length (A_mark ∷ s.items)) (ap (λ is. length (A_mark ∷ is)) items) refl refl (ap (λ is. forms (A_mark ∷ is)) items) w.undos
+        well = enters p t typed cs y.seat sits.0 over it.0 [] entering
+            (picked it.0 y.seat s) (length (A_mark ∷ s.items)) (ap (λ is. length (A_mark ∷ is)) items) refl refl (ap (λ is. forms (A_mark ∷ is)) items) w.undos
 
     -- what waits in the queue of a server is served
-    server_well :
-        (y : Candidate) → Found s.cells y → is_server p y.seat.object.thing ≡ true → (queue : List Asked) → (service_of s.cells y.seat.object.name).queue ≡ queue →
-        Keeps p t (serves_first p y.seat queue s)
-    server_well y it_is server [] e = absurd (true≢false (sym it_is.ready ∙ ap (λ q. is_ready y.request || has_more q) e ∙ or_false (is_ready y.request) ∙ idles (thing_kind p y.seat.object.thing) y.request server (rw it_is.asked at (good.suits y.seat.object it_is.lives))))
+    server_well : (y : Candidate) → Found s.cells y → is_server p y.seat.object.thing ≡ true →
+        (queue : List Asked) → (service_of s.cells y.seat.object.name).queue ≡ queue → Keeps p t (serves_first p y.seat queue s)
+    server_well y it_is server [] e = absurd (true≢false (sym it_is.ready ∙ ap (λ q. is_ready y.request || has_more q) e
+        ∙ or_false (is_ready y.request) ∙ idles (thing_kind p y.seat.object.thing) y.request server (rw it_is.asked at (good.suits y.seat.object it_is.lives))))
     server_well y it_is server (Connect_of client ∷ es) e = accepts_well p t wired typed s w idle_now fit y.seat y.request it_is.there it_is.lives it_is.asked server client es e
     server_well y it_is server (Message_of client m ∷ es) e = attends_well p t wired typed s w idle_now fit y.seat y.request it_is.there it_is.lives it_is.asked server client m es e
     server_well y it_is server (Close_of client ∷ es) e = parts_well p t wired typed s w idle_now fit y.seat y.request it_is.there it_is.lives it_is.asked server client es e
@@ -285,9 +291,8 @@ module _ (p : Image) (t : Typing) (s : State) (w : WellTyped p t s) (idle_now : 
         it_is : Found s.cells y
         it_is = found s.cells good.tidy y e
 
-        go :
-            (b : Bool) → is_server p y.seat.object.thing ≡ b →
-            Keeps p t (cond b (serves_first p y.seat (service_of s.cells y.seat.object.name).queue s) (dispatched (part_of p Handles y.seat.object.thing) y.seat s))
+        go : (b : Bool) → is_server p y.seat.object.thing ≡ b → Keeps p t
+            (cond b (serves_first p y.seat (service_of s.cells y.seat.object.name).queue s) (dispatched (part_of p Handles y.seat.object.thing) y.seat s))
         go true server = server_well y it_is server (service_of s.cells y.seat.object.name).queue refl
         go false plain = object_well y it_is (sym (or_false (is_ready y.request)) ∙ ap (λ q. is_ready y.request || has_more q) (sym (fit.servers y.seat.object it_is.lives plain).0) ∙ it_is.ready)
 
@@ -298,17 +303,16 @@ module _ (p : Image) (t : Typing) (s : State) (w : WellTyped p t s) (idle_now : 
     signal_well next = grind (arith, nat_tests, signals_are_ready p t s w, picks_well)
 
     -- one test after another, as a turn makes them
-    poll_well :
-        (n : Option ℕ) (answer : Option Completion) (after : Turning) → AnswersWell p s (polls n answer after) → (AnswersWell p s after → Keeps p t (turned p s after)) →
-        Keeps p t (turned p s (polls n answer after))
+    poll_well : (n : Option ℕ) (answer : Option Completion) (after : Turning) →
+        AnswersWell p s (polls n answer after) → (AnswersWell p s after → Keeps p t (turned p s after)) → Keeps p t (turned p s (polls n answer after))
     poll_well x answer after owed then = grind (arith, nat_tests, polled_well)
 
     deliver_well : (outside : Environment) (name : ℕ) (event : Event) → named s.cells name ≡ None → Keeps p t (turned p s (delivers outside name s event))
     deliver_well outside name x free = grind (arith, nat_tests, same_well, lives outside s, bereaved_well, commanded_well p t wired)
 
     event_well :
-        (outside : Environment) (name : ℕ) (next : Option TimedEvent) (after : Turning) → named s.cells name ≡ None → AnswersWell p s (by_event outside name s next after) →
-        (AnswersWell p s after → Keeps p t (turned p s after)) → Keeps p t (turned p s (by_event outside name s next after))
+        (outside : Environment) (name : ℕ) (next : Option TimedEvent) (after : Turning) → named s.cells name ≡ None → AnswersWell p s (by_event
+        outside name s next after) → (AnswersWell p s after → Keeps p t (turned p s after)) → Keeps p t (turned p s (by_event outside name s next after))
     event_well outside name x after free owed then = grind (arith, nat_tests, deliver_well outside name)
 
     timer_well :
@@ -324,8 +328,10 @@ module _ (p : Image) (t : Typing) (s : State) (w : WellTyped p t s) (idle_now : 
 pub turn_goes_on : TurnGoesOn
 turn_goes_on p t outside wired typed heard s w between hears fit = go (nat_le outside.limit s.rest.dispatches) hears.completion
   where
-    go : (b : Bool) → AnswersWell p s (cond b Cuts (by_timer s (first_due s.cells) (by_event outside heard.name s (next_event outside s) (polls (next_native outside s) heard.completion (picks (has_signal s.cells) (first_ready s.cells) (next_time outside s))))))
-        → Keeps p t (turned p s (cond b Cuts (by_timer s (first_due s.cells) (by_event outside heard.name s (next_event outside s) (polls (next_native outside s) heard.completion (picks (has_signal s.cells) (first_ready s.cells) (next_time outside s)))))))
+    go : (b : Bool) → AnswersWell p s (cond b Cuts (by_timer s (first_due s.cells) (by_event outside heard.name s
+        (next_event outside s) (polls (next_native outside s) heard.completion (picks (has_signal s.cells) (first_ready s.cells) (next_time outside s))))))
+        → Keeps p t (turned p s (cond b Cuts (by_timer s (first_due s.cells) (by_event outside heard.name s
+        (next_event outside s) (polls (next_native outside s) heard.completion (picks (has_signal s.cells) (first_ready s.cells) (next_time outside s)))))))
     go true owed = same_well p t s w between.idle _
     go false owed =
         timer_well p t s w between.idle wired typed fit (first_due s.cells) _ owed (λ owed.

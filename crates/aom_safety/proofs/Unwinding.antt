@@ -18,16 +18,14 @@ use Rattle.aom_safety.specs.WellTyped.{AllUndo, Good, Keeps, Leaves, Stack, Well
 use Rattle.aom_safety.proofs.Items.{no_mark}
 
 -- one more entry to unwind
-claim_unwinding :
-    (p : Image) (d : Place → Kind) (code : ℤ) (e : Pushed) (es : List Pushed) (ls : List Layer) (r : Place) →
-    claim p d (Unwinding code (e ∷ es) ∷ ls) r ≡ changed (claim p d (Unwinding code es ∷ ls)) (Entry (length (items_of (Unwinding code es ∷ ls)))) (entry_kind e) r
+claim_unwinding : (p : Image) (d : Place → Kind) (code : ℤ) (e : Pushed) (es : List Pushed) (ls : List Layer) (r : Place) → claim p d
+    (Unwinding code (e ∷ es) ∷ ls) r ≡ changed (claim p d (Unwinding code es ∷ ls)) (Entry (length (items_of (Unwinding code es ∷ ls)))) (entry_kind e) r
 claim_unwinding p d code e es ls x = grind arith
 
 module _ (p : Image) (t : Typing) (wired : IsWired p) (typed : IsTyped p t) (s : State) (code : ℤ) where
   -- an entry is left: it is dealt with over the unwinding
-  of_entry :
-      (e : Pushed) (es : List Pushed) (ls : List Layer) → forms s.items ≡ entry_form e ∷ objects es (items_of ls) → AllUndo p s.items → Good p t s.cells (Unwinding code (e ∷ es) ∷ ls) →
-      Keeps p t (unwound p code (tasks_of ls) s s.items)
+  of_entry : (e : Pushed) (es : List Pushed) (ls : List Layer) → forms s.items ≡ entry_form e ∷ objects es (items_of ls) →
+      AllUndo p s.items → Good p t s.cells (Unwinding code (e ∷ es) ∷ ls) → Keeps p t (unwound p code (tasks_of ls) s s.items)
   of_entry e es ls same undos good =
       let d : Dealing p t s e (Unwinding code (e ∷ es) ∷ ls) (Unwinding code es ∷ ls) = record {
         fits = good.fits;

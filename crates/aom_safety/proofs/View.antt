@@ -5,7 +5,8 @@ use Rattle.aom_image.specs.Image.{Image}
 use Rattle.aom_rules.specs.Typing.{Typing}
 use Rattle.aom_safety.specs.Claims.{Ending, Dispatching, Dying, Layer, Mark, Method, Unwinding, tasks_of}
 use Rattle.aom_semantics.specs.Places.{Cell}
-use Rattle.aom_semantics.specs.State.{Closing, Of_server, Parts, Stage, Destroy, Dispatch, Dispatched, Asks, Frame, Of_main, Of_object, Of_root, Run, Seat, State, Task, Trapped, Unwind}
+use Rattle.aom_semantics.specs.State.{Closing, Of_server, Parts, Stage, Destroy, Dispatch, Dispatched, Asks, Frame}
+use Rattle.aom_semantics.specs.State.{Of_main, Of_object, Of_root, Run, Seat, State, Task, Trapped, Unwind}
 use Rattle.aom_safety.specs.WellTyped.{Back, Caught, Gone, Leaves, Now, Returns, Stack, WellTyped}
 
 -- what stands over a layer: a method, a cell that goes, or a leave

@@ -19,9 +19,8 @@ module _ (p : Image) (fr : Frame) (o : Object) (from : Place) (home : fr.home �
   Declares f = filled (field_thing p (thing_holder o.thing) f) Perhaps
 
   -- the layers below claim of another field what is declared of it: where the cell goes there is none
-  others_in_view :
-      (ls : List Layer) → IsApart p fr.view fr.method (Inside o from) ls → (f : ℕ) → is_some (field_thing p (view_holder fr.view) f) ≡ true → field_thing p (holder_of p fr.method) f ≡ None →
-      claim p (by_field Declares) ls (Field o.name f) ≡ Declares f
+  others_in_view : (ls : List Layer) → IsApart p fr.view fr.method (Inside o from) ls → (f : ℕ) → is_some (field_thing p (view_holder fr.view) f) ≡ true →
+      field_thing p (holder_of p fr.method) f ≡ None → claim p (by_field Declares) ls (Field o.name f) ≡ Declares f
   others_in_view (Dying x ∷ ls) apart f some none = grind (arith, nat_tests)
   others_in_view [] apart f some none = apart.2.0 f some
   others_in_view (Method fr' sh ∷ ls) apart f some none = apart.2.0 f some
@@ -30,9 +29,8 @@ module _ (p : Image) (fr : Frame) (o : Object) (from : Place) (home : fr.home �
   others_in_view (Unwinding code es ∷ ls) apart f some none = apart.2.0 f some
   others_in_view (Dispatching d seats ∷ ls) apart f some none = apart.2.0 f some
 
-  pub waits_in_view :
-      (sh : Shape) (ls : List Layer) → Houses p (thing_holder o.thing) (holder_of p fr.method) → IsApart p fr.view fr.method (Inside o from) ls → ((f : ℕ) → field sh f ≡ Perhaps) →
-      InView p fr.view Declares o.name (Method fr sh ∷ ls)
+  pub waits_in_view : (sh : Shape) (ls : List Layer) → Houses p (thing_holder o.thing) (holder_of p fr.method) →
+      IsApart p fr.view fr.method (Inside o from) ls → ((f : ℕ) → field sh f ≡ Perhaps) → InView p fr.view Declares o.name (Method fr sh ∷ ls)
   waits_in_view sh ls houses apart perhaps f some =
       let below = claim p (by_field Declares) ls (Field o.name f) in
       ap (λ h. home_claim p (holder_of p fr.method) h sh o.name f below) home

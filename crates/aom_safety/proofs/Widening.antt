@@ -63,8 +63,8 @@ module _ (p : Image) where
   hold_widens x _ e r = cc
 
   -- what the register of a frame is claimed to be widens
-  pub retaken :
-      (t : Typing) (cs : List Cell) (fr : Frame) (sh : Shape) (ls : List Layer) (c : ℕ) (k v : Kind) → Widens p k v → Fitted p t cs fr (set_register sh c k) ls → Fitted p t cs fr (set_register sh c v) ls
+  pub retaken : (t : Typing) (cs : List Cell) (fr : Frame) (sh : Shape) (ls : List Layer) (c : ℕ) (k v : Kind) →
+      Widens p k v → Fitted p t cs fr (set_register sh c k) ls → Fitted p t cs fr (set_register sh c v) ls
   retaken t cs fr sh ls c k v wide g =
       rw (put_twice Unset sh.registers c k v) at (relabel p t cs fr fr narrow (set_register narrow c v) ls (top ls c) v g refl refl refl refl
       (wide.fits (seen cs) (held cs (top ls c)) (rw here at (register_fits p cs fr narrow ls g.fits c)))

@@ -2,12 +2,14 @@
 use Rattle.std.proofs.lemmas.Bool.Decides.{nat_tests}
 use Rattle.std.proofs.lemmas.List.{nil_from_length}
 use Rattle.std.proofs.lemmas.Bool.{cases_Bool, true≢false}
-use Rattle.std.proofs.Common.{Bool, IfSome, IsSome, IsTrue, List, None, Option, Some, [], ap, arith, false, inl, inr, length, refl, subst, sym, true, ℕ, ◌<◌, ◌∙◌, ◌∷◌, ◌≡◌}
+use Rattle.std.proofs.Common.{Bool, IfSome, IsSome, IsTrue, List, None, Option, Some, [], ap, arith, false}
+use Rattle.std.proofs.Common.{inl, inr, length, refl, subst, sym, true, ℕ, ◌<◌, ◌∙◌, ◌∷◌, ◌≡◌}
 use Rattle.aom_image.proofs.Given.{none_given, some_given}
 use Rattle.std.specs.Prelude.{is_none, not, replicate, ◌||◌, ◌⊎◌}
 use Rattle.std.proofs.lemmas.Option.{slice_get_cases, slice_get_within}
 use Rattle.aom_image.specs.Image.{Image}
-use Rattle.aom_image.specs.Views.{arguments_in, arguments_of, class_at, class_in, fields_in, gives_in, gives_of, has, instr_at, is_quiet, leaves, leaves_in, method_at, method_class, method_role, quiet_in, role_in}
+use Rattle.aom_image.specs.Views.{arguments_in, arguments_of, class_at, class_in, fields_in, gives_in, gives_of, has, instr_at}
+use Rattle.aom_image.specs.Views.{is_quiet, leaves, leaves_in, method_at, method_class, method_role, quiet_in, role_in}
 use Rattle.aom_instructions.specs.Fits.{InstrFits, limits}
 use Rattle.aom_image.specs.WellFormed.{MethodFits, WellFormed}
 use Rattle.aom_instructions.specs.declared.instr.Instr.{Instr}
@@ -21,7 +23,8 @@ use Rattle.aom_image.specs.declared.method.Role.{Role}
 use Rattle.aom_image.specs.declared.method.Role.TheVariants.{Accept, Cancel, Construct, Destruct, Do, Error, Main, Run, Service, Undo}
 use Rattle.aom_image.specs.declared.method.Thing.TheVariants.{Object as An_object_of}
 use Rattle.aom_roles.specs.Classes.{is_session, is_session_in, is_session_kind, kind_in, sessions_at, sessions_in, sessions_of}
-use Rattle.aom_roles.specs.Shapes.{HasShape, IsCancel, IsConstruct, IsDo, IsMain, IsShaped, IsTrapped as ShapedTrapped, IsUndo as ShapedUndo, NamesRoles, gives_left, gives_nothing, is_role, is_word, kind_of, gives_word, gives_object, is_object}
+use Rattle.aom_roles.specs.Shapes.{HasShape, IsCancel, IsConstruct, IsDo, IsMain, IsShaped, IsTrapped as ShapedTrapped, IsUndo as ShapedUndo}
+use Rattle.aom_roles.specs.Shapes.{NamesRoles, gives_left, gives_nothing, is_role, is_word, kind_of, gives_word, gives_object, is_object}
 use Rattle.aom_classes.specs.Linked.{IsLinked}
 use Rattle.aom_classes.specs.Needs.{HasActive, KindNeeds, NeedsMet}
 use Rattle.aom_classes.specs.Roles.{is_inherited, main_of, role_of, same_role}
@@ -107,7 +110,8 @@ module _ (p : Image) (formed : WellFormed p) (linked : IsLinked p) where
   its_role c m r e = search (arith, nat_tests, role_inherits p c m r e, of_role m)
 
   -- and of a role that is not inherited, of the class itself
-  own_its_role : (c m : ℕ) (r : Role) → is_inherited r ≡ false → role_of p c r ≡ Some m → (d : Method_declared) × (method_at p m ≡ Some d) × (d.class ≡ Some c) × (d.role ≡ r) × HasShape r (kind_of p d.class) d
+  own_its_role : (c m : ℕ) (r : Role) → is_inherited r ≡ false →
+      role_of p c r ≡ Some m → (d : Method_declared) × (method_at p m ≡ Some d) × (d.class ≡ Some c) × (d.role ≡ r) × HasShape r (kind_of p d.class) d
   unfolding role_of
   own_its_role c m r own e = grind (arith, nat_tests, own_found p c m r, of_role m)
 
@@ -131,9 +135,8 @@ module _ (p : Image) (formed : WellFormed p) (linked : IsLinked p) where
       let s : IsMain (kind_of p d.0.class) d.0 = of_role m d.0 Main d.1 d.2 in
       ap class_in d.1 ∙ of_none p d.0.class fits.class s.of
 
-  destructor_is :
-      (c m : ℕ) → role_of p c Destruct ≡ Some m →
-      (IsSome (method_at p m)) × (method_role p m ≡ Some Destruct) × IsOfFamily p c m × (leaves p m ≡ false) × (is_quiet p m ≡ true) × (gives_of p m ≡ Nothing) × (arguments_of p m ≡ [])
+  destructor_is : (c m : ℕ) → role_of p c Destruct ≡ Some m → (IsSome (method_at p m)) ×
+      (method_role p m ≡ Some Destruct) × IsOfFamily p c m × (leaves p m ≡ false) × (is_quiet p m ≡ true) × (gives_of p m ≡ Nothing) × (arguments_of p m ≡ [])
   unfolding role_in class_in leaves_in quiet_in gives_in arguments_in
   destructor_is c m e = grind (arith, nat_tests, its_role c m Destruct e, shaped m, nothing_given, nil_from_length)
 

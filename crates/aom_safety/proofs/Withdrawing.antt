@@ -17,10 +17,12 @@ use Rattle.aom_safety.proofs.ClientsLeave.{service_left}
 use Rattle.aom_semantics.proofs.Maps.{named_name}
 use Rattle.aom_safety.proofs.Picking.{fits_ready}
 use Rattle.aom_safety.proofs.Queues.{none_stays}
-use Rattle.aom_safety.proofs.Sifted.{cell_in, cell_in_sifted, cell_lives, cell_of, cell_of_sifted, cell_owner, cell_placed, held_cell, kept, named_cell, object_in, request_in, requested_cell, service_cell, service_in, sifted, tidy_sifted, withdrawn_so}
+use Rattle.aom_safety.proofs.Sifted.{cell_in, cell_in_sifted, cell_lives, cell_of, cell_of_sifted, cell_owner, cell_placed, held_cell, kept, named_cell}
+use Rattle.aom_safety.proofs.Sifted.{object_in, request_in, requested_cell, service_cell, service_in, sifted, tidy_sifted, withdrawn_so}
 use Rattle.aom_safety.specs.Claims.{declared, declared_field}
 use Rattle.aom_safety.specs.Kept.{ClientsFit, is_message_of}
-use Rattle.aom_semantics.specs.Places.{Asked, Cell, Close_of, Connect_of, Elsewhere, Message_of, Object, Place, Queued, Sender, Session, held, named, requested, seen, service_of}
+use Rattle.aom_semantics.specs.Places.{Asked, Cell, Close_of, Connect_of, Elsewhere, Message_of, Object, Place}
+use Rattle.aom_semantics.specs.Places.{Queued, Sender, Session, held, named, requested, seen, service_of}
 use Rattle.aom_safety.specs.Requests.{AllSuit}
 use Rattle.aom_semantics.specs.Servers.{has_message, is_from, is_message, is_queue, is_server, left_by, message_thing, stays, withdrawn}
 use Rattle.aom_safety.specs.WellTyped.{Fits, Good}
@@ -144,7 +146,9 @@ module _ (p : Image) (t : Typing) (clients : List Client) (cs : List Cell) (good
     free_fits x e f = grind (arith, nat_tests, none_fits, none_stays)
 
     -- a message was there, and goes or stays
-    some_fits : (x : Cell) → cell_in cs q ≡ Some x → (g : Bool) → is_from c x.service.sender ≡ g → (b : Bool) → has_message (service_of cs n) m ≡ b → Fits p (seen left) (Some x.object) (cond b kind Null) → Fits p (seen left) (object_in (cond g None (Some (record x { service = left_by c x.service })))) (cond still kind Null)
+    some_fits : (x : Cell) → cell_in cs q ≡ Some x →
+        (g : Bool) → is_from c x.service.sender ≡ g → (b : Bool) → has_message (service_of cs n) m ≡ b → Fits p (seen left) (Some x.object) (cond b kind Null) →
+        Fits p (seen left) (object_in (cond g None (Some (record x { service = left_by c x.service })))) (cond still kind Null)
     some_fits x e g from false has f = absurd f
     some_fits x e true from true has f = rw (none_left c m (service_of cs n).queue (λ d h. from_same c d x.service.sender from (sender d h))) tt
       where

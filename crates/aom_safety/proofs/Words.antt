@@ -42,7 +42,8 @@ module _ (p : Image) (t : Typing) (c : Choice) (s : State) (fr : Frame) (sh : Sh
       let fr' = set_word fr a (Some w) in
       let sh' = set_register sh a Word in
       let h = write p t s.cells fr sh ls a (Some w) Word (fitted p t s.cells fr sh ls at_hand.good) u (λ h. tt) tt in
-      well p t c s fr sh ls at_hand (applied p fr (tasks_of ls) s (writes fr a w)) (next fr') sh' refl at_hand.items at_hand.undos (settle p t s.cells (next fr') sh' ls (stepped p t s.cells fr' sh' ls h) leads.0)
+      well p t c s fr sh ls at_hand (applied p fr (tasks_of ls) s (writes fr a w))
+      (next fr') sh' refl at_hand.items at_hand.undos (settle p t s.cells (next fr') sh' ls (stepped p t s.cells fr' sh' ls h) leads.0)
 
   pub law_const : (a : ℕ) (w : ℤ) → Law p t c s fr sh ls at_hand (Const a w)
   law_const a w n leads = ((unowned a n.0, tt), writes_word a w n.0 leads)
@@ -55,9 +56,9 @@ module _ (p : Image) (t : Typing) (c : Choice) (s : State) (fr : Frame) (sh : Sh
       AllTrue (needs_binary fr (tasks_of ls) s a b x) × WellTyped p t (applied p fr (tasks_of ls) s (computes p c fr (tasks_of ls) s op a b x))
   law_binary op a b x n leads = search (arith, nat_tests, has_word b n.0, has_word x n.1.0, unowned a n.1.1.0, writes_word a)
 
-  pub law_compare :
-      (test : ℤ → ℤ → Bool) (a b to : ℕ) → AllTrue (rule_compare fr.place sh a b) → AllLead t fr.method (flow_compare fr.place sh to) →
-      AllTrue (needs_compare fr (tasks_of ls) s a b) × WellTyped p t (applied p fr (tasks_of ls) s (jumps_if fr (test (read fr (tasks_of ls) s a) (read fr (tasks_of ls) s b)) to))
+  pub law_compare : (test : ℤ → ℤ → Bool) (a b to : ℕ) →
+      AllTrue (rule_compare fr.place sh a b) → AllLead t fr.method (flow_compare fr.place sh to) → AllTrue (needs_compare fr (tasks_of ls) s a b) ×
+      WellTyped p t (applied p fr (tasks_of ls) s (jumps_if fr (test (read fr (tasks_of ls) s a) (read fr (tasks_of ls) s b)) to))
   law_compare test a b to n leads = search (arith, nat_tests, has_word a n.0, has_word b n.1.0, goes_either p t c s fr sh ls at_hand to leads)
 
   pub law_print : (a : ℕ) → Law p t c s fr sh ls at_hand (Print a)
