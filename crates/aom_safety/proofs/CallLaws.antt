@@ -82,8 +82,11 @@ module _ (p : Image) (t : Typing) (wired : IsWired p) (typed : IsTyped p t) (c :
         λ q. runs.quiet (only_then (is_quiet p fr.method) (is_quiet p m) more.1.1.0 q),
       ) in
       let high = same_high p t wired typed c s fr sh ls at_hand m first depth height deep called_so passed home sh' a.1 in (
-        all_join (needs_target p fr (tasks_of ls) s target m (method_class p m) first (length (arguments_of p m))) _ a.0
-            (parts.1.0, all_join (needs_each p fr (tasks_of ls) s (arguments_of p m) first) _ (each_met p t c s fr sh ls at_hand (arguments_of p m) first more.0) (result_met p t wired typed c s fr sh ls at_hand m first depth height deep called_so passed (gives_of p m) x more.1.1.1.0)),
+        all_join (needs_target p fr (tasks_of ls) s target m (method_class p m) first (length (arguments_of p m))) _ a.0 (
+          parts.1.0,
+          all_join _ _ (each_met p t c s fr sh ls at_hand (arguments_of p m) first more.0)
+              (result_met p t wired typed c s fr sh ls at_hand m first depth height deep called_so passed (gives_of p m) x more.1.1.1.0),
+        ),
         enter p t wired typed c s fr sh ls at_hand m first depth height deep called_so passed home sh'
             (Method fr sh' ∷ ls) k view runs (λ x. x) a.1 refl (ap length (sym high) ∙ length_forms s.items) (λ d r. refl) (λ o. refl) a.1.housed
             (a.1.apart k) (caller p t wired typed c s fr sh ls at_hand m first depth height deep called_so passed home sh' (Returns k home) a.1 stands)

@@ -41,7 +41,7 @@ use Rattle.aom_safety.proofs.Jumps.{words_kept}
 use Rattle.aom_semantics.proofs.Maps.{at-put_at, held_lives, same_place-true}
 use Rattle.aom_safety.proofs.Passing.{Passed, filled_weaker_below, filling, lower, under, upper}
 use Rattle.aom_safety.proofs.Raising.{parents_met, raised}
-use Rattle.aom_safety.proofs.Straight.{At, claim_field, claim_register, field_fits, field_not_from, field_outside}
+use Rattle.aom_safety.proofs.Straight.{frames_reworded, At, claim_field, claim_register, field_fits, field_not_from, field_outside}
 use Rattle.aom_safety.proofs.Straight.{fits_unowning, kind_fits, top, word_of_object}
 use Rattle.aom_safety.proofs.Overriders.{RunsFor, begins_as}
 use Rattle.aom_safety.proofs.Things.{stands_along}
@@ -218,7 +218,7 @@ module _ (p : Image) (t : Typing) (wired : IsWired p) (typed : IsTyped p t) (c :
 
     -- the caller below, while the call lasts
     pub caller : {ended : ℕ} {view : Option ℕ} (home : Home) (sh' : Shape) (back : Back) → Entering ended home view sh' → Stands p t back fr sh' → Stack p t cs back (Method fr sh' ∷ ls)
-    caller home sh' back e stands = (stands, record { words = e.words; holder = at_hand.good.stack.1.holder; view = at_hand.good.stack.1.view; height = at_hand.good.stack.1.height; alone = at_hand.good.stack.1.alone; message = at_hand.good.stack.1.message }, passed.housed, at_hand.good.stack.3, passed.stack)
+    caller home sh' back e stands = (stands, frames_reworded at_hand.good.stack.1 e.words, passed.housed, at_hand.good.stack.3, passed.stack)
 
     -- the cleanup stack is as it was
     pub same_high : {ended : ℕ} {view : Option ℕ} (home : Home) (sh' : Shape) → Entering ended home view sh' → forms s.items ≡ items_of (Method fr sh' ∷ ls)
@@ -505,7 +505,12 @@ module _ (p : Image) (t : Typing) (wired : IsWired p) (typed : IsTyped p t) (c :
         settles = settles_not ended after_arguments kept_in.0 spot u.unworked.0;
         fits = passed.fits;
         words = passed.words;
-        housed = record { there = there; lives = lives; below = below fr.home refl; ready = ap is_ready_kind (claim_field p (λ x. Null) fr after_arguments ls fr.home f refl (houses_field p _ _ f at_hand.good.stack.1.holder own) some) ∙ filled_ready _ _ };
+        housed = record {
+          there = there;
+          lives = lives;
+          below = below fr.home refl;
+          ready = ap is_ready_kind (claim_field p (λ x. Null) fr after_arguments ls fr.home f refl (houses_field p _ _ f at_hand.good.stack.1.holder own) some) ∙ filled_ready _ _;
+        };
         apart = apart_so;
         holder = target_holder y kept_in.0 z class kept_in.2 for;
         owning = λ i. refl;
@@ -722,7 +727,7 @@ module _ (p : Image) (t : Typing) (wired : IsWired p) (typed : IsTyped p t) (c :
         let does_so = ready (field_thing p (holder_of p fr.method) f) (field sh f) (age_of (filled (field_thing p (holder_of p fr.method) f) (field sh f)) n.1) in
         let own = declared_there v.0 v.1 v.2 in
         let x = kept_in f y e w.0 w.1 w.2 w.3 there own does_so in (
-          (declared_there v.0 v.1 v.2, subst (λ k. AllTrue (needs_target_object p k (held s.cells (field_place fr.home f)))) (sym e) (target_met y (held s.cells (field_place fr.home f)) x.0 w.0 x.1 x.2 w.3)),
+          (declared_there v.0 v.1 v.2, subst (λ k. AllTrue (needs_target_object p k (held s.cells (field_place fr.home f)))) (sym e) (target_met y _ x.0 w.0 x.1 x.2 w.3)),
           at_home (field_place fr.home f) x.0 after_arguments x.1 (on_field f y e w.0 w.1 w.2 w.3 there own does_so ended may),
         )
       where

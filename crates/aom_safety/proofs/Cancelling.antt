@@ -38,7 +38,7 @@ use Rattle.aom_safety.proofs.Items.{length_forms}
 use Rattle.aom_semantics.proofs.Maps.{one_place}
 use Rattle.aom_safety.proofs.Requesting.{OfObject, active_home, active_listed, has_common, in_state, its, learned, main_of_none, of_object, suits_in}
 use Rattle.aom_safety.proofs.Storing.{Alike, fits_alike, housed_alike, listed_still, on_some, requested_here, requested_there, rerequested_alike, stack_alike}
-use Rattle.aom_safety.proofs.Straight.{At, Law, fits_unowning, settle, stepped, well}
+use Rattle.aom_safety.proofs.Straight.{frames_reworded, At, Law, fits_unowning, settle, stepped, well}
 use Rattle.aom_safety.proofs.Suiting.{same_object}
 use Rattle.aom_safety.proofs.Housing.{houses_family}
 use Rattle.aom_safety.proofs.Waiting.{waits_in_view}
@@ -339,12 +339,17 @@ module _ (p : Image) (t : Typing) (wired : IsWired p) (typed : IsTyped p t) (c :
     })
 
     apart_over : IsApart p fr.view m fr.home over
-    apart_over = subst (λ h. IsApart p fr.view m h over) (sym it.home) (apart.0, (subst (λ h. NotIn o.name h) (sym it.home) apart.0, apart.1), (own_fields, tt), inl (ap (λ h. works_at o.name h) it.home ∙ eq-eqb o.name o.name refl))
+    apart_over = subst (λ h. IsApart p fr.view m h over) (sym it.home) (
+      apart.0,
+      (subst (λ h. NotIn o.name h) (sym it.home) apart.0, apart.1),
+      (own_fields, tt),
+      inl (ap (λ h. works_at o.name h) it.home ∙ eq-eqb o.name o.name refl),
+    )
 
     caller : Stack p t cs' (Returns m fr.home) over
     caller = (
       stands,
-      record { words = at_hand.good.stack.1.words; holder = at_hand.good.stack.1.holder; view = at_hand.good.stack.1.view; height = at_hand.good.stack.1.height; alone = at_hand.good.stack.1.alone; message = at_hand.good.stack.1.message },
+      frames_reworded at_hand.good.stack.1 at_hand.good.stack.1.words,
       housed_alike p t s.cells cs' same_cells ls fr.home at_hand.good.stack.2,
       at_hand.good.stack.3,
       stack_alike p t s.cells cs' same_cells (grind (arith, nat_tests, listed_still, on_some)) ls _ at_hand.good.stack.4,

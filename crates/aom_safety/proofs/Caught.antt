@@ -171,7 +171,11 @@ module _ (p : Image) (t : Typing) (wired : IsWired p) (s u : State) (w : WellTyp
       let o = is_there (held s.cells (Entry (length rest))) some in
       let g = Going (length (Unwind code ∷ below)) in
       let free = none_on_its_way p t s w (Unwind code ∷ below) at_hand in
-      rw o.1 (begins_over p wired o.0 (length rest) code below (Unwind code ∷ below) (refl, refl), refl, (o.0, has_moved s.cells (Entry (length rest)) g o.0 o.1 free refl, grind (arith, nat_tests, destroyed_over, below)))
+      rw o.1 (
+        begins_over p wired o.0 (length rest) code below (Unwind code ∷ below) (refl, refl),
+        refl,
+        (o.0, has_moved s.cells (Entry (length rest)) g o.0 o.1 free refl, grind (arith, nat_tests, destroyed_over, below)),
+      )
 
   of_item : AllUndo p s.items → (i : Item) (rest es : List Item) → s.items ≡ i ∷ rest → AreEntries (i ∷ es) → unwound p code below (counted p s) (i ∷ rest) ≡ Goes u → Dealt i rest u
   of_item undos (An_operation m x) rest es same plain e =
@@ -240,7 +244,11 @@ module _ (p : Image) (t : Typing) (s u : State) (code : ℤ) (items : List Item)
   Arrived below v = ArrivesAt p code below v × (v.items ≡ items) × (v.cells ≡ s.cells)
 
   -- at the method that set the trap, where its registers wait
-  at_method : (fr : Frame) (sh : Shape) (ls : List Layer) (gv : Gives) (es : List Pushed) → Good p t s.cells (Unwinding code es ∷ Mark gv ∷ Method fr sh ∷ ls) → Arrived (Trapped ∷ Run fr ∷ tasks_of ls) (record (counted p s) { tasks = Run (next (code_told (called p (instr_at p fr.method fr.place)) (result_register (instr_at p fr.method fr.place)) code fr)) ∷ tasks_of ls; items = items })
+  at_method : (fr : Frame) (sh : Shape) (ls : List Layer) (gv : Gives) (es : List Pushed) →
+      Good p t s.cells (Unwinding code es ∷ Mark gv ∷ Method fr sh ∷ ls) → Arrived (Trapped ∷ Run fr ∷ tasks_of ls) (record (counted p s) {
+        tasks = Run (next (code_told (called p (instr_at p fr.method fr.place)) (result_register (instr_at p fr.method fr.place)) code fr)) ∷ tasks_of ls;
+        items = items;
+      })
   at_method fr sh ls gv es good =
       let i = instr_at p fr.method fr.place in
       ((next (code_told (called p i) (result_register i) code fr), refl, λ target m first c there. by_trap target m first c there), refl, refl)

@@ -127,7 +127,14 @@ module _ (p : Image) (t : Typing) (wired : IsWired p) (typed : IsTyped p t) (s :
           good = record {
             stack = (
               leads.1,
-              record { words = λ i. word_fits_weaker (word fr i) (says.registers i) (subst (λ k. WordFits (word fr i) k) (sym (begins_with i)) (its_word i)); holder = houses_same p _ _ (sym holder); view = counts_same p Static _ (sym holder); height = sym (length_forms items) ∙ ap length same; alone = λ e. tt; message = (λ e. absurd (true≢false (sym e ∙ ap is_service undo.role)), λ served. absurd (d.unserved served)) },
+              record {
+                words = λ i. word_fits_weaker (word fr i) (says.registers i) (subst (λ k. WordFits (word fr i) k) (sym (begins_with i)) (its_word i));
+                holder = houses_same p _ _ (sym holder);
+                view = counts_same p Static _ (sym holder);
+                height = sym (length_forms items) ∙ ap length same;
+                alone = λ e. tt;
+                message = (λ e. absurd (true≢false (sym e ∙ ap is_service undo.role)), λ served. absurd (d.unserved served));
+              },
               tt,
               tt,
               d.under_operation m undo,

@@ -29,7 +29,8 @@ use Rattle.aom_safety.proofs.Claimed.{declared_moved, going_differs, keep_fits, 
 use Rattle.aom_safety.proofs.Items.{begins_well, length_forms}
 use Rattle.aom_safety.proofs.Seats.{NoFieldHere, NoSeatHere, no_seat}
 use Rattle.aom_semantics.proofs.Maps.{held_lives, held_moved, named_moved, one_place, requested_moved, same_place-true, same_place_refl, tidy_moved}
-use Rattle.aom_safety.proofs.Straight.{At, Law, fits_unowning, fitted, housed_relocated, kind_fits, no_word, relabel, settle, top, well, words_set}
+use Rattle.aom_safety.proofs.Straight.{frames_reworded, At, Law, fits_unowning, fitted, housed_relocated}
+use Rattle.aom_safety.proofs.Straight.{kind_fits, no_word, relabel, settle, top, well, words_set}
 use Rattle.aom_safety.proofs.Things.{stands_itself, stands_object}
 use Rattle.aom_safety.proofs.Housing.{counts_line, houses_role}
 use Rattle.aom_roles.proofs.Descending.{itself, through}
@@ -135,10 +136,22 @@ module _ (p : Image) (t : Typing) (cs : List Cell) (q : Place) (o : Object) (tid
       record { some = u.some; unclaimed = u.unclaimed; none_in = u.none_in; unworked = u.unworked; sessions = u.sessions }
   untouched k (Dying x ∷ ls) back out s =
       let u = untouched k ls Gone (outside_less q (Dying x) ls out) s.2 in
-      record { some = u.some; unclaimed = λ f. ap (λ y. cond (x.name == o.name) Null y) (u.unclaimed f) ∙ ap (λ b. cond b Null (k f)) (other_name (Going (length (tasks_of ls))) x s.0.1 (going_differs q x ls out)); none_in = u.none_in; unworked = (other_name (Going (length (tasks_of ls))) x s.0.1 (going_differs q x ls out), u.unworked); sessions = λ d c. ap (λ b. cond b Null (claim p d ls (Elsewhere (Session o.name c)))) (other_name (Going (length (tasks_of ls))) x s.0.1 (going_differs q x ls out)) ∙ u.sessions d c }
+      record {
+        some = u.some;
+        unclaimed = λ f. ap (λ y. cond (x.name == o.name) Null y) (u.unclaimed f) ∙ ap (λ b. cond b Null (k f)) (other_name (Going (length (tasks_of ls))) x s.0.1 (going_differs q x ls out));
+        none_in = u.none_in;
+        unworked = (other_name (Going (length (tasks_of ls))) x s.0.1 (going_differs q x ls out), u.unworked);
+        sessions = λ d c. ap (λ b. cond b Null (claim p d ls (Elsewhere (Session o.name c)))) (other_name (Going (length (tasks_of ls))) x s.0.1 (going_differs q x ls out)) ∙ u.sessions d c;
+      }
   untouched k (Dispatching w seats ∷ ls) back out s =
       let h = unseated seats (no_seat_outside q w seats ls out) s.2 in
-      rw s.1 (record { some = λ x. ⊎_elim h.0 (λ y. y) x; unclaimed = λ f. refl; none_in = (h.1, tt); unworked = tt; sessions = λ d c. close_apart w seats s.3 h.0 c (d (Elsewhere (Session o.name c))) })
+      rw s.1 (record {
+        some = λ x. ⊎_elim h.0 (λ y. y) x;
+        unclaimed = λ f. refl;
+        none_in = (h.1, tt);
+        unworked = tt;
+        sessions = λ d c. close_apart w seats s.3 h.0 c (d (Elsewhere (Session o.name c)));
+      })
   untouched k (Ending x left ∷ ls) back out s =
       let u = untouched k ls Now (outside_less q (Ending x left) ls out) s.3 in
       let apart = ending_apart x o.name ls s.2 u.unworked in
@@ -298,7 +311,14 @@ module _ (p : Image) (t : Typing) (linked : IsWired p) (typed : IsTyped p t) (cs
         let good : Good p t cs (Method fr leads.0 ∷ Dying o ∷ ls) = record {
           stack = (
             leads.1,
-            record { words = grind (arith, nat_tests, unset_only, entry_registers); holder = d.holder; view = counts_line p o.thing d.family.0 m d.family.1 d.family.2 works; height = high; alone = λ e. absurd (true≢false (sym e ∙ ap is_cancel d.role)); message = (λ e. absurd (true≢false (sym e ∙ ap is_service d.role)), λ served. absurd served) },
+            record {
+              words = grind (arith, nat_tests, unset_only, entry_registers);
+              holder = d.holder;
+              view = counts_line p o.thing d.family.0 m d.family.1 d.family.2 works;
+              height = high;
+              alone = λ e. absurd (true≢false (sym e ∙ ap is_cancel d.role));
+              message = (λ e. absurd (true≢false (sym e ∙ ap is_service d.role)), λ served. absurd served);
+            },
             record { there = there; lives = lives; below = omega arith; ready = grind (arith, nat_tests, eq-eqb) },
             (tt, apart.none_in, (λ f some. apart.unclaimed f, ap view_holder d.family.2.of ∙ sym works), apart.unworked),
             ((lives, there), (d.stays, refl, ap is_destruct d.role, d.gives, d.ends, d.quiet, d.family.0, d.family.1, d.family.2), stack),
@@ -454,7 +474,7 @@ module _ (p : Image) (t : Typing) (c : Choice) (s : State) (fr : Frame) (sh : Sh
           let housed = housed_relocated p cs q g ls fr.home free (omega arith) (omega arith) (λ o from e. (tt, tt)) at_hand.good.stack.2 in
           let k : ℕ → Kind = λ f. filled (field_thing p (thing_holder o.thing) f) Perhaps in
           goes_well p t cs o q before below at_hand.good.fits e (omega arith) claims linked typed at_hand.good.tidy
-          (leads.0, record { words = words; holder = at_hand.good.stack.1.holder; view = at_hand.good.stack.1.view; height = at_hand.good.stack.1.height; alone = at_hand.good.stack.1.alone; message = at_hand.good.stack.1.message }, housed, at_hand.good.stack.3, stack_moved p t cs q g ls _ free (omega arith) (omega arith) at_hand.good.stack.4)
+          (leads.0, frames_reworded at_hand.good.stack.1 words, housed, at_hand.good.stack.3, stack_moved p t cs q g ls _ free (omega arith) (omega arith) at_hand.good.stack.4)
           (untouched_method p t cs q o at_hand.good.tidy e k fr' sh' ls
           (λ x from e. tt) (omega arith) at_hand.good.stack.2 (untouched p t cs q o at_hand.good.tidy e k ls _ (omega arith) at_hand.good.stack.4))
           at_hand.good.suits

@@ -86,7 +86,14 @@ module _ (gone : Place → Bool) where
         service = ap (λ b. service_of (cond b (dropped cs) (c ∷ dropped cs)) n) ex ∙ s.service ∙ sym (ap (λ b. cond b c.service (service_of cs n)) ey);
         request = ap (λ b. requested (cond b (dropped cs) (c ∷ dropped cs)) n) ex ∙ s.request ∙ sym (ap (λ b. cond b c.request (requested cs n)) ey);
       })
-      go true false ex ey (inr w) = inr (record { object = w.object; place = w.place; there = later w; goes = w.goes; was = ap (λ b. cond b (Some c.object) (named cs n)) ey ∙ w.was; none = ap (λ b. named (cond b (dropped cs) (c ∷ dropped cs)) n) ex ∙ w.none })
+      go true false ex ey (inr w) = inr (record {
+        object = w.object;
+        place = w.place;
+        there = later w;
+        goes = w.goes;
+        was = ap (λ b. cond b (Some c.object) (named cs n)) ey ∙ w.was;
+        none = ap (λ b. named (cond b (dropped cs) (c ∷ dropped cs)) n) ex ∙ w.none;
+      })
       go false true ex ey ih = inl (record {
         name = ap (λ b. named (cond b (dropped cs) (c ∷ dropped cs)) n) ex ∙ ap (λ b. cond b (Some c.object) (named (dropped cs) n)) ey ∙ sym (ap (λ b. cond b (Some c.object) (named cs n)) ey);
         service = ap (λ b. service_of (cond b (dropped cs) (c ∷ dropped cs)) n) ex ∙ ap (λ b. cond b c.service (service_of (dropped cs) n)) ey ∙ sym (ap (λ b. cond b c.service (service_of cs n)) ey);

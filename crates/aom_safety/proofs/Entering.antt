@@ -159,7 +159,14 @@ module _ (p : Image) (t : Typing) (typed : IsTyped p t) (cs : List Cell) (x : Se
       let good : Good p t cs (Method (begun height) leads.0 ∷ over) = record {
         stack = (
           leads.1,
-          record { words = λ i. word_fits_weaker (at None ws i) (w.registers i) (e.words i); holder = e.holder; view = houses_counts p (Inside x.object x.place) _ e.holder; height = high; alone = λ cancels. absurd (true≢false (sym cancels ∙ e.plain)); message = e.right_over },
+          record {
+            words = λ i. word_fits_weaker (at None ws i) (w.registers i) (e.words i);
+            holder = e.holder;
+            view = houses_counts p (Inside x.object x.place) _ e.holder;
+            height = high;
+            alone = λ cancels. absurd (true≢false (sym cancels ∙ e.plain));
+            message = e.right_over;
+          },
           housed,
           apart,
           e.stack,

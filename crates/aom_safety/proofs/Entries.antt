@@ -24,7 +24,7 @@ use Rattle.aom_safety.proofs.Dealing.{dealing, Dealing, deals, less_claims}
 use Rattle.aom_safety.proofs.Items.{length_forms}
 use Rattle.aom_safety.proofs.Leaving.{leave_is_met, leave_keeps, trap_is_there}
 use Rattle.aom_semantics.proofs.Maps.{same_place_refl}
-use Rattle.aom_safety.proofs.Straight.{At, Fitted, Law, claim_register, fits_unowning, fitted, free_register, kind_fits}
+use Rattle.aom_safety.proofs.Straight.{frames_reworded, At, Fitted, Law, claim_register, fits_unowning, fitted, free_register, kind_fits}
 use Rattle.aom_safety.proofs.Straight.{no_word, no_word_fits, relabel, relocate, settle, top, well, words_set}
 use Rattle.aom_safety.proofs.Things.{stands_itself, stands_object}
 use Rattle.aom_safety.proofs.Words.{has_word}
@@ -270,7 +270,7 @@ module _ (p : Image) (t : Typing) (c : Choice) (s : State) (fr : Frame) (sh : Sh
 
       -- the method waits
       waits : (x : Pushed) (es : List Pushed) → sh.entries ≡ x ∷ es → Stack p t s.cells Gone (Method fr (record sh { entries = es }) ∷ ls)
-      waits x es e = (lead x es e, record { words = at_hand.good.stack.1.words; holder = at_hand.good.stack.1.holder; view = at_hand.good.stack.1.view; height = at_hand.good.stack.1.height; alone = at_hand.good.stack.1.alone; message = at_hand.good.stack.1.message }, at_hand.good.stack.2, at_hand.good.stack.3, at_hand.good.stack.4)
+      waits x es e = (lead x es e, frames_reworded at_hand.good.stack.1 at_hand.good.stack.1.words, at_hand.good.stack.2, at_hand.good.stack.3, at_hand.good.stack.4)
 
       -- for a method that gives nothing and does not leave
       awaits : (x : Pushed) (es : List Pushed) → sh.entries ≡ x ∷ es → (m : ℕ) → IsUndo p m → Stack p t s.cells (Returns m Static) (Method fr (record sh { entries = es }) ∷ ls)

@@ -15,7 +15,7 @@ use Rattle.aom_safety.proofs.Destroying.{eqb_comm, Untouched, other_name, untouc
 use Rattle.aom_safety.proofs.Emptied.{emptied_by}
 use Rattle.aom_semantics.proofs.Maps.{cond_same, same_place_refl, front_free, held_without, named_without, requested_without}
 use Rattle.aom_semantics.proofs.Maps.{same_place-true, tidy_without, unnamed, unrequested}
-use Rattle.aom_safety.proofs.Straight.{Fitted, fits_unowning, settle}
+use Rattle.aom_safety.proofs.Straight.{frames_reworded, Fitted, fits_unowning, settle}
 use Rattle.aom_safety.specs.Claims.{Ending, Dispatching, Dying, Layer, Mark, Method, Unwinding, claim}
 use Rattle.aom_safety.specs.Claims.{declared, declared_field, forms, items_of, objects, tasks_of}
 use Rattle.aom_semantics.specs.Destruction.{needs_past, owns_none_past, is_past, gone, is_at_rest, is_field_of, owns_nothing}
@@ -81,7 +81,10 @@ module _ (p : Image) (t : Typing) (cs : List Cell) (g : Place) (o : Object) (tid
       let none = no_seat_outside g d seats ls out in (
         s.0,
         s.1,
-        sits_kept cs (without g cs) g g seats (λ r x other other' there lives. (held_without cs g r ∙ ap (λ b. cond b None (held cs r)) other ∙ there, named_without cs g o x.name tidy there_it (another r x other there) ∙ lives)) none none s.2,
+        sits_kept cs (without g cs) g g seats (λ r x other other' there lives. (
+          held_without cs g r ∙ ap (λ b. cond b None (held cs r)) other ∙ there,
+          named_without cs g o x.name tidy there_it (another r x other there) ∙ lives,
+        )) none none s.2,
         first_kept cs (without g cs) g (seat_of d) seats (λ r x other there lives some. ap is_some (requested_without cs g o x.name tidy there_it (another r x other there)) ∙ some) none s.2 s.3,
         attended_at p cs (without g cs) d (λ y first.
             let f = subst (λ o. SitsFirst cs o seats) first s.3 in
@@ -229,7 +232,7 @@ goes_on p t s (Method fr sh ∷ ls) stack fits suits tidy tasks items undos =
       fits = λ r. subst (λ k. Fits p (seen s.cells) (held s.cells r) k) (sym (claim_frame p (declared p s.cells) fr (next fr) sh ls r refl refl)) (fits r);
       suits = suits;
       tidy = tidy;
-      frames = record { words = stack.1.words; holder = stack.1.holder; view = stack.1.view; height = stack.1.height; alone = stack.1.alone; message = stack.1.message };
+      frames = frames_reworded stack.1 stack.1.words;
       housed = stack.2;
       apart = stack.3;
       stack = stack.4;
@@ -319,7 +322,11 @@ module _ (p : Image) (t : Typing) (s : State) (o : Object) (ls : List Layer) (go
 
   -- the state once it is gone
   abbrev after : List Cell → State
-  after cs = record s { cells = each_unslotted (service_of s.cells o.name).sessions (without g cs); tasks = resumed (tasks_of ls); clients = sessions_ended (service_of s.cells o.name).sessions (queue_ended (service_of s.cells o.name).queue s.clients) }
+  after cs = record s {
+    cells = each_unslotted (service_of s.cells o.name).sessions (without g cs);
+    tasks = resumed (tasks_of ls);
+    clients = sessions_ended (service_of s.cells o.name).sessions (queue_ended (service_of s.cells o.name).queue s.clients);
+  }
 
   gone_well : forms s.items ≡ items_of ls → AllUndo p s.items → WellTyped p t (after less)
   gone_well items undos =

@@ -198,7 +198,8 @@ turns p outside heard s u all e = elim (turns_so p outside heard s u e) as (λ v
   | picks x v d ↦ elim d as (λ v d. AllInRange v.cells) [
     | handles m at ↦ asks_in_range x.object.name _ s.cells all
     | accepts client m at ↦ serve_in_range x.object.name _ s.cells all
-    | attends client message m o there at ↦ move_in_range (Elsewhere (Queued x.object.name message)) (Elsewhere In_service) (taken_from x.object.name s).cells tt (serve_in_range x.object.name _ s.cells all)
+    | attends client message m o there at ↦ move_in_range (Elsewhere (Queued x.object.name message)) (Elsewhere In_service)
+        (taken_from x.object.name s).cells tt (serve_in_range x.object.name _ s.cells all)
     | parts client o there ↦ move_in_range (Elsewhere (Session x.object.name client)) (Going 1) (taken_from x.object.name s).cells tt (serve_in_range x.object.name _ s.cells all)
   ]
 ]

@@ -23,7 +23,6 @@ use Rattle.aom_safety.proofs.Straight.{began, At, Fitted, Law, field_fits, fitte
 use Rattle.aom_safety.proofs.Housing.{houses_field}
 use Rattle.aom_safety.specs.Claims.{Layer, declared, forms, items_of, objects, tasks_of}
 use Rattle.aom_semantics.specs.Effects.{applied, jumps_if, jumps_unless, round}
-use Rattle.aom_semantics.specs.Moves.{does}
 use Rattle.aom_semantics.specs.Places.{Object, Place, held, seen}
 use Rattle.aom_semantics.specs.State.{Choice, Frame, Run, State, counter, field_place, home_holder, next, set_counter, to_place, word}
 use Rattle.aom_safety.specs.WellTyped.{Fits, WellTyped, WordFits}
@@ -71,7 +70,10 @@ module _ (p : Image) (t : Typing) (c : Choice) (s : State) (fr : Frame) (sh : Sh
       go _ _ ek eo leads f = grind (arith, nat_tests, top ls a)
 
   pub law_jump : (to : ℕ) → Law p t c s fr sh ls at_hand (Jump to)
-  law_jump to n leads = (tt, well p t c s fr sh ls at_hand (does p c fr (tasks_of ls) s (Jump to)) (to_place fr to) sh refl at_hand.items at_hand.undos (settle p t s.cells (to_place fr to) sh ls (placed (to_place fr to) refl refl refl refl) leads.0))
+  law_jump to n leads = (
+    tt,
+    well p t c s fr sh ls at_hand _ (to_place fr to) sh refl at_hand.items at_hand.undos (settle p t s.cells (to_place fr to) sh ls (placed (to_place fr to) refl refl refl refl) leads.0),
+  )
 
   -- both flows know what is known here
   pub goes_either : (to : ℕ) → AllLead t fr.method (flow_compare fr.place sh to) → (b : Bool) → WellTyped p t (applied p fr (tasks_of ls) s (jumps_if fr b to))
@@ -133,7 +135,7 @@ module _ (p : Image) (t : Typing) (c : Choice) (s : State) (fr : Frame) (sh : Sh
   pub law_loop : (depth rounds : ℕ) → Law p t c s fr sh ls at_hand (Loop depth rounds)
   law_loop depth rounds n leads =
       let fr' = next (set_counter fr depth rounds) in
-      (tt, well p t c s fr sh ls at_hand (does p c fr (tasks_of ls) s (Loop depth rounds)) fr' sh refl at_hand.items at_hand.undos (settle p t s.cells fr' sh ls (placed fr' refl refl refl refl) leads.0))
+      (tt, well p t c s fr sh ls at_hand _ fr' sh refl at_hand.items at_hand.undos (settle p t s.cells fr' sh ls (placed fr' refl refl refl refl) leads.0))
 
   pub law_next : (depth to : ℕ) → Law p t c s fr sh ls at_hand (Next depth to)
   law_next depth to n leads = (tt, go (counter fr depth - 1))

@@ -135,7 +135,13 @@ moves : (p : Image) → IsLooped p → (c : Choice) (s u : State) → RoundsLeft
 moves p looped_so c s u h e = keeps p c (rounds_left p) s u (kept p looped_so c s) h e
 
 pub loops_keep : LoopsKeep
-loops_keep = record { linked = linked_is_looped; boot = boot; moves = moves; turns = λ p looped_so outside heard s u h e. turn_keeps_it p outside heard (rounds_left p) s u (λ m height home words d. fresh p (record (frame_of m home height) { words = words })) (λ d. tt) (λ o x m height ts e. fresh p (destructor_frame p m o (length ts) height)) h e }
+loops_keep = record {
+  linked = linked_is_looped;
+  boot = boot;
+  moves = moves;
+  turns = λ p looped_so outside heard s u h e. turn_keeps_it p outside heard (rounds_left p) s u (λ m height home words d. fresh p
+      (record (frame_of m home height) { words = words })) (λ d. tt) (λ o x m height ts e. fresh p (destructor_frame p m o (length ts) height)) h e;
+}
   where
     boot : (p : Image) → RoundsLeft p (boot_state p).tasks
     boot p = grind (arith, nat_tests, fresh p)

@@ -26,7 +26,8 @@ use Rattle.aom_safety.proofs.Going.{housed_without, stack_without}
 use Rattle.aom_semantics.proofs.Maps.{same_place-true, same_place_comm}
 use Rattle.aom_safety.proofs.Picking.{own_held}
 use Rattle.aom_safety.proofs.Redeeming.{redeemable, redeemed_by_alike, redeemed_good}
-use Rattle.aom_safety.proofs.Straight.{At, Fitted, Law, fitted, free_register, kind_fits, no_word, relocate, same_suits, settle, top, well, words_set}
+use Rattle.aom_safety.proofs.Straight.{frames_reworded, At, Fitted, Law, fitted, free_register, kind_fits}
+use Rattle.aom_safety.proofs.Straight.{no_word, relocate, same_suits, settle, top, well, words_set}
 use Rattle.aom_safety.specs.Claims.{Layer, Method, claim, declared, delivered, serves, tasks_of}
 use Rattle.aom_semantics.specs.Moves.{does}
 use Rattle.aom_semantics.specs.Objects.{is_thing}
@@ -159,7 +160,7 @@ module _ (p : Image) (t : Typing) (s : State) (fr : Frame) (sh : Shape)
     suits = same_suits p left fr (next (set_word fr a None)) sh after ls refl refl refl
         (suits_dropped (λ r. same_place r (top ls a)) p s.cells at_hand.good.tidy messages (Method fr sh ∷ ls) at_hand.good.suits);
     tidy = tidy_dropped (λ r. same_place r (top ls a)) s.cells at_hand.good.tidy;
-    frames = record { words = words_set fr.words sh a None Null at_hand.good.stack.1.words refl; holder = at_hand.good.stack.1.holder; view = at_hand.good.stack.1.view; height = at_hand.good.stack.1.height; alone = at_hand.good.stack.1.alone; message = at_hand.good.stack.1.message };
+    frames = frames_reworded at_hand.good.stack.1 (words_set fr.words sh a None Null at_hand.good.stack.1.words refl);
     housed = subst (λ l. IsHoused p l ls fr.home) (place_dropped (top ls a) s.cells) (grind (arith, nat_tests, housed_without p t s.cells (top ls a) it at_hand.good.tidy there ls fr.home, top ls a));
     apart = at_hand.good.stack.3;
     stack = subst (λ l. Stack p t l (Returns fr.method fr.home) ls) (place_dropped (top ls a) s.cells)
@@ -177,16 +178,22 @@ module _ (p : Image) (t : Typing) (c : Choice) (s : State) (fr : Frame) (sh : Sh
   replies a code none it there message leads =
       let order = token_of s.cells (held s.cells (top ls a)) in
       let cs = redeemed_by order code s.cells in
-      let at_then : At p t (record s { cells = cs }) fr sh ls = record { tasks = at_hand.tasks; items = at_hand.items; undos = at_hand.undos; good = redeemed_good p t order code s.cells (Method fr sh ∷ ls) at_hand.good } in
+      let at_then : At p t (record s { cells = cs }) fr sh ls = record {
+        tasks = at_hand.tasks;
+        items = at_hand.items;
+        undos = at_hand.undos;
+        good = redeemed_good p t order code s.cells (Method fr sh ∷ ls) at_hand.good;
+      } in
       well p t c s fr sh ls at_hand _ (next (set_word fr a None)) (set_register sh a Null) refl at_hand.items at_hand.undos
       (settle p t (without (top ls a) cs) (next (set_word fr a None)) (set_register sh a Null) ls
       (goes_from p t (record s { cells = cs }) fr sh ls at_then a it ((redeemed_by_alike order code s.cells).held_so (top ls a) ∙ there) message) leads)
 
   pub law_reply : (a b : ℕ) → Law p t c s fr sh ls at_hand (Reply a b)
-  law_reply a b n leads = (
-    (ap is_none none, (ap is_some it.1, (ap (is_thing p Message) it.1 ∙ message_stands p it.0.thing it.2, (word_there (word fr b) (register sh b) n.1.0 (at_hand.good.stack.1.words b), (redeemable p t (token_of s.cells (held s.cells (top ls a))) s.cells (Method fr sh ∷ ls) at_hand.good, tt))))),
-    replies a (read fr (tasks_of ls) s b) none it.0 it.1 it.2 leads.0,
-  )
+  law_reply a b n leads =
+      let can = redeemable p t (token_of s.cells (held s.cells (top ls a))) s.cells (Method fr sh ∷ ls) at_hand.good in
+      let told = word_there (word fr b) (register sh b) n.1.0 (at_hand.good.stack.1.words b) in
+      let stands = ap (is_thing p Message) it.1 ∙ message_stands p it.0.thing it.2 in
+      ((ap is_none none, (ap is_some it.1, (stands, (told, (can, tt))))), replies a (read fr (tasks_of ls) s b) none it.0 it.1 it.2 leads.0)
     where
       it : (x : Object) × (held s.cells (top ls a) ≡ Some x) × (x.thing ≡ Message)
       it = message_held p (seen s.cells) (held s.cells (top ls a)) (register sh a) n.0 (kind_fits p t c s fr sh ls at_hand a)

@@ -88,7 +88,13 @@ module _ (p : Image) (t : Typing) (wired : IsWired p) (typed : IsTyped p t) (s :
       let items = no_items p t wired typed s w idle_now fit x r there lives asked server in
       goes_well p t cs z q [] below fits z_there (omega arith) claims wired typed (tidy_now p t wired typed s w idle_now fit x r there lives asked server)
       (tt, refl, seats_moved seats not_seated seated, grind (arith, nat_tests, requested_moved, requested_now, above), (server, has_then))
-      (record { some = λ h. ⊎_elim not_seated (λ y. y) h; unclaimed = λ f. refl; none_in = (no_fields cs z.name seats not_seated seated, tt); unworked = tt; sessions = λ d c. ap (λ b. cond (b && (client == c)) Null (d (Elsewhere (Session z.name c)))) (ne_eqb n z.name (λ same. not_seated (inl same))) })
+      (record {
+        some = λ h. ⊎_elim not_seated (λ y. y) h;
+        unclaimed = λ f. refl;
+        none_in = (no_fields cs z.name seats not_seated seated, tt);
+        unworked = tt;
+        sessions = λ d c. ap (λ b. cond (b && (client == c)) Null (d (Elsewhere (Session z.name c)))) (ne_eqb n z.name (λ same. not_seated (inl same)));
+      })
       (suits_now p t wired typed s w idle_now fit x r there lives asked server)
       then (length s.items) (ap length items) refl refl (ap forms items) (subst (λ is. AllUndo p is) (sym items) tt)
     where

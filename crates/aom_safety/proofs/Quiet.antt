@@ -80,7 +80,12 @@ boot : (p : Image) → IsCalm p (boot_state p).tasks
 boot p = grind (arith, nat_tests)
 
 pub calm_keeps : CalmKeeps
-calm_keeps = record { boot = boot; moves = moves; turns = λ p wired outside heard s u h e. turn_keeps_it p outside heard (calm p) s u (λ m height home words d clearing. absurd (true≢false (sym clearing))) (λ d. refl) (λ o x m height ts e clearing. (destroys_by p wired x x m (itself p x) e).quiet) h e }
+calm_keeps = record {
+  boot = boot;
+  moves = moves;
+  turns = λ p wired outside heard s u h e. turn_keeps_it p outside heard (calm p) s u (λ m height home words d clearing. absurd (true≢false (sym clearing)))
+      (λ d. refl) (λ o x m height ts e clearing. (destroys_by p wired x x m (itself p x) e).quiet) h e;
+}
 
 none_goes : (ts : List Task) → is_clearing ts ≡ false → NoneGoes ts
 none_goes [] e = tt

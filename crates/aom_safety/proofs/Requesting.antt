@@ -23,7 +23,7 @@ use Rattle.aom_roles.specs.Things.{holder_by, holder_of}
 use Rattle.aom_safety.proofs.Callees.{holder_member, home_member, member_kind}
 use Rattle.aom_safety.proofs.Storing.{Alike, alike_itself, fits_alike, housed_alike, listed_still, on_some}
 use Rattle.aom_safety.proofs.Storing.{requested_here, requested_there, rerequested_alike, stack_alike}
-use Rattle.aom_safety.proofs.Straight.{began, At, Fitted, Law, fitted, reframed, settle, stepped, this_is_ready, well}
+use Rattle.aom_safety.proofs.Straight.{frames_reworded, began, At, Fitted, Law, fitted, reframed, settle, stepped, this_is_ready, well}
 use Rattle.aom_safety.proofs.Suiting.{same_object}
 use Rattle.aom_safety.proofs.Words.{has_word, unowned, writes_word}
 use Rattle.aom_safety.specs.Claims.{Layer, Method, claim, declared, tasks_of}
@@ -60,7 +60,7 @@ restated p t cs cs' fr sh ls o from states home lives alike listed others ready 
       (fits_alike p t cs cs' alike (Method fr sh ∷ ls) q (λ x e fresh. others x.name (ready q x e fresh)) (g.fits q));
   suits = grind (arith, nat_tests);
   tidy = alike.tidy g.tidy;
-  frames = record { words = g.frames.words; holder = g.frames.holder; view = g.frames.view; height = g.frames.height; alone = g.frames.alone; message = g.frames.message };
+  frames = frames_reworded g.frames g.frames.words;
   housed = housed_alike p t cs cs' alike ls fr.home g.housed;
   apart = g.apart;
   stack = stack_alike p t cs cs' alike listed ls _ g.stack;
@@ -317,15 +317,19 @@ module _ (p : Image) (t : Typing) (main_none : (m : ℕ) → method_role p m ≡
   law_set_active n leads =
       let listed = active_listed (own_kind p fr.method) n.0 in
       let it = of_object listed in
-      let made = only_issued own (in_state listed issued n.1.0) in
-      ((active_home n.0, (made.0, (made.1, (made.2, tt)))), asks listed active (on_request waits own) (on_some waits own) (suits_active (own_kind p fr.method) (its listed sh.states) own n.0 made.2 it.suits) leads.0)
+      let made = only_issued own (in_state listed issued n.1.0) in (
+        (active_home n.0, (made.0, (made.1, (made.2, tt)))),
+        asks listed active (on_request waits own) (on_some waits own) (suits_active (own_kind p fr.method) (its listed sh.states) own n.0 made.2 it.suits) leads.0,
+      )
 
   pub law_abort : Law p t c s fr sh ls at_hand Abort
   law_abort n leads =
       let listed = active_listed (own_kind p fr.method) n.0 in
       let it = of_object listed in
-      let under = only_cancelled own (in_state listed (bit_or cancel_open cancel_done) n.1.0) in
-      ((active_home n.0, (under, tt)), asks listed cancel_done (on_request aborted own) (on_some aborted own) (suits_aborted (own_kind p fr.method) (its listed sh.states) own n.0 under it.suits) leads.0)
+      let under = only_cancelled own (in_state listed (bit_or cancel_open cancel_done) n.1.0) in (
+        (active_home n.0, (under, tt)),
+        asks listed cancel_done (on_request aborted own) (on_some aborted own) (suits_aborted (own_kind p fr.method) (its listed sh.states) own n.0 under it.suits) leads.0,
+      )
 
   -- each instruction of this file by its law
   abbrev pub of_requests : (i : Instr) → Option (Law p t c s fr sh ls at_hand i)

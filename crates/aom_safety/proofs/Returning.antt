@@ -26,7 +26,7 @@ use Rattle.aom_safety.proofs.Finishing.{message_gone, after_return, Returnable, 
 use Rattle.aom_safety.proofs.Finishing.{left_held, none_left, return_needs, returnable, same_items}
 use Rattle.aom_safety.proofs.Items.{forms_below, mark_on_top, undos_below}
 use Rattle.aom_semantics.proofs.Maps.{held_moved, requested_moved, same_place-true, same_place_refl, tidy_moved}
-use Rattle.aom_safety.proofs.Straight.{At, Fitted, Law, claim_register, fits_unowning, housed_relocated, next_unowning, no_word_fits}
+use Rattle.aom_safety.proofs.Straight.{frames_reworded, At, Fitted, Law, claim_register, fits_unowning, housed_relocated, next_unowning, no_word_fits}
 use Rattle.aom_safety.proofs.Straight.{register_fits, settle, stepped, top, word_of_object, words_set, write, may_be_object}
 use Rattle.aom_safety.proofs.Widening.{hold_widens, own_widens, own_widens_more, retaken}
 use Rattle.aom_semantics.specs.Calls.{needs_ended, below_top, received, result_cells, result_needs, result_register, returned, told_answer}
@@ -76,7 +76,7 @@ module _ (p : Image) (t : Typing) (c : Choice) (s : State) (fr fr2 : Frame) (sh 
     fits = λ r. rw (claim_push p (declared p s.cells) fr2 sh2 ls entry r) (go r (same_place spot r) refl);
     suits = suits;
     tidy = at_hand.good.tidy;
-    frames = record { words = caller.1.words; holder = caller.1.holder; view = caller.1.view; height = caller.1.height; alone = caller.1.alone; message = caller.1.message };
+    frames = frames_reworded caller.1 caller.1.words;
     housed = caller.2;
     apart = caller.3;
     stack = caller.4;
@@ -120,7 +120,7 @@ module _ (p : Image) (t : Typing) (c : Choice) (s : State) (fr fr2 : Frame) (sh 
             (λ r. held_moved cs q to r free) (requested_moved cs q to) same (λ r x e k f. refl) fits_aside r));
         suits = all_moved p cs q to (Method fr2 sh2 ∷ ls) suits;
         tidy = tidy_moved cs q to free g.tidy;
-        frames = record { words = words_set fr2.words sh2 x None k caller.1.words (no_word_fits k obj); holder = caller.1.holder; view = caller.1.view; height = caller.1.height; alone = caller.1.alone; message = caller.1.message };
+        frames = frames_reworded caller.1 (words_set fr2.words sh2 x None k caller.1.words (no_word_fits k obj));
         housed = housed_relocated p cs q to ls fr2.home free (omega arith) (omega arith) (λ o from e. (tt, tt)) caller.2;
         apart = caller.3;
         stack = stack_moved p t cs q to ls (Returns fr2.method fr2.home) free (omega arith) (omega arith) caller.4;
@@ -223,24 +223,38 @@ module _ (p : Image) (t : Typing) (wired : IsWired p) (c : Choice) (s : State) (
       go :
           is_cancel (method_role p fr.method) ≡ false → (g : Gives) → AllTrue (rule_result p fr.method fr.place sh g a) → entries_done p g sh.entries ≡ true →
           none_owns (result_moved p fr.method fr.place sh g a).registers ≡ true → Awaits g x sh2 → Leads t fr2.method (suc fr2.place) (brought g x sh2) → Goal g
-      go still Nothing r e n w leads = (tt, finish s.cells fr2 sh2 refl refl (items e) (plain p t c s fr fr2 sh sh2 ls below at_hand (Returns fr.method fr.home) at_hand.good.stack.4 (λ d r. refl) (omega arith) refl (suits still) at_hand.good.stack.1.message.0 e n) leads)
+      go still Nothing r e n w leads =
+          let f = plain p t c s fr fr2 sh sh2 ls below at_hand (Returns fr.method fr.home) at_hand.good.stack.4 (λ d r. refl) (omega arith) refl
+          (suits still) at_hand.good.stack.1.message.0 e n in
+          (tt, finish s.cells fr2 sh2 refl refl (items e) f leads)
       go still A_word r e n w leads =
           let i = word_is p s (word fr a) (register sh a) r.0 (at_hand.good.stack.1.words a) in
-          ((i.0, tt), finish s.cells (set_word fr2 x (word fr a)) (set_register sh2 x Word) refl refl (items e) (write p t s.cells fr2 sh2 ls x (word fr a) Word (plain p t c s fr fr2 sh sh2 ls below at_hand (Returns fr.method fr.home) at_hand.good.stack.4 (λ d r. refl) (omega arith) refl (suits still) at_hand.good.stack.1.message.0 e n) w (λ h. tt) i.1) leads)
+          let f = plain p t c s fr fr2 sh sh2 ls below at_hand (Returns fr.method fr.home) at_hand.good.stack.4 (λ d r. refl) (omega arith) refl
+          (suits still) at_hand.good.stack.1.message.0 e n in
+          let g = write p t s.cells fr2 sh2 ls x (word fr a) Word f w (λ h. tt) i.1 in
+          ((i.0, tt), finish s.cells (set_word fr2 x (word fr a)) (set_register sh2 x Word) refl refl (items e) g leads)
       go still (An_own y) r e n w leads =
           let k = own_widens p y (register sh a) r.0 r.1.0 in
           let f = carried p t c s fr fr2 sh sh2 ls below at_hand (Returns fr.method fr.home) at_hand.good.stack.4
           (λ d r. refl) (omega arith) refl (suits still) at_hand.good.stack.1.message.0 a x e n w k.object in
           let h = held_thing p s y (held s.cells (top below a)) (grind (arith, nat_tests, top, register_fits)) in
-          ((ap is_none (word_of_object (word fr a) (register sh a) k.object (at_hand.good.stack.1.words a)), (h.0, (h.1, tt))), finish (moved (top below a) (top ls x) s.cells) (set_word fr2 x None) (set_register sh2 x (Own y Ready)) refl refl (items e) (retaken p t (moved (top below a) (top ls x) s.cells) (set_word fr2 x None) sh2 ls x (register sh a) (Own y Ready) k f) leads)
+          let o = ap is_none (word_of_object (word fr a) (register sh a) k.object (at_hand.good.stack.1.words a)) in
+          let g = retaken p t (moved (top below a) (top ls x) s.cells) (set_word fr2 x None) sh2 ls x (register sh a) (Own y Ready) k f in
+          ((o, (h.0, (h.1, tt))), finish _ (set_word fr2 x None) (set_register sh2 x (Own y Ready)) refl refl (items e) g leads)
       go still (A_maybe y) r e n w leads =
           let obj : is_object_or_null (register sh a) ≡ true = object_of p s y (register sh a) r.0 in
           let f = carried p t c s fr fr2 sh sh2 ls below at_hand
           (Returns fr.method fr.home) at_hand.good.stack.4 (λ d r. refl) (omega arith) refl (suits still) at_hand.good.stack.1.message.0 a x e n w obj in
           let weak = hold_widens p y (register sh a) r.0 r.1.0 in
           let h = held_maybe p s y (held s.cells (top below a)) (grind (arith, nat_tests, top, register_fits)) in
-          ((ap is_none (word_of_object (word fr a) (register sh a) obj (at_hand.good.stack.1.words a)), (h, tt)), finish (moved (top below a) (top ls x) s.cells) (set_word fr2 x None) (set_register sh2 x (Maybe y Ready)) refl refl (items e) (retaken p t (moved (top below a) (top ls x) s.cells) (set_word fr2 x None) sh2 ls x (register sh a) (Maybe y Ready) weak f) leads)
-      go still (Left y) r e n w leads = (tt, finish s.cells fr2 (with_entry (Pushed_object y Ready) sh2) refl refl (at_hand.items ∙ ap (λ es. objects es (items_of below)) (left_alone p y sh.entries e).alone) (pushed p t c s fr fr2 sh sh2 ls below at_hand (Returns fr.method fr.home) at_hand.good.stack.4 (λ d r. refl) (omega arith) refl (suits still) at_hand.good.stack.1.message.0 y refl e n) leads)
+          let o = ap is_none (word_of_object (word fr a) (register sh a) obj (at_hand.good.stack.1.words a)) in
+          let g = retaken p t (moved (top below a) (top ls x) s.cells) (set_word fr2 x None) sh2 ls x (register sh a) (Maybe y Ready) weak f in
+          ((o, (h, tt)), finish _ (set_word fr2 x None) (set_register sh2 x (Maybe y Ready)) refl refl (items e) g leads)
+      go still (Left y) r e n w leads =
+          let f = pushed p t c s fr fr2 sh sh2 ls below at_hand (Returns fr.method fr.home) at_hand.good.stack.4 (λ d r. refl) (omega arith) refl
+          (suits still) at_hand.good.stack.1.message.0 y refl e n in
+          let same = at_hand.items ∙ ap (λ es. objects es (items_of below)) (left_alone p y sh.entries e).alone in
+          (tt, finish s.cells fr2 (with_entry (Pushed_object y Ready) sh2) refl refl same f leads)
 
       -- one that cancels gives nothing
       cancel_keeps : is_cancel (method_role p fr.method) ≡ true → AllTrue (needs p c fr (tasks_of below) s (Return a)) × WellTyped p t (does p c fr (tasks_of below) s (Return a))
@@ -320,30 +334,44 @@ module _ (p : Image) (t : Typing) (wired : IsWired p) (c : Choice) (s : State) (
           }
 
       Goal : Gives → Type 0
-      Goal g = AllTrue (result_needs p fr (tasks_of marked) s g a) × WellTyped p t (record s { cells = result_cells p fr (tasks_of marked) s g a x (tasks_of ls); tasks = Run (next (set_word (received p fr (tasks_of marked) s g a x fr2) (suc x) (Some (pos 0)))) ∷ tasks_of ls; items = below_top s.items })
+      Goal g = AllTrue (result_needs p fr (tasks_of marked) s g a) × WellTyped p t (record s {
+        cells = result_cells p fr (tasks_of marked) s g a x (tasks_of ls);
+        tasks = Run (next (set_word (received p fr (tasks_of marked) s g a x fr2) (suc x) (Some (pos 0)))) ∷ tasks_of ls;
+        items = below_top s.items;
+      })
 
       go :
           (g : Gives) → LeavesNone g → AllTrue (rule_result p fr.method fr.place sh g a) → entries_done p g sh.entries ≡ true →
           none_owns (result_moved p fr.method fr.place sh g a).registers ≡ true → is_unowning (register sh2 (suc x)) ≡ true → Awaits g x sh2 →
           Leads t fr2.method (suc fr2.place) (caught g x sh2) → Goal g
-      go Nothing none r e n u w leads = (tt, finish s.cells fr2 sh2 refl refl (items e) u (plain p t c s fr fr2 sh sh2 ls marked at_hand (Caught gv) caller (λ d r. mark_claims p d gv (Method fr2 sh2 ∷ ls) r) (omega arith) refl suits at_hand.good.stack.1.message.0 e n) leads)
+      go Nothing none r e n u w leads =
+          let f = plain p t c s fr fr2 sh sh2 ls marked at_hand (Caught gv) caller (λ d r. mark_claims p d gv (Method fr2 sh2 ∷ ls) r) (omega arith) refl
+          suits at_hand.good.stack.1.message.0 e n in
+          (tt, finish s.cells fr2 sh2 refl refl (items e) u f leads)
       go A_word none r e n u w leads =
           let i = word_is p s (word fr a) (register sh a) r.0 (at_hand.good.stack.1.words a) in
-          ((i.0, tt), finish s.cells (set_word fr2 x (word fr a)) (set_register sh2 x Word) refl refl (items e) (next_unowning sh2.registers x Word u) (write p t s.cells fr2 sh2 ls x (word fr a) Word (plain p t c s fr fr2 sh sh2 ls marked at_hand (Caught gv) caller (λ d r. mark_claims p d gv (Method fr2 sh2 ∷ ls) r) (omega arith) refl suits at_hand.good.stack.1.message.0 e n) w (λ h. tt) i.1) leads)
+          let f = plain p t c s fr fr2 sh sh2 ls marked at_hand (Caught gv) caller (λ d r. mark_claims p d gv (Method fr2 sh2 ∷ ls) r) (omega arith) refl
+          suits at_hand.good.stack.1.message.0 e n in
+          let g = write p t s.cells fr2 sh2 ls x (word fr a) Word f w (λ h. tt) i.1 in
+          ((i.0, tt), finish s.cells (set_word fr2 x (word fr a)) (set_register sh2 x Word) refl refl (items e) (next_unowning sh2.registers x Word u) g leads)
       go (An_own y) none r e n u w leads =
           let k = own_widens p y (register sh a) r.0 r.1.0 in
           let f = carried p t c s fr fr2 sh sh2 ls marked at_hand (Caught gv) caller
           (λ d r. mark_claims p d gv (Method fr2 sh2 ∷ ls) r) (omega arith) refl suits at_hand.good.stack.1.message.0 a x e n w k.object in
           let h = held_thing p s y (held s.cells (top marked a)) (grind (arith, nat_tests, top, register_fits)) in
           let weak = own_widens_more p y (register sh a) r.0 r.1.0 in
-          ((ap is_none (word_of_object (word fr a) (register sh a) k.object (at_hand.good.stack.1.words a)), (h.0, (h.1, tt))), finish (moved (top marked a) (top ls x) s.cells) (set_word fr2 x None) (set_register sh2 x (Maybe y Ready)) refl refl (items e) (next_unowning sh2.registers x (Maybe y Ready) u) (retaken p t (moved (top marked a) (top ls x) s.cells) (set_word fr2 x None) sh2 ls x (register sh a) (Maybe y Ready) weak f) leads)
+          let o = ap is_none (word_of_object (word fr a) (register sh a) k.object (at_hand.good.stack.1.words a)) in
+          let g = retaken p t (moved (top marked a) (top ls x) s.cells) (set_word fr2 x None) sh2 ls x (register sh a) (Maybe y Ready) weak f in
+          ((o, (h.0, (h.1, tt))), finish _ (set_word fr2 x None) (set_register sh2 x (Maybe y Ready)) refl refl (items e) (next_unowning sh2.registers x (Maybe y Ready) u) g leads)
       go (A_maybe y) none r e n u w leads =
           let obj : is_object_or_null (register sh a) ≡ true = object_of p s y (register sh a) r.0 in
           let f = carried p t c s fr fr2 sh sh2 ls marked at_hand
           (Caught gv) caller (λ d r. mark_claims p d gv (Method fr2 sh2 ∷ ls) r) (omega arith) refl suits at_hand.good.stack.1.message.0 a x e n w obj in
           let weak = hold_widens p y (register sh a) r.0 r.1.0 in
           let h = held_maybe p s y (held s.cells (top marked a)) (grind (arith, nat_tests, top, register_fits)) in
-          ((ap is_none (word_of_object (word fr a) (register sh a) obj (at_hand.good.stack.1.words a)), (h, tt)), finish (moved (top marked a) (top ls x) s.cells) (set_word fr2 x None) (set_register sh2 x (Maybe y Ready)) refl refl (items e) (next_unowning sh2.registers x (Maybe y Ready) u) (retaken p t (moved (top marked a) (top ls x) s.cells) (set_word fr2 x None) sh2 ls x (register sh a) (Maybe y Ready) weak f) leads)
+          let o = ap is_none (word_of_object (word fr a) (register sh a) obj (at_hand.good.stack.1.words a)) in
+          let g = retaken p t (moved (top marked a) (top ls x) s.cells) (set_word fr2 x None) sh2 ls x (register sh a) (Maybe y Ready) weak f in
+          ((o, (h, tt)), finish _ (set_word fr2 x None) (set_register sh2 x (Maybe y Ready)) refl refl (items e) (next_unowning sh2.registers x (Maybe y Ready) u) g leads)
       go (Left y) none r e n u w leads = absurd none
 
 -- a method returns to its dispatch

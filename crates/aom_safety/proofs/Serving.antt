@@ -48,7 +48,7 @@ module _ (p : Image) (t : Typing) (main_none : (m : ℕ) → method_role p m ≡
       let cs = resessioned s.cells fr.home session in
       let written = write p t s.cells fr sh ls a (Some w) Word (fitted p t s.cells fr sh ls at_hand.good) n.1.0 (λ h. tt) tt in
       let h = stepped p t cs fr' sh' ls (sessioned_fitted p t s.cells fr.home session fr' sh' ls written) in
-      ((native_home n.0, (unowned p t c s fr sh ls at_hand a n.1.0, tt)), well p t c s fr sh ls at_hand (does p c fr (tasks_of ls) s (Connect a)) (next fr') sh' refl at_hand.items at_hand.undos (settle p t cs (next fr') sh' ls h leads.0))
+      ((native_home n.0, (unowned p t c s fr sh ls at_hand a n.1.0, tt)), well p t c s fr sh ls at_hand _ (next fr') sh' refl at_hand.items at_hand.undos (settle p t cs (next fr') sh' ls h leads.0))
 
   pub law_ask : (a b x : ℕ) → Law p t c s fr sh ls at_hand (Ask a b x)
   law_ask a b x n leads = (

@@ -46,7 +46,11 @@ kept p t (need ∷ needs) s n w = subst (λ b. Keeps p t (cond b (guarded needs 
 module _ (p : Image) (t : Typing) (wired : IsWired p) (typed : IsTyped p t)
     (c : Choice) (s : State) (fr : Frame) (sh : Shape) (ls : List Layer) (at_hand : At p t s fr sh ls) (unused : named s.cells c.name ≡ None) where
   law_stop : Law p t c s fr sh ls at_hand Stop
-  law_stop n leads = (tt, well p t c s fr sh ls at_hand (does p c fr (tasks_of ls) s Stop) (next fr) sh refl at_hand.items at_hand.undos (settle p t s.cells (next fr) sh ls (stepped p t s.cells fr sh ls (fitted p t s.cells fr sh ls at_hand.good)) leads.0))
+  law_stop n leads = (
+    tt,
+    well p t c s fr sh ls at_hand _ (next fr) sh refl at_hand.items at_hand.undos
+        (settle p t s.cells (next fr) sh ls (stepped p t s.cells fr sh ls (fitted p t s.cells fr sh ls at_hand.good)) leads.0),
+  )
 
   -- those with a file of their own
   abbrev of_others : (i : Instr) → ((a : ℕ) → Law p t c s fr sh ls at_hand (Return a)) → Option (Law p t c s fr sh ls at_hand i)

@@ -67,6 +67,12 @@ pub record Fitted (p : Image) (t : Typing) (cs : List Cell) (fr : Frame) (sh : S
   pub apart : IsApart p fr.view fr.method fr.home ls
   pub stack : Stack p t cs (Returns fr.method fr.home) ls
 
+-- other words, another place and other registers leave a frame its own
+pub frames_reworded :
+    {p : Image} {ls : List Layer} {fr : Frame} {sh sh' : Shape} {place : ℕ} {words : List (Option ℤ)} {counters : List ℕ} → Frames p ls fr sh →
+    ((i : ℕ) → WordFits (at None words i) (register sh' i)) → Frames p ls (record fr { place = place; words = words; counters = counters }) sh'
+frames_reworded g w = record { words = w; holder = g.holder; view = g.view; height = g.height; alone = g.alone; message = g.message }
+
 pub fitted : (p : Image) (t : Typing) (cs : List Cell) (fr : Frame) (sh : Shape) (ls : List Layer) → Good p t cs (Method fr sh ∷ ls) → Fitted p t cs fr sh ls
 fitted p t cs fr sh ls g = record { fits = g.fits; suits = g.suits; tidy = g.tidy; frames = g.stack.1; housed = g.stack.2; apart = g.stack.3; stack = g.stack.4 }
 
@@ -78,7 +84,7 @@ settle p t cs fr sh ls g leads =
     let w = leads.2 in (
       leads.0,
       record {
-        stack = (leads.1, record { words = λ i. word_fits_weaker (word fr i) (w.registers i) (g.frames.words i); holder = g.frames.holder; view = g.frames.view; height = g.frames.height; alone = g.frames.alone; message = g.frames.message }, g.housed, g.apart, g.stack);
+        stack = (leads.1, frames_reworded g.frames (λ i. word_fits_weaker (word fr i) (w.registers i) (g.frames.words i)), g.housed, g.apart, g.stack);
         fits = λ r. fits_weaker p (seen cs) (held cs r) (claim_weaker p (declared p cs) fr leads.0 sh ls r (owns_no_more leads.0 sh w)) (g.fits r);
         suits = λ o lives. claims_less p o fr leads.0 sh ls (requested cs o.name) w.states (g.suits o lives);
         tidy = g.tidy;
@@ -235,7 +241,7 @@ stepped p t cs fr sh ls g = record {
   fits = λ r. rw (claim_frame p (declared p cs) fr (next fr) sh ls r refl refl) (g.fits r);
   suits = g.suits;
   tidy = g.tidy;
-  frames = record { words = g.frames.words; holder = g.frames.holder; view = g.frames.view; height = g.frames.height; alone = g.frames.alone; message = g.frames.message };
+  frames = frames_reworded g.frames g.frames.words;
   housed = g.housed;
   apart = g.apart;
   stack = g.stack;

@@ -1,4 +1,5 @@
--- What a turn changes: nothing but what no place tells, the request of an object that is completed, what a native that is killed leaves behind, or what a client's command comes to, or all that a dispatch begins with.
+-- What a turn changes: nothing but what no place tells, the request of an object that is completed, what a native that is killed
+-- leaves behind, or what a client's command comes to, or all that a dispatch begins with.
 use Rattle.std.proofs.lemmas.Bool.Decides.{nat_tests}
 use Rattle.std.proofs.Common.{arith, Bool, List, None, Option, Some, cond, false, negsuc, pos, refl, subst, ℕ, ℤ, ◌∷◌, ◌≡◌}
 use Rattle.std.specs.Ordering.{int_eq}

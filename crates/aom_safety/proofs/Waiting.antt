@@ -1,4 +1,5 @@
--- A method that waits claims of its object no more than what is declared: of the fields that its class declares by itself, and by the layers below it of the others that the object has as what it counts as.
+-- A method that waits claims of its object no more than what is declared: of the fields that its class declares by itself, and by
+-- the layers below it of the others that the object has as what it counts as.
 use Rattle.std.proofs.lemmas.Bool.Decides.{nat_tests}
 use Rattle.std.proofs.Common.{arith, List, None, Option, Some, ap, cond, is_some, refl, sym, true, ℕ, ◌∙◌, ◌∷◌, ◌≡◌, []}
 use Rattle.std.proofs.lemmas.Bool.{eq-eqb}

@@ -271,7 +271,13 @@ module _ (p : Image) (formed : WellFormed p) (linked : IsLinked p) where
   trapped_is m place target m' first c e =
       let w = of_method p m place (Trap target m' first c) e in
       let names : ShapedTrapped p m' = all_there (NamesRoles p) w.0.code place (Trap target m' first c) (shaped m w.0 w.1).code w.2 in
-      let gives : LeavesNone (gives_of p m') = leaves_none (gives_of p m') names.gives in some_given (λ o. IsTrue (is_role Do (role_in o))) (method_at p m') names.role (λ names. cc) (λ d f names. record { there = rw f refl; ends = ends_unissued m' d f (or_left (same_role d.role Do) (same_role d.role Construct) names); role = ap role_in f ∙ ap (λ r. Some r) (same_roles d.role Do names); gives = gives })
+      let gives : LeavesNone (gives_of p m') = leaves_none (gives_of p m') names.gives in
+      some_given (λ o. IsTrue (is_role Do (role_in o))) (method_at p m') names.role (λ names. cc) (λ d f names. record {
+        there = rw f refl;
+        ends = ends_unissued m' d f (or_left (same_role d.role Do) (same_role d.role Construct) names);
+        role = ap role_in f ∙ ap (λ r. Some r) (same_roles d.role Do names);
+        gives = gives;
+      })
 
   pushed_is : (m place a m' : ℕ) → instr_at p m place ≡ Some (PushOperation a m') → IsUndo p m'
   unfolding role_in is_role class_in leaves_in quiet_in gives_in arguments_in method_at
