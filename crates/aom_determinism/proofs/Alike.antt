@@ -24,8 +24,8 @@ alike_renamed : (names : ℕ → ℕ) → IsOneToOne names → (o : Outcome) →
 alike_renamed names one_to_one x = grind arith
 
 -- two free names, of which one becomes the other as the two states' free names change places
-module _ (p : Image) (t : Typing) (s u : State) (well : WellTyped p t u) (kept : IsKept p u) (there : AllThere u) (alike : AreAlike s u) (a b : ℕ) (free_a : named s.cells a ≡ None)
-    (free_b : named u.cells b ≡ None) where
+module _ (p : Image) (t : Typing) (s u : State) (well : WellTyped p t u)
+    (kept : IsKept p u) (there : AllThere u) (alike : AreAlike s u) (a b : ℕ) (free_a : named s.cells a ≡ None) (free_b : named u.cells b ≡ None) where
   exchanged : ℕ → ℕ
   exchanged n = swapped (alike.names a) b (alike.names n)
 
@@ -42,11 +42,11 @@ module _ (p : Image) (t : Typing) (s u : State) (well : WellTyped p t u) (kept :
 
   exchanged_state : renamed exchanged s ≡ u
   unfolding exchanged
-  exchanged_state = renamed_twice (swapped (alike.names a) b) alike.names s ∙ ap (renamed (swapped (alike.names a) b)) (sym alike.same) ∙ swapped_free p t u (alike.names a) b well kept.fit there free free_b
+  exchanged_state = renamed_twice (swapped (alike.names a) b) alike.names s
+      ∙ ap (renamed (swapped (alike.names a) b)) (sym alike.same) ∙ swapped_free p t u (alike.names a) b well kept.fit there free free_b
 
-module _
-    (p : Image) (t : Typing) (refused : List ℕ) (c d : Choice) (s u : State) (well : WellTyped p t u) (kept : IsKept p u) (there : AllThere u) (alike : AreAlike s u)
-    (open_c : IsOpen p refused c s) (open_d : IsOpen p refused d u) (answers : is_heard p s.tasks ≡ true → c.answer ≡ d.answer) where
+module _ (p : Image) (t : Typing) (refused : List ℕ) (c d : Choice) (s u : State) (well : WellTyped p t u) (kept : IsKept p u) (there : AllThere u)
+    (alike : AreAlike s u) (open_c : IsOpen p refused c s) (open_d : IsOpen p refused d u) (answers : is_heard p s.tasks ≡ true → c.answer ≡ d.answer) where
   -- the name of one new cell becomes that of the other
   abbrev names : ℕ → ℕ
   names = exchanged p t s u well kept there alike c.name d.name open_c.name open_d.name
@@ -74,10 +74,10 @@ module _
       go false e = step_unheard p d c.answer u (ap (λ x. is_heard p x.tasks) alike.same ∙ heard_kept p alike.names s.tasks ∙ e)
 
   same_step : renamed_outcome names (step p c s) ≡ step p d u
-  same_step = sym (moves_so names (exchanged_one p t s u well kept there alike c.name d.name open_c.name open_d.name) p c s) ∙ ap (λ x. step p x (renamed names s)) same_choice ∙ ap (step p (hearing c.answer)) same_state ∙ same_hearing
+  same_step = grind (arith, nat_tests, moves_so, exchanged_one, same_choice, hearing, same_state, same_hearing)
 
   pub move_alike : AlikeOutcomes (step p c s) (step p d u)
-  move_alike = subst (AlikeOutcomes (step p c s)) same_step (alike_renamed names (exchanged_one p t s u well kept there alike c.name d.name open_c.name open_d.name) (step p c s))
+  move_alike = grind (arith, nat_tests, same_step, alike_renamed, exchanged_one)
 
 pub writes_alike : (p : Image) (s u : State) → AreAlike s u → written p s ≡ written p u
 writes_alike p s u alike = sym (writes_so alike.names alike.one_to_one p s) ∙ ap (written p) (sym alike.same)
@@ -86,9 +86,9 @@ pub moves_stay_alike : MovesStayAlike
 moves_stay_alike p t refused c d s u well kept there alike open_c open_d answers = (move_alike p t refused c d s u well kept there alike open_c open_d answers, writes_alike p s u alike)
 
 -- a turn hears what the other hears, and the name of what one makes becomes that of the other
-module _
-    (p : Image) (t : Typing) (outside : Environment) (heard other : Heard) (s u : State) (well : WellTyped p t u) (kept : IsKept p u) (there : AllThere u) (alike : AreAlike s u)
-    (free_heard : named s.cells heard.name ≡ None) (free_other : named u.cells other.name ≡ None) (answers : is_polling (turning outside nothing_heard s) ≡ true → heard.completion ≡ other.completion) where
+module _ (p : Image) (t : Typing) (outside : Environment) (heard other : Heard)
+    (s u : State) (well : WellTyped p t u) (kept : IsKept p u) (there : AllThere u) (alike : AreAlike s u) (free_heard : named s.cells heard.name ≡ None)
+    (free_other : named u.cells other.name ≡ None) (answers : is_polling (turning outside nothing_heard s) ≡ true → heard.completion ≡ other.completion) where
   abbrev turn_names : ℕ → ℕ
   turn_names = exchanged p t s u well kept there alike heard.name other.name free_heard free_other
 
@@ -99,18 +99,10 @@ module _
   same_turn = grind (arith, nat_tests, same_polling, turn_unpolled other p outside u)
 
   same_turned : renamed_outcome turn_names (turn p outside heard s) ≡ turn p outside other u
-  same_turned = grind (
-    arith,
-    nat_tests,
-    turns_so,
-    exchanged_one p t s u well kept there alike heard.name other.name free_heard free_other,
-    exchanged_first p t s u well kept there alike heard.name other.name free_heard free_other,
-    exchanged_state p t s u well kept there alike heard.name other.name free_heard free_other,
-    same_turn,
-  )
+  same_turned = grind (arith, nat_tests, turns_so, exchanged_one, exchanged_first, exchanged_state, same_turn)
 
   pub turn_alike : AlikeOutcomes (turn p outside heard s) (turn p outside other u)
-  turn_alike = subst (AlikeOutcomes (turn p outside heard s)) same_turned (alike_renamed turn_names (exchanged_one p t s u well kept there alike heard.name other.name free_heard free_other) (turn p outside heard s))
+  turn_alike = grind (arith, nat_tests, same_turned, alike_renamed, exchanged_one)
 
 pub turn_writes_alike : (p : Image) (outside : Environment) (s u : State) → AreAlike s u → written_turn p outside s ≡ written_turn p outside u
 turn_writes_alike p outside s u alike = sym (writes_turn_so alike.names alike.one_to_one p outside s) ∙ ap (written_turn p outside) (sym alike.same)

@@ -20,13 +20,13 @@ use Rattle.aom_safety.proofs.Queues.{client_here, client_there}
 use Rattle.aom_safety.proofs.Services.{held_served, service_here, service_moved, service_there, service_unnamed}
 use Rattle.aom_safety.proofs.Turned.{dispatched_so}
 use Rattle.aom_transcript.specs.declared.event.Command.{Command}
-use Rattle.aom_transcript.specs.declared.event.Command.TheVariants.{Close, Connect, Die, Send}
 use Rattle.aom_semantics.specs.Clients.{Listed, asked_server, client_at, commanded, connecting, leaving, own, sending, told, with_client, with_message}
-use Rattle.aom_semantics.specs.Enlisted.{on_request, part_of, taken_up}
+use Rattle.aom_semantics.specs.Enlisted.{part_of}
 use Rattle.aom_safety.specs.Kept.{ClientsFit, is_connect_of}
-use Rattle.aom_semantics.specs.Places.{Asked, Cell, Close_of, Connect_of, Elsewhere, In_service, Message_of, Object, Queued, Service, Session, Tidy, held, moved, named, requested, service_of, unserved}
+use Rattle.aom_semantics.specs.Places.{Asked, Cell, Close_of, Connect_of, Elsewhere, In_service, Message_of, Object, Queued}
+use Rattle.aom_semantics.specs.Places.{Service, Session, Tidy, held, moved, named, service_of, unserved}
 use Rattle.aom_semantics.specs.Servers.{asked_last, is_server, reserved, stays, taken_first, withdrawn}
-use Rattle.aom_semantics.specs.State.{Accepts, Goes, Of_object, Of_server, Seat, State}
+use Rattle.aom_semantics.specs.State.{Accepts, Goes, Of_server, Seat, State}
 use Rattle.aom_semantics.specs.World.{picked, serves_first, accepting, attended, attending, parting_with, taken_from, dispatched}
 use Rattle.aom_determinism.proofs.Remaining.{AllWait, calm_waits, plain_there}
 use Rattle.aom_determinism.proofs.Keeping.{Calm, calm_moved, calm_reserved}
@@ -93,15 +93,7 @@ module _ (p : Image) (s u : State) (all : AllWait s.clients s.cells) (x : Seat) 
       })
 
   close_there : (c : ℕ) (es : List Asked) → (service_of s.cells n).queue ≡ Close_of c ∷ es → (o : Option Object) → parting_with p x c o (taken_from n s) ≡ Goes u → AllThere u
-  close_there c es queue y e = grind (
-    arith,
-    nat_tests,
-    goes_same,
-    dispatch_begun p,
-    AllWait s.clients,
-    service_moved,
-    others_wait s.cells x.object lives (Close_of c) es queue s.clients,
-  )
+  close_there c es queue y e = grind (arith, nat_tests, goes_same, dispatch_begun, AllWait, service_moved, others_wait)
 
   serves_there : (queue : List Asked) → (service_of s.cells n).queue ≡ queue → serves_first p x queue s ≡ Goes u → AllThere u
   serves_there [] queue e = cc
@@ -114,7 +106,7 @@ module _ (p : Image) (s u : State) (all : AllWait s.clients s.cells) (x : Seat) 
     where
       go : (b : Bool) → cond b (serves_first p x (service_of s.cells n).queue s) (dispatched (part_of p Handles x.object.thing) x s) ≡ Goes u → AllThere u
       go true e = serves_there (service_of s.cells n).queue refl e
-      go false e = let d = dispatched_so p s u x e in subst AllThere (sym d.2) (plain_there s.clients _ (Some (Of_object x)) tt (same_waits s.clients s.cells _ (same_requested s.cells x.object (on_request taken_up (requested s.cells x.object.name)) (λ e. on_none taken_up (requested s.cells x.object.name) e)) all))
+      go false e = let d = dispatched_so p s u x e in subst AllThere (sym d.2) (grind (arith, nat_tests, plain_there s.clients, same_waits s.clients s.cells, same_requested s.cells x.object, on_none))
 
 -- ---- a client does something
 
@@ -136,9 +128,8 @@ stays_connects c d (Message_of i m ∷ es) other h = grind (arith, nat_tests, st
 stays_connects c d (Close_of i ∷ es) other h = stays_connects c d es other h
 stays_connects c d (Connect_of i ∷ es) other h = grind (arith, nat_tests, stays_connects c d es other, ne_eqb i c, eq-eqb c d, eqb-true i d)
 
-module _
-    (p : Image) (client : ℕ) (s : State) (tidy : Tidy s.cells) (fit : ClientsFit p s.clients s.cells) (waiting : (n m : ℕ) (o : Object) → held s.cells (Elsewhere (Queued n m)) ≡ Some o → is_server p o.thing ≡ false)
-    (all : AllWait s.clients s.cells) where
+module _ (p : Image) (client : ℕ) (s : State) (tidy : Tidy s.cells) (fit : ClientsFit p s.clients s.cells)
+    (waiting : (n m : ℕ) (o : Object) → held s.cells (Elsewhere (Queued n m)) ≡ Some o → is_server p o.thing ≡ false) (all : AllWait s.clients s.cells) where
   abbrev StillWait : State → Type 0
   StillWait u = AllWait u.clients u.cells
 
@@ -207,10 +198,7 @@ module _
       go false other =
           let before = all n d (ap (is_connecting_at n) (sym (client_there client d to s.clients other)) ∙ e) in
           let left = service_left p s.clients s.cells tidy fit client waiting n in
-          told_keeps (own p client s) (withdrawn client s.cells) (ap (λ q. list_any (is_connect_of d) q) left.0 ∙ stays_connects client d (service_of s.cells n).queue other before)
+          told_keeps (own p client s) (withdrawn client s.cells) (grind (arith, nat_tests, stays_connects client d))
 
   pub commanded_waits : (command : Command) (name : ℕ) → named s.cells name ≡ None → StillWait (commanded p client s command name)
-  commanded_waits (Connect class slots) name free = connecting_waits _ class (asked_server p class s.cells) refl slots
-  commanded_waits (Send words) name free = sending_waits _ _ name free words
-  commanded_waits Close name free = leaving_waits _ (λ n k e. closes_done n (own p client s) k e)
-  commanded_waits Die name free = leaving_waits _ (λ n k e. dies_done n (own p client s) k e)
+  commanded_waits x name free = grind (arith, nat_tests, connecting_waits, sending_waits, leaving_waits, closes_done, dies_done)

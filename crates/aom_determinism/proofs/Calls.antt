@@ -7,14 +7,17 @@ use Rattle.std.specs.Prelude.{not, ◌||◌}
 use Rattle.aom_image.specs.Image.{Image}
 use Rattle.aom_image.specs.Views.{method_role}
 use Rattle.aom_roles.specs.Roles.{is_cancel}
-use Rattle.aom_determinism.proofs.Cells.{Unchanged, meets_asked, meets_opened, owes_asked, owes_opened, served_none, served_so, unchanged_asked, unchanged_itself, unchanged_opened}
+use Rattle.aom_determinism.proofs.Cells.{Unchanged, meets_asked, meets_opened, owes_asked, owes_opened, served_none}
+use Rattle.aom_determinism.proofs.Cells.{served_so, unchanged_asked, unchanged_itself, unchanged_opened}
 use Rattle.aom_determinism.proofs.Requests.{aborted_owed, cancelled_owed, completed_owed, idle_owed, issued_owed, started_owed}
 use Rattle.aom_determinism.specs.Owed.{Finds, FindsWell, SessionsHold, is_for, meets, meets_after, owes, owes_after, serves, serves_object, takes_on}
-use Rattle.aom_semantics.specs.Enlisted.{Asking, aborted, ended_cells, home_kind, in_phase, is_idle, issued_of, on_request, own_request, pending, rerequested, status_of, thing_kind}
+use Rattle.aom_semantics.specs.Enlisted.{Asking, aborted, ended_cells, home_kind, in_phase, is_idle, issued_of}
+use Rattle.aom_semantics.specs.Enlisted.{on_request, own_request, pending, rerequested, status_of, thing_kind}
 use Rattle.aom_semantics.specs.Natives.{has_died, is_dead, is_owed, native_of, opens, own_session, resessioned, started}
 use Rattle.aom_semantics.specs.Places.{Cell, Object, Request, in_session, named, requested, set_request, set_session}
 use Rattle.aom_semantics.specs.State.{AtRoot, Frame, Home, Inside, State, Static, Task}
-use Rattle.aom_semantics.specs.Wanted.{An_open, A_start, An_ask, A_cancel, A_close, Asks, Cancels, Closes, Opens, Starts, Wanted, wanted_at, wanted_by, wanted_if}
+use Rattle.aom_semantics.specs.Wanted.{An_open, A_start, An_ask, A_cancel, A_close, Asks, Cancels, Closes}
+use Rattle.aom_semantics.specs.Wanted.{Opens, Starts, Wanted, wanted_at, wanted_by, wanted_if}
 use Rattle.aom_semantics.specs.Words.{read}
 
 -- the cells after a call with that answer
@@ -39,43 +42,25 @@ for_one n x k m e = let both = and_parts (n == k) (x == m) e in (eqb-true n k bo
 
 module _ (p : Image) (answer : ℤ) (s : State) (holds : SessionsHold p s) (w : Option Wanted) where
   met_after : (finds : FindsWell p s w) (k m : ℕ) → owes_after w answer k m (owes p s.cells k m) ≡ true → meets_after w answer k m (meets p s.cells k m) ≡ true
-  met_after finds k m = grind (
-    arith,
-    nat_tests,
-    finds,
-    meets p s.cells,
-    owes p s.cells k m,
-    meets p s.cells k m,
-    for_one,
-    and_right,
-    owes p s.cells,
-    or_right,
-  )
+  met_after finds k m = grind (arith, nat_tests, finds, meets p s.cells, owes p s.cells k m, meets p s.cells k m, for_one, and_right, owes p s.cells, or_right)
 
   lives_after : (finds : FindsWell p s w) (k m : ℕ) → meets_after w answer k m (meets p s.cells k m) ≡ true → is_dead s.killed k ≡ false
   lives_after finds k m = grind (arith, nat_tests, finds, meets p s.cells k m, for_one, and_right)
 
   pub sessions_after : (u : State) → Told p answer s w u.cells → u.killed ≡ s.killed → SessionsHold p u
-  sessions_after u told killed = record {
-    met = λ k m e. told.meets k m ∙ met_after told.finds k m (sym (told.owes k m) ∙ e);
-    lives = λ k m e. ap (λ l. is_dead l k) killed ∙ lives_after told.finds k m (sym (told.meets k m) ∙ e);
-  }
+  sessions_after u told killed = search (arith, nat_tests, met_after told.finds, lives_after told.finds)
 
 -- ---- other changes before and after it
 
 -- sessions hold where nothing changes
 pub sessions_along : (p : Image) (s u : State) → Unchanged p s.cells u.cells → u.killed ≡ s.killed → SessionsHold p s → SessionsHold p u
-sessions_along p s u same killed holds = record {
-  met = λ n m e. same.meets n m ∙ holds.met n m (sym (same.owes n m) ∙ e);
-  lives = λ n m e. ap (λ l. is_dead l n) killed ∙ holds.lives n m (sym (same.meets n m) ∙ e);
-}
+sessions_along p s u same killed holds = search (arith, nat_tests)
 
 pub told_along : (p : Image) (answer : ℤ) (s : State) (w : Option Wanted) (cs cs' : List Cell) → Unchanged p cs cs' → Told p answer s w cs → Told p answer s w cs'
 told_along p answer s w cs cs' same told = record { finds = told.finds; owes = λ k m. same.owes k m ∙ told.owes k m; meets = λ k m. same.meets k m ∙ told.meets k m }
 
-pub told_before :
-    (p : Image) (answer : ℤ) (s u : State) → Unchanged p s.cells u.cells → ((k m : ℕ) → serves p u.cells k m ≡ serves p s.cells k m) → u.killed ≡ s.killed → (w : Option Wanted) (cs : List Cell) →
-    Told p answer u w cs → Told p answer s w cs
+pub told_before : (p : Image) (answer : ℤ) (s u : State) → Unchanged p s.cells u.cells → ((k m : ℕ) → serves p u.cells k m ≡ serves p s.cells k m) →
+    u.killed ≡ s.killed → (w : Option Wanted) (cs : List Cell) → Told p answer u w cs → Told p answer s w cs
 told_before p answer s u same serving killed w cs told = record {
   finds = finds_before w told.finds;
   owes = λ k m. told.owes k m ∙ ap (λ b. owes_after w answer k m b) (same.owes k m);
@@ -167,12 +152,11 @@ module _ (p : Image) (answer : ℤ) (s : State) where
     connects false false dead met = record {
       finds = found false false dead met (unowed (is_owed (requested s.cells o.name)) refl);
       owes = owes_opened p s.cells o (takes_on answer);
-      meets = λ k m. meets_opened p s.cells o (takes_on answer) k m ∙ put_on (λ x. meets p s.cells k x) o.name m (n == k) (takes_on answer) _ (at_it k _ false met) (at_it k _ (takes_on answer) refl);
+      meets = grind (arith, nat_tests, meets_opened, put_on, meets, at_it);
     }
       where
         unowed : (b : Bool) → is_owed (requested s.cells o.name) ≡ b → is_owed (requested s.cells o.name) ≡ false
-        unowed true owed = absurd (true≢false (sym (open_for owed) ∙ met))
-        unowed false owed = owed
+        unowed x owed = grind (arith, nat_tests, open_for)
 
     module _ (clock order : ℕ) (a : ℤ) (f w : ℤ) (idle : in_phase is_idle (requested s.cells o.name) ≡ true) where
       abbrev then : Bool → Bool → Option Request
@@ -194,13 +178,12 @@ module _ (p : Image) (answer : ℤ) (s : State) where
       }
 
     asks : (d x : Bool) (f w : ℤ) → is_dead s.killed n ≡ d → in_session s.cells o.name ≡ x → Told p answer s (wanted_if (not d && x) (Asks n o.name f w)) s.cells
-    asks true x f w dead met = told_none _ (unchanged_itself p s.cells)
-    asks false false f w dead met = told_none _ (unchanged_itself p s.cells)
     asks false true f w dead met = record {
       finds = found true (owes p s.cells n o.name) dead met (sym (ap (λ x. x && is_owed (requested s.cells o.name)) here));
       owes = λ k m. refl;
       meets = λ k m. refl;
     }
+    asks _ _ f w dead met = told_none _ (unchanged_itself p s.cells)
 
     aborts : (b : Bool) → is_owed (requested s.cells o.name) ≡ b → Told p answer s (wanted_if b (Cancels n o.name)) (set_request o.name (on_request aborted (requested s.cells o.name)) s.cells)
     aborts false owed = asked_alike o _ (aborted_owed (requested s.cells o.name) ∙ sym owed)
@@ -215,7 +198,7 @@ module _ (p : Image) (answer : ℤ) (s : State) where
     closes unowed true met = record {
       finds = found true false (alive_in met) met unowed;
       owes = owes_opened p s.cells o false;
-      meets = λ k m. meets_opened p s.cells o false k m ∙ taken_off (λ x. meets p s.cells k x) o.name m (n == k) true _ (at_it k _ true met) (and_right (serves p s.cells k o.name) false refl);
+      meets = grind (arith, nat_tests, meets_opened, taken_off, meets, at_it, and_right);
     }
 
 -- ---- at whatever the method works on
@@ -223,23 +206,12 @@ module _ (p : Image) (answer : ℤ) (s : State) where
 module _ (p : Image) (answer : ℤ) (s : State) (fr : Frame) (ts : List Task) where
   -- a method that cancels has its request completed as it ends
   pub ended_same : not (is_cancel (method_role p fr.method) && int_eq (status_of (own_request s.cells fr.home)) pending) ≡ true → Unchanged p s.cells (ended_cells p fr s.cells)
-  ended_same e = grind (
-    arith,
-    nat_tests,
-    Unchanged p s.cells,
-    unchanged_itself p s.cells,
-    asked_same p answer s fr.home,
-    cancelled_owed,
-    completed_owed,
-    not-true,
-  )
+  ended_same e =
+      grind (arith, nat_tests, Unchanged p s.cells, unchanged_itself p s.cells, asked_same p answer s fr.home, cancelled_owed, completed_owed, not-true)
 
   module _ (holds : SessionsHold p s) where
-    pub connect_told :
-        (h : Home) → IsAlive s.cells h →
-        Told p answer s (wanted_by s p fr ts h An_open) (resessioned s.cells h (opens (has_died s.killed (native_of (home_kind p h))) (own_session s.cells h) answer))
-    connect_told Static alive = told_none p answer s _ (unchanged_itself p s.cells)
-    connect_told AtRoot alive = told_none p answer s _ (unchanged_itself p s.cells)
+    pub connect_told : (h : Home) → IsAlive s.cells h → Told p answer s
+        (wanted_by s p fr ts h An_open) (resessioned s.cells h (opens (has_died s.killed (native_of (home_kind p h))) (own_session s.cells h) answer))
     connect_told (Inside o from) alive = go (native_of (thing_kind p o.thing)) refl
       where
         go :
@@ -247,38 +219,35 @@ module _ (p : Image) (answer : ℤ) (s : State) (fr : Frame) (ts : List Task) wh
             Told p answer s (wanted_at s fr ts o x An_open) (set_session o.name (opens (has_died s.killed x) (in_session s.cells o.name) answer) s.cells)
         go None e = opened_elsewhere p answer s o alive e _
         go (Some n) e = connects p answer s holds o alive n e (is_dead s.killed n) (in_session s.cells o.name) refl refl
+    connect_told _ alive = told_none p answer s _ (unchanged_itself p s.cells)
 
-    pub issue_told :
-        (clock order a b : ℕ) (h : Home) → IsAlive s.cells h → in_phase is_idle (own_request s.cells h) ≡ true →
-        Told p answer s (wanted_by s p fr ts h (A_start a b))
-        (rerequested s.cells h (on_request (issued_of (home_kind p h) (asking p answer s clock order (has_died s.killed (native_of (home_kind p h))) (own_session s.cells h)) (read fr ts s a)) (own_request s.cells h)))
-    issue_told clock order a b Static alive idle = told_none p answer s _ (unchanged_itself p s.cells)
-    issue_told clock order a b AtRoot alive idle = told_none p answer s _ (unchanged_itself p s.cells)
+    pub issue_told : (clock order a b : ℕ) (h : Home) → IsAlive s.cells h → in_phase is_idle (own_request s.cells h) ≡ true →
+        Told p answer s (wanted_by s p fr ts h (A_start a b)) (rerequested s.cells h (on_request (issued_of (home_kind p h)
+        (asking p answer s clock order (has_died s.killed (native_of (home_kind p h))) (own_session s.cells h)) (read fr ts s a)) (own_request s.cells h)))
     issue_told clock order a b (Inside o from) alive idle = go (native_of (thing_kind p o.thing)) refl
       where
         go : (x : Option ℕ) → native_of (thing_kind p o.thing) ≡ x →
-            Told p answer s (wanted_at s fr ts o x (A_start a b))
-            (set_request o.name (on_request (issued_of (thing_kind p o.thing) (asking p answer s clock order (has_died s.killed x) (in_session s.cells o.name)) (read fr ts s a)) (requested s.cells o.name)) s.cells)
+            Told p answer s (wanted_at s fr ts o x (A_start a b)) (set_request o.name (on_request (issued_of (thing_kind p o.thing)
+            (asking p answer s clock order (has_died s.killed x) (in_session s.cells o.name)) (read fr ts s a)) (requested s.cells o.name)) s.cells)
         go None e = asked_elsewhere p answer s o alive e _
         go (Some n) e = issues p answer s holds o alive n e clock order (read fr ts s a) _ _ idle (is_dead s.killed n) (in_session s.cells o.name) refl refl
+    issue_told clock order a b _ alive idle = told_none p answer s _ (unchanged_itself p s.cells)
 
     pub ask_told : (b x : ℕ) (h : Home) → IsAlive s.cells h → Told p answer s (wanted_by s p fr ts h (An_ask b x)) s.cells
     ask_told b x y alive = grind (arith, nat_tests, told_none p answer s, unchanged_itself p s.cells, asks p answer s holds)
 
     pub abort_told : (h : Home) → IsAlive s.cells h → Told p answer s (wanted_by s p fr ts h A_cancel) (rerequested s.cells h (on_request aborted (own_request s.cells h)))
-    abort_told Static alive = told_none p answer s _ (unchanged_itself p s.cells)
-    abort_told AtRoot alive = told_none p answer s _ (unchanged_itself p s.cells)
     abort_told (Inside o from) alive = go (native_of (thing_kind p o.thing)) refl
       where
         go : (x : Option ℕ) → native_of (thing_kind p o.thing) ≡ x → Told p answer s (wanted_at s fr ts o x A_cancel) (set_request o.name (on_request aborted (requested s.cells o.name)) s.cells)
         go None e = asked_elsewhere p answer s o alive e _
         go (Some n) e = aborts p answer s holds o alive n e (is_owed (requested s.cells o.name)) refl
+    abort_told _ alive = told_none p answer s _ (unchanged_itself p s.cells)
 
     pub close_told : (h : Home) → IsAlive s.cells h → is_owed (own_request s.cells h) ≡ false → Told p answer s (wanted_by s p fr ts h A_close) (resessioned s.cells h false)
-    close_told Static alive unowed = told_none p answer s _ (unchanged_itself p s.cells)
-    close_told AtRoot alive unowed = told_none p answer s _ (unchanged_itself p s.cells)
     close_told (Inside o from) alive unowed = go (native_of (thing_kind p o.thing)) refl
       where
         go : (x : Option ℕ) → native_of (thing_kind p o.thing) ≡ x → Told p answer s (wanted_at s fr ts o x A_close) (set_session o.name false s.cells)
         go None e = opened_elsewhere p answer s o alive e false
         go (Some n) e = closes p answer s holds o alive n e unowed (in_session s.cells o.name) refl
+    close_told _ alive unowed = told_none p answer s _ (unchanged_itself p s.cells)

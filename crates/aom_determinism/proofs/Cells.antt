@@ -1,18 +1,20 @@
 -- What changes of cells mean for what is outstanding: what each cell owes and meets is told by its name, its request and its session.
-use Rattle.std.proofs.Common.{Bool, List, None, Option, Some, [], ap, cond, false, refl, sym, true, ℕ, ℤ, ◌&&◌, ◌==◌, ◌∙◌, ◌∷◌, ◌≡◌, arith}
-use Rattle.std.proofs.lemmas.Bool.{and_parts, and_right, eqb-true, true≢false}
+use Rattle.std.proofs.Common.{Bool, List, None, Option, Some, [], cond, false, refl, true, ℕ, ℤ, ◌&&◌, ◌==◌, ◌∙◌, ◌∷◌, ◌≡◌, arith}
+use Rattle.std.proofs.lemmas.Bool.{and_right, eqb-true}
 use Rattle.std.specs.Prelude.{is_some, not}
 use Rattle.std.proofs.lemmas.Bool.Decides.{nat_tests}
 use Rattle.aom_image.specs.Image.{Image}
 use Rattle.aom_image.specs.declared.method.Thing.{Thing}
 use Rattle.aom_determinism.specs.Laws.{BootOwesNothing}
-use Rattle.aom_determinism.specs.Owed.{meets, owes, serves, serves_object}
+use Rattle.aom_determinism.specs.Owed.{meets, owes, serves}
 use Rattle.aom_semantics.proofs.Maps.{named_moved, named_without, requested_moved, requested_without, unnamed}
 use Rattle.aom_safety.proofs.Sessions.{session_asked, session_moved, session_set_word, session_without}
-use Rattle.aom_safety.proofs.Storing.{named_set_word, requested_set_word, requested_here, requested_there, rerequested_alike, resessioned_alike, resessioned_requests}
+use Rattle.aom_safety.proofs.Storing.{named_set_word, requested_set_word, requested_here, requested_there}
+use Rattle.aom_safety.proofs.Storing.{rerequested_alike, resessioned_alike, resessioned_requests}
 use Rattle.aom_semantics.specs.Natives.{is_owed, is_served_by, native_of}
 use Rattle.aom_semantics.specs.Enlisted.{thing_kind}
-use Rattle.aom_semantics.specs.Places.{Cell, Elsewhere, Object, Place, Request, Root, Tidy, held, in_session, moved, named, requested, set_request, set_session, with_new, without}
+use Rattle.aom_semantics.specs.Places.{Cell, Elsewhere, Object, Place, Request, Root, Tidy, held, in_session}
+use Rattle.aom_semantics.specs.Places.{moved, named, requested, set_request, set_session, with_new, without}
 use Rattle.aom_semantics.specs.State.{Home, Inside}
 use Rattle.aom_semantics.specs.Words.{stored}
 
@@ -33,7 +35,7 @@ serves_one p cs n k m e f = grind (arith, nat_tests, native_served p n, native_s
 
 -- and owes at one native alone
 pub owes_at_one : (p : Image) (cs : List Cell) (n k m : ℕ) → owes p cs n m ≡ true → owes p cs k m ≡ true → n ≡ k
-owes_at_one p cs n k m e f = serves_one p cs n k m (and_parts (serves p cs n m) (is_owed (requested cs m)) e).0 (and_parts (serves p cs k m) (is_owed (requested cs m)) f).0
+owes_at_one p cs n k m e f = grind (arith, nat_tests, serves_one)
 
 -- ---- sessions under changes of cells
 
@@ -55,42 +57,20 @@ pub unchanged_along : (p : Image) (cs cs' cs'' : List Cell) → Unchanged p cs c
 unchanged_along p cs cs' cs'' a b = record { owes = λ k m. b.owes k m ∙ a.owes k m; meets = λ k m. b.meets k m ∙ a.meets k m }
 
 -- where each name has the same object, request and session
-pub unchanged_alike :
-    (p : Image) (cs cs' : List Cell) → ((m : ℕ) → named cs' m ≡ named cs m) → ((m : ℕ) → requested cs' m ≡ requested cs m) → ((m : ℕ) → in_session cs' m ≡ in_session cs m) →
-    Unchanged p cs cs'
-unchanged_alike p cs cs' objects requests sessions = record {
-  owes = λ k m. ap (λ o. serves_object p k o && is_owed (requested cs' m)) (objects m) ∙ ap (λ r. serves p cs k m && is_owed r) (requests m);
-  meets = λ k m. ap (λ o. serves_object p k o && in_session cs' m) (objects m) ∙ ap (λ b. serves p cs k m && b) (sessions m);
-}
+pub unchanged_alike : (p : Image) (cs cs' : List Cell) →
+    ((m : ℕ) → named cs' m ≡ named cs m) → ((m : ℕ) → requested cs' m ≡ requested cs m) → ((m : ℕ) → in_session cs' m ≡ in_session cs m) → Unchanged p cs cs'
+unchanged_alike p cs cs' objects requests sessions = search (arith, nat_tests, owes, meets)
 
 pub unchanged_moved : (p : Image) (cs : List Cell) (a b : Place) → Unchanged p cs (moved a b cs)
 unchanged_moved p cs a b = unchanged_alike p cs (moved a b cs) (λ m. named_moved cs a b m) (λ m. requested_moved cs a b m) (λ m. session_moved cs a b m)
 
 pub unchanged_stored : (p : Image) (cs : List Cell) (home : Home) (w : ℕ) (v : ℤ) → Unchanged p cs (stored cs home w v)
-unchanged_stored p cs x w v = grind (
-  arith,
-  nat_tests,
-  unchanged_itself p cs,
-  unchanged_alike p cs,
-  named_set_word cs,
-  requested_set_word cs,
-  session_set_word cs,
-)
+unchanged_stored p cs x w v =
+    grind (arith, nat_tests, unchanged_itself p cs, unchanged_alike p cs, named_set_word cs, requested_set_word cs, session_set_word cs)
 
 -- a new cell owes nothing, and has no session
 pub unchanged_new : (p : Image) (name : ℕ) (thing : Thing) (words : List ℤ) (owner : Place) (cs : List Cell) → named cs name ≡ None → Unchanged p cs (with_new name thing words owner cs)
-unchanged_new p name thing words owner cs unused = record { owes = λ k m. owing k m (name == m) refl; meets = λ k m. meeting k m (name == m) refl }
-  where
-    none : (k m : ℕ) → (name == m) ≡ true → serves p cs k m ≡ false
-    none k m e = ap (λ x. serves p cs k x) (sym (eqb-true name m e)) ∙ ap (λ o. serves_object p k o) unused
-
-    owing : (k m : ℕ) (b : Bool) → (name == m) ≡ b → (serves_object p k (cond b (Some (record { name = name; thing = thing })) (named cs m)) && is_owed (cond b None (requested cs m))) ≡ owes p cs k m
-    owing k m false e = refl
-    owing k m true e = and_right (is_served_by p k thing) false refl ∙ sym (ap (λ b. b && is_owed (requested cs m)) (none k m e))
-
-    meeting : (k m : ℕ) (b : Bool) → (name == m) ≡ b → (serves_object p k (cond b (Some (record { name = name; thing = thing })) (named cs m)) && cond b false (in_session cs m)) ≡ meets p cs k m
-    meeting k m false e = refl
-    meeting k m true e = and_right (is_served_by p k thing) false refl ∙ sym (ap (λ b. b && in_session cs m) (none k m e))
+unchanged_new p name thing words owner cs unused = search (arith, nat_tests, eqb-true name, owes p cs, and_right, meets p cs)
 
 -- ---- another request, and another session
 
@@ -111,14 +91,8 @@ module _ (p : Image) (cs : List Cell) (o : Object) where
   meets_asked r k m = grind (arith, nat_tests, rerequested_alike cs (Inside o (Elsewhere Root)) r, session_asked cs o.name r m)
 
   pub meets_opened : (b : Bool) (k m : ℕ) → meets p (set_session o.name b cs) k m ≡ cond (o.name == m) (serves p cs k o.name && b) (meets p cs k m)
-  meets_opened session k m = grind (
-    arith,
-    nat_tests,
-    resessioned_alike cs (Inside o (Elsewhere Root)) session,
-    session_set cs o.name m session,
-    meets p cs k m,
-    eqb-true o.name m,
-  )
+  meets_opened session k m =
+      grind (arith, nat_tests, resessioned_alike cs (Inside o (Elsewhere Root)) session, session_set cs o.name m session, meets p cs k m, eqb-true o.name m)
 
   pub owes_opened : (b : Bool) (k m : ℕ) → owes p (set_session o.name b cs) k m ≡ owes p cs k m
   owes_opened b k m = grind (arith, nat_tests, resessioned_alike cs (Inside o (Elsewhere Root)) b, resessioned_requests cs (Inside o (Elsewhere Root)) b m)
@@ -148,8 +122,4 @@ module _ (p : Image) (cs : List Cell) (g : Place) (o : Object) (tidy : Tidy cs) 
 -- ---- as a run begins
 
 pub boot_owes_nothing : BootOwesNothing
-boot_owes_nothing = record {
-  owes = λ p n m. refl;
-  meets = λ p n m. refl;
-  sessions = λ p. record { met = λ n m e. absurd (true≢false (sym e)); lives = λ n m e. absurd (true≢false (sym e)) };
-}
+boot_owes_nothing = search (arith, nat_tests, owes, meets)

@@ -1,10 +1,9 @@
 -- What a client does means the same under other names: it is refused alike, and comes to the same state, renamed.
 use Rattle.std.proofs.lemmas.Bool.Decides.{nat_tests}
-use Rattle.std.proofs.Common.{arith, Bool, List, None, Option, Some, [], ap, cond, false, length, refl, suc, true, ℕ, ℤ, ◌∙◌, ◌∷◌, ◌≡◌}
+use Rattle.std.proofs.Common.{arith, Bool, List, None, Option, Some, [], ap, cond, refl, suc, ℕ, ℤ, ◌∷◌, ◌≡◌}
 use Rattle.std.proofs.lemmas.List.{length-map}
-use Rattle.std.specs.Prelude.{filter, option_map, ◌+◌}
+use Rattle.std.specs.Prelude.{filter, option_map}
 use Rattle.aom_image.specs.Image.{Image}
-use Rattle.aom_image.specs.declared.method.Thing.TheVariants.{Message}
 use Rattle.aom_roles.specs.Things.{is_object}
 use Rattle.aom_clients.specs.Table.{row}
 use Rattle.aom_clients.specs.declared.client.Client.{Client}
@@ -12,13 +11,15 @@ use Rattle.aom_clients.specs.declared.client.Client.TheVariants.{Connecting}
 use Rattle.aom_clients.specs.declared.refusal.Refusal.{Refusal}
 use Rattle.aom_transcript.specs.declared.event.Command.{Command}
 use Rattle.aom_transcript.specs.declared.event.Command.TheVariants.{Close, Connect, Die, Send}
-use Rattle.aom_semantics.specs.Clients.{Listed, among_listed, asked_of, asked_server, commanded, connecting, count_messages, earlier, first_listed, leaving, own, refusal, room, sending, slots_of, told, with_message}
-use Rattle.aom_semantics.specs.Places.{Asked, Cell, Close_of, Connect_of, Elsewhere, Message_of, Object, Place, Queued, Request, Service, unserved}
+use Rattle.aom_semantics.specs.Clients.{Listed, among_listed, asked_of, asked_server, commanded, connecting, count_messages, earlier}
+use Rattle.aom_semantics.specs.Clients.{first_listed, leaving, own, refusal, room, sending, slots_of, told, with_message}
+use Rattle.aom_semantics.specs.Places.{Asked, Cell, Close_of, Connect_of, Message_of, Object, Place, Request, Service}
 use Rattle.aom_semantics.specs.Servers.{discarded, holds_slot, is_connect, is_queue, left_by, seats_taken, slots_taken, stays, withdrawn}
 use Rattle.aom_semantics.specs.State.{State}
 use Rattle.aom_determinism.proofs.NamedCells.{cond_applied, cond_mapped}
 use Rattle.aom_determinism.proofs.Serving.{asks_renamed, client_renamed, service_renamed, with_client_renamed}
-use Rattle.aom_determinism.specs.Names.{IsOneToOne, renamed, renamed_asked, renamed_cells, renamed_client, renamed_object, renamed_place, renamed_queue, renamed_service}
+use Rattle.aom_determinism.specs.Names.{IsOneToOne, renamed, renamed_asked, renamed_cells, renamed_client}
+use Rattle.aom_determinism.specs.Names.{renamed_object, renamed_place, renamed_queue, renamed_service}
 
 module _ (names : ℕ → ℕ) where
   -- ---- what is counted
@@ -40,8 +41,7 @@ module _ (names : ℕ → ℕ) where
   filter_renamed f same (e ∷ es) = grind (arith, nat_tests, filter_renamed f same es, cond_applied)
 
   seats_kept : (v : Service) → seats_taken (renamed_service names v) ≡ seats_taken v
-  seats_kept v =
-      ap (λ es. length v.sessions + length es) (filter_renamed is_connect connect_kept v.queue) ∙ ap (λ n. length v.sessions + n) (length-map (filter is_connect v.queue) (renamed_asked names))
+  seats_kept v = grind (arith, nat_tests, filter_renamed, connect_kept, length-map)
 
   -- ---- what a client leaves behind
 
@@ -97,9 +97,8 @@ module _ (names : ℕ → ℕ) where
 
 module _ (names : ℕ → ℕ) (one_to_one : IsOneToOne names) where
   asked_kept : (r : Option Refusal) (most : ℕ) (l : Option Listed) (cs : List Cell) → asked_of r most (option_map (renamed_listed names) l) (renamed_cells names cs) ≡ asked_of r most l cs
-  asked_kept (Some r) most l cs = refl
-  asked_kept None most None cs = refl
   asked_kept None most (Some x) cs = grind (arith, nat_tests, service_renamed names one_to_one cs x.name, seats_kept names)
+  asked_kept _ most _ cs = refl
 
   module _ (p : Image) (client : ℕ) (s : State) where
     abbrev s' : State
@@ -115,30 +114,19 @@ module _ (names : ℕ → ℕ) (one_to_one : IsOneToOne names) where
     refusal_kept x = grind (arith, nat_tests, own_renamed, connects_kept names, server_renamed names p, asked_kept, sends_kept names, room_kept)
 
     connecting_renamed : (r : Option Refusal) (l : Option Listed) (slots : ℕ) → connecting p client s' r (option_map (renamed_listed names) l) slots ≡ renamed names (connecting p client s r l slots)
-    connecting_renamed (Some r) l slots = refl
-    connecting_renamed None None slots = refl
     connecting_renamed None (Some x) slots = grind (
       arith,
       nat_tests,
       asks_renamed names one_to_one (Connect_of client) x.name s.cells,
       with_client_renamed names client (Connecting x.name slots) s.clients,
     )
+    connecting_renamed _ _ slots = refl
 
     message_renamed : (name : ℕ) (words : List ℤ) (server : ℕ) → with_message p client s' (names name) words (names server) ≡ renamed_cells names (with_message p client s name words server)
-    message_renamed name words server =
-        let sent : Cell =
-        record {
-          object = record { name = names name; thing = Message };
-          words = words;
-          request = None;
-          session = false;
-          service = record unserved { sender = Some (record { client = client; holds_slot = true; is_told = true }) };
-          owner = Elsewhere (Queued (names server) (names name));
-        } in
-        ap (λ l. sent ∷ l) (asks_renamed names one_to_one (Message_of client name) server s.cells)
+    message_renamed name words server = search (arith, nat_tests, asks_renamed names one_to_one (Message_of client name) server s.cells)
 
-    sending_renamed :
-        (r : Option Refusal) (x : Client) (name : ℕ) (words : List ℤ) → sending p client s' r (renamed_client names x) (names name) words ≡ renamed names (sending p client s r x name words)
+    sending_renamed : (r : Option Refusal) (x : Client) (name : ℕ) (words : List ℤ) →
+        sending p client s' r (renamed_client names x) (names name) words ≡ renamed names (sending p client s r x name words)
     sending_renamed x y name words = grind (arith, nat_tests, message_renamed name words)
 
     told_renamed : (x : Client) (cs : List Cell) → told p client s' (renamed_client names x) (renamed_cells names cs) ≡ renamed_cells names (told p client s x cs)
@@ -148,13 +136,8 @@ module _ (names : ℕ → ℕ) (one_to_one : IsOneToOne names) where
     leaving_renamed x = grind (arith, nat_tests, own_renamed, withdrawn_renamed names client s.cells, told_renamed, with_client_renamed names client)
 
     pub commanded_renamed : (command : Command) (name : ℕ) → commanded p client s' command (names name) ≡ renamed names (commanded p client s command name)
-    commanded_renamed (Connect class slots) name = grind (
-      arith,
-      nat_tests,
-      refusal_kept (Connect class slots),
-      server_renamed names p class s.cells,
-      connecting_renamed,
-    )
+    commanded_renamed (Connect class slots) name =
+        grind (arith, nat_tests, refusal_kept (Connect class slots), server_renamed names p class s.cells, connecting_renamed)
     commanded_renamed (Send words) name = grind (arith, nat_tests, refusal_kept (Send words), own_renamed, sending_renamed)
     commanded_renamed Close name = grind (arith, nat_tests, own_renamed, closes_renamed names, leaving_renamed)
     commanded_renamed Die name = grind (arith, nat_tests, own_renamed, dies_renamed names, leaving_renamed)

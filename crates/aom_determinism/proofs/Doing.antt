@@ -5,25 +5,37 @@ use Rattle.std.proofs.Common.{arith, Bool, List, None, Option, [], ap, cond, len
 use Rattle.std.specs.Prelude.{is_some, option_map}
 use Rattle.aom_image.specs.Image.{Image}
 use Rattle.aom_instructions.specs.declared.instr.Instr.{Instr}
-use Rattle.aom_instructions.specs.declared.instr.Instr.TheVariants.{Abort, Add, And, Call, Cancel, Const, Copy, Delete, Enlist, Issue, JumpActive, JumpAdded, JumpEmpty, JumpNull, Load, Move, Mul, New, NewOrLeave, Next, Or, Pop, Push, PushOperation, Put, Return, SetActive, Status, Connect, Ask, Close, Store, Sub, Take, TakeMessage, Trap, Reply, Xor, Hand}
+use Rattle.aom_instructions.specs.declared.instr.Instr.TheVariants.{Abort, Add, And, Call, Cancel, Const, Copy, Delete, Enlist, Issue, JumpActive}
+use Rattle.aom_instructions.specs.declared.instr.Instr.TheVariants.{JumpAdded, JumpEmpty, JumpNull, Load, Move, Mul, New, NewOrLeave, Next, Or}
+use Rattle.aom_instructions.specs.declared.instr.Instr.TheVariants.{Pop, Push, PushOperation, Put, Return, SetActive, Status, Connect, Ask, Close}
+use Rattle.aom_instructions.specs.declared.instr.Instr.TheVariants.{Store, Sub, Take, TakeMessage, Trap, Reply, Xor, Hand}
 use Rattle.aom_instructions.specs.declared.instr.Target.{Target}
 use Rattle.aom_instructions.specs.declared.instr.Target.TheVariants.{Entry as On_entry, Field as On_field, Register as On_register, This}
 use Rattle.aom_image.specs.declared.method.Gives.{Gives}
 use Rattle.aom_clients.specs.declared.client.Client.{Client}
-use Rattle.aom_semantics.specs.Calls.{accepted_cells, accepted_clients, answered_by, ended_well, told_answer, home_at, own_home, received, result_cells, returned, target_home, target_view}
+use Rattle.aom_semantics.specs.Calls.{accepted_cells, accepted_clients, answered_by, ended_well, told_answer, home_at}
+use Rattle.aom_semantics.specs.Calls.{own_home, received, result_cells, returned, target_home, target_view}
 use Rattle.aom_semantics.specs.Cleanup.{code_told, dealt_with, destroyed, to_trap, top_place}
 use Rattle.aom_classes.specs.Roles.{destructor_of}
 use Rattle.aom_semantics.specs.Destruction.{begun, begun_by, destructed, line_on}
-use Rattle.aom_semantics.specs.Effects.{Calls, Cancels, Carried, Destroys, Destroys_last, Effect, Goes_on, Leaves, Made, Popped, Popped_operation, Pushed, Pushed_operation, Requested, Returns, Same, Sets_trap, Spot, Update, Written, applied, cancels_if, cells_after, deals, deletes, effect, items_after, jumps_if, jumps_unless, makes_unless, round, sets, spot_place, writes, Replied, Sessioned, Handed, hands_unless}
+use Rattle.aom_semantics.specs.Effects.{Calls, Cancels, Carried, Destroys, Destroys_last, Effect, Goes_on, Leaves, Made, Popped}
+use Rattle.aom_semantics.specs.Effects.{Pushed, Requested, Returns, Sets_trap, Spot, Update, Written, applied}
+use Rattle.aom_semantics.specs.Effects.{cancels_if, cells_after, deals, deletes, effect, items_after, jumps_if, jumps_unless, makes_unless}
+use Rattle.aom_semantics.specs.Effects.{round, sets, spot_place, writes, Replied, Sessioned, Handed, hands_unless}
 use Rattle.aom_semantics.specs.Enlisted.{cancel_method, ended_cells, in_phase, is_active, is_busy, own_request, rerequested}
 use Rattle.aom_semantics.specs.Moves.{does, needs}
 use Rattle.aom_semantics.specs.Places.{Cell, Entry, Object, Place, Register, Request, held, moved}
 use Rattle.aom_semantics.specs.State.{A_mark, An_object, An_operation, Choice, Dispatch, Frame, Home, Item, Run, State, Task, Trapped, counter, home_view}
 use Rattle.aom_semantics.specs.Words.{loaded, stored}
-use Rattle.aom_determinism.proofs.NamedCells.{held_renamed, messages_kept, moved_renamed, order_kept, redeemed_renamed, set_request_renamed, set_word_field_renamed, tasks_counted, timer_kept, token_kept, word_field_kept, in_session_kept, set_session_renamed, cond_applied, without_renamed}
+use Rattle.aom_determinism.proofs.NamedCells.{held_renamed, messages_kept, moved_renamed, order_kept, redeemed_renamed, set_request_renamed}
+use Rattle.aom_determinism.proofs.NamedCells.{set_word_field_renamed, tasks_counted, timer_kept, token_kept, word_field_kept, in_session_kept}
+use Rattle.aom_determinism.proofs.NamedCells.{set_session_renamed, cond_applied, without_renamed}
 use Rattle.aom_determinism.proofs.Serving.{opened_client_renamed, opens_renamed, token_named}
-use Rattle.aom_determinism.proofs.Needs.{call_kept, field_renamed, free_at, given_renamed, held_field, kind_kept, leave_kept, message_at, own_request_kept, push_kept, pushed_renamed, put_kept, refusal_kept, register_renamed, reply_kept, return_kept, take_message_kept, trap_kept, under_trap_kept, view_kept, whole_kept}
-use Rattle.aom_determinism.specs.Names.{IsOneToOne, renamed, renamed_cells, renamed_clients, renamed_choice, renamed_dispatch, renamed_frame, renamed_home, renamed_object, renamed_place, renamed_tasks}
+use Rattle.aom_determinism.proofs.Needs.{call_kept, field_renamed, free_at, given_renamed, held_field, kind_kept, leave_kept, message_at}
+use Rattle.aom_determinism.proofs.Needs.{own_request_kept, push_kept, pushed_renamed, put_kept, refusal_kept, register_renamed, reply_kept}
+use Rattle.aom_determinism.proofs.Needs.{return_kept, take_message_kept, trap_kept, under_trap_kept, view_kept, whole_kept}
+use Rattle.aom_determinism.specs.Names.{IsOneToOne, renamed, renamed_cells, renamed_clients, renamed_choice, renamed_dispatch}
+use Rattle.aom_determinism.specs.Names.{renamed_frame, renamed_home, renamed_object, renamed_place, renamed_tasks}
 use Rattle.aom_semantics.specs.Natives.{own_session, resessioned}
 
 -- ---- an effect under other names: a new cell and one that goes have names
@@ -49,12 +61,12 @@ module _ (names : ℕ → ℕ) where
       begun_by p m (renamed_object names o) height (renamed_tasks names below) ≡ renamed_tasks names (begun_by p m o height below)
   begun_by_renamed p x o height below = grind (arith, nat_tests, tasks_counted names below)
 
-  pub destructed_renamed :
-      (p : Image) (o : Object) (height : ℕ) (below : List Task) → destructed p (renamed_object names o) height (renamed_tasks names below) ≡ renamed_tasks names (destructed p o height below)
+  pub destructed_renamed : (p : Image) (o : Object) (height : ℕ) (below : List Task) →
+      destructed p (renamed_object names o) height (renamed_tasks names below) ≡ renamed_tasks names (destructed p o height below)
   destructed_renamed p o height below = begun_by_renamed p (destructor_of p o.thing) o height below
 
-  pub line_renamed :
-      (p : Image) (m : ℕ) (home : Home) (height : ℕ) (below : List Task) → line_on p m (renamed_home names home) height (renamed_tasks names below) ≡ renamed_tasks names (line_on p m home height below)
+  pub line_renamed : (p : Image) (m : ℕ) (home : Home) (height : ℕ) (below : List Task) →
+      line_on p m (renamed_home names home) height (renamed_tasks names below) ≡ renamed_tasks names (line_on p m home height below)
   line_renamed p m x height below = grind (arith, nat_tests, begun_by_renamed p)
 
   pub begun_renamed : (p : Image) (o : Object) (height : ℕ) (below : List Task) → begun p (renamed_object names o) height (renamed_tasks names below) ≡ renamed_tasks names (begun p o height below)
@@ -105,9 +117,8 @@ module _ (names : ℕ → ℕ) (one_to_one : IsOneToOne names) where
 -- ---- what a method goes on with
 
 module _ (names : ℕ → ℕ) where
-  received_renamed :
-      (p : Image) (fr : Frame) (ts : List Task) (s : State) (g : Gives) (a b : ℕ) (caller : Frame) →
-      received p (renamed_frame names fr) (renamed_tasks names ts) (renamed names s) g a b (renamed_frame names caller) ≡ renamed_frame names (received p fr ts s g a b caller)
+  received_renamed : (p : Image) (fr : Frame) (ts : List Task) (s : State) (g : Gives) (a b : ℕ) (caller : Frame) → received p (renamed_frame names fr)
+      (renamed_tasks names ts) (renamed names s) g a b (renamed_frame names caller) ≡ renamed_frame names (received p fr ts s g a b caller)
   received_renamed p fr ts s x a b caller = grind arith
 
   pub told_renamed : (g : Gives) (a : ℕ) (code : ℤ) (fr : Frame) → code_told g a code (renamed_frame names fr) ≡ renamed_frame names (code_told g a code fr)
@@ -135,21 +146,18 @@ module _ (names : ℕ → ℕ) where
 
 module _ (names : ℕ → ℕ) (one_to_one : IsOneToOne names) (p : Image) (c : Choice) (fr : Frame) (ts : List Task) (s : State) where
   -- whatever a register has moves to a place
-  from_register :
-      (a : ℕ) (q : Place) →
-      moved (Register (length (renamed_tasks names ts)) a) (renamed_place names q) (renamed_cells names s.cells) ≡ renamed_cells names (moved (Register (length ts) a) q s.cells)
+  from_register : (a : ℕ) (q : Place) → moved (Register (length (renamed_tasks names ts)) a)
+      (renamed_place names q) (renamed_cells names s.cells) ≡ renamed_cells names (moved (Register (length ts) a) q s.cells)
   from_register a q = grind (arith, nat_tests, tasks_counted names ts, moved_renamed names one_to_one)
 
   -- ---- returns
 
-  result_cells_renamed :
-      (g : Gives) (a b : ℕ) (below : List Task) →
-      result_cells p (renamed_frame names fr) (renamed_tasks names ts) (renamed names s) g a b (renamed_tasks names below) ≡ renamed_cells names (result_cells p fr ts s g a b below)
+  result_cells_renamed : (g : Gives) (a b : ℕ) (below : List Task) → result_cells p (renamed_frame names fr)
+      (renamed_tasks names ts) (renamed names s) g a b (renamed_tasks names below) ≡ renamed_cells names (result_cells p fr ts s g a b below)
   result_cells_renamed x a b below = grind (arith, nat_tests, tasks_counted names below, from_register a)
 
-  returned_renamed :
-      (g : Gives) (a : ℕ) (over : List Task) →
-      returned p (renamed_frame names fr) (renamed_tasks names ts) (renamed names s) g a (renamed_tasks names over) ≡ renamed names (returned p fr ts s g a over)
+  returned_renamed : (g : Gives) (a : ℕ) (over : List Task) → returned p
+      (renamed_frame names fr) (renamed_tasks names ts) (renamed names s) g a (renamed_tasks names over) ≡ renamed names (returned p fr ts s g a over)
   returned_renamed g a x = grind (
     arith,
     nat_tests,
@@ -213,7 +221,6 @@ module _ (names : ℕ → ℕ) (one_to_one : IsOneToOne names) (p : Image) (c : 
   class_kept x = grind arith
 
   cells_renamed : (u : Update) → cells_after p fr' ts' s' (renamed_update names u) ≡ renamed_cells names (cells_after p fr ts s u)
-  cells_renamed Same = refl
   cells_renamed (Carried from to) = rw (place_renamed from, place_renamed to, moved_renamed names one_to_one (spot_place p fr ts s from) (spot_place p fr ts s to) s.cells)
   cells_renamed (Made name class a) = rw (tasks_counted names ts)
   cells_renamed (Written w v) = stored_renamed names one_to_one s.cells fr.home w v
@@ -238,35 +245,20 @@ module _ (names : ℕ → ℕ) (one_to_one : IsOneToOne names) (p : Image) (c : 
     rerequested_renamed names one_to_one s.cells fr.home,
   )
   cells_renamed (Pushed a) = pushed_renamed names one_to_one p c fr ts s a
-  cells_renamed (Pushed_operation m w) = refl
   cells_renamed (Popped a) = rw (tasks_counted names ts, moved_renamed names one_to_one (top_place s.items) (Register (length ts) a) s.cells)
-  cells_renamed Popped_operation = refl
+  cells_renamed _ = refl
 
   items_kept : (u : Update) (items : List Item) → items_after (renamed_update names u) items ≡ items_after u items
   items_kept x items = grind arith
 
   applied_renamed : (e : Effect) → applied p fr' ts' s' (renamed_effect names e) ≡ renamed names (applied p fr ts s e)
   applied_renamed (Goes_on ch) = rw (cells_renamed ch.update, items_kept ch.update s.items)
-  applied_renamed (Calls target m first) = grind (
-    arith,
-    nat_tests,
-    given_renamed names one_to_one p c fr ts s (Run fr ∷ ts) m first,
-    view_renamed target,
-    target_renamed target,
-  )
-  applied_renamed (Sets_trap target m first) = grind (
-    arith,
-    nat_tests,
-    given_renamed names one_to_one p c fr ts s (Trapped ∷ Run fr ∷ ts) m first,
-    view_renamed target,
-    target_renamed target,
-  )
-  applied_renamed (Cancels m) = grind (
-    arith,
-    nat_tests,
-    own_request_kept names one_to_one s.cells fr.home,
-    rerequested_renamed names one_to_one s.cells fr.home,
-  )
+  applied_renamed (Calls target m first) =
+      grind (arith, nat_tests, given_renamed names one_to_one p c fr ts s (Run fr ∷ ts) m first, view_renamed target, target_renamed target)
+  applied_renamed (Sets_trap target m first) =
+      grind (arith, nat_tests, given_renamed names one_to_one p c fr ts s (Trapped ∷ Run fr ∷ ts) m first, view_renamed target, target_renamed target)
+  applied_renamed (Cancels m) =
+      grind (arith, nat_tests, own_request_kept names one_to_one s.cells fr.home, rerequested_renamed names one_to_one s.cells fr.home)
   applied_renamed (Returns g a) = grind (arith, nat_tests, ended_renamed names one_to_one p c fr ts s, returned_renamed names one_to_one p c fr ts)
   applied_renamed (Leaves code u) = rw (cells_renamed u, items_kept u s.items, to_trap_renamed names ts)
   applied_renamed (Destroys o a words) = grind (arith, nat_tests, tasks_counted names ts, moved_renamed names one_to_one, begun_renamed names p o)

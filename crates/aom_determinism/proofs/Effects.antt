@@ -40,14 +40,8 @@ module _ (p : Image) (fr : Frame) (ts : List Task) (s : State) where
 
   -- a session that `accept` gives moves to its place, and the server has it
   accepted_unchanged : (d : Dispatch) (from : Place) → Unchanged p s.cells (accepted_cells d from s.cells)
-  accepted_unchanged x from = grind (
-    arith,
-    nat_tests,
-    unchanged_along p s.cells,
-    unchanged_moved p s.cells from,
-    unchanged_served p,
-    unchanged_itself p s.cells,
-  )
+  accepted_unchanged x from =
+      grind (arith, nat_tests, unchanged_along p s.cells, unchanged_moved p s.cells from, unchanged_served p, unchanged_itself p s.cells)
 
   pub returned_unchanged : (g : Gives) (a : ℕ) (below : List Task) → Unchanged p s.cells (returned p fr ts s g a below).cells
   returned_unchanged g a x = grind (arith, nat_tests, brought_unchanged g a, accepted_unchanged, unchanged_itself p s.cells)
@@ -57,14 +51,7 @@ module _ (p : Image) (fr : Frame) (ts : List Task) (s : State) where
 
   module _ (name : ℕ) (unused : named s.cells name ≡ None) where
     update_unchanged : (u : Update) → LeavesAlone name u → Unchanged p s.cells (cells_after p fr ts s u)
-    update_unchanged x h = grind (
-      arith,
-      nat_tests,
-      unchanged_moved p s.cells,
-      unchanged_new p,
-      unchanged_stored p s.cells fr.home,
-      unchanged_itself p s.cells,
-    )
+    update_unchanged x h = grind (arith, nat_tests, unchanged_moved p s.cells, unchanged_new p, unchanged_stored p s.cells fr.home, unchanged_itself p s.cells)
 
     pub applied_unchanged : (e : Effect) → IsAside name e → Unchanged p s.cells (applied p fr ts s e).cells
     applied_unchanged x h = grind (arith, nat_tests, update_unchanged, passed_unchanged, unchanged_moved p s.cells, unchanged_itself p s.cells)

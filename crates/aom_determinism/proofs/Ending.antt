@@ -1,6 +1,7 @@
 -- A run can always be brought to an end: each move lowers the rank, turns take of what is left, and there are only so many dispatches of objects.
 use Rattle.std.proofs.lemmas.Bool.Decides.{nat_tests}
-use Rattle.std.proofs.Common.{◌≡◌, ℕ, zero, suc, ◌+◌, ◌-◌, ◌^◌, ◌<◌, ◌≤◌, Bool, List, [], ◌∷◌, ◌++◌, Option, Some, None, ap, refl, sym, subst, ◌∙◌, arith, append-nil, append_assoc, pos}
+use Rattle.std.proofs.Common.{◌≡◌, ℕ, zero, suc, ◌+◌, ◌-◌, ◌^◌, ◌<◌, ◌≤◌, Bool, List, [], ◌∷◌, ◌++◌, Option}
+use Rattle.std.proofs.Common.{Some, None, ap, refl, sym, ◌∙◌, arith, append-nil, append_assoc, pos}
 use Rattle.std.proofs.Math.Facts.{sfits_lit}
 use Rattle.std.proofs.lemmas.Bool.{ne_eqb}
 use Rattle.aom_image.specs.Image.{Image}
@@ -19,7 +20,8 @@ use Rattle.aom_semantics.specs.State.{Task, State, Choice, Goes}
 use Rattle.aom_semantics.specs.Moves.{step, written, is_refused, IsOpen}
 use Rattle.aom_safety.specs.WellTyped.{WellTyped}
 use Rattle.aom_safety.proofs.Turned.{answers, commanded_kept, nothing, polled_rest, polled_so}
-use Rattle.aom_semantics.specs.World.{AnswersWell, boot_state, Candidate, Completion, Heard, HearsWell, Environment, Reaches, Timed, Turning, by_event, by_timer, delivers, moves, picks, polled, polls, turn, turned, turning, turns, Run_of, IsBusy, written_turn, IsBetween}
+use Rattle.aom_semantics.specs.World.{AnswersWell, boot_state, Candidate, Completion, Heard, HearsWell, Environment, Reaches, Timed, Turning, by_event}
+use Rattle.aom_semantics.specs.World.{by_timer, delivers, moves, picks, polled, polls, turn, turned, turning, turns, IsBusy, written_turn, IsBetween}
 use Rattle.aom_transcript.specs.declared.event.Event.{Event}
 use Rattle.aom_transcript.specs.declared.event.TimedEvent.{TimedEvent}
 use Rattle.aom_transcript.specs.declared.line.Line.{Line}
@@ -29,7 +31,8 @@ use Rattle.aom_progress.specs.Ranks.{rank}
 use Rattle.aom_progress.proofs.Ranking.{moves_lower_ranks}
 use Rattle.aom_progress.proofs.Arriving.{leads_on}
 use Rattle.aom_determinism.proofs.Sorts.{Kind, completes_one, cuts, hears_one, kills_one, kind_of, obeys_one, passes_on, picks_one, polls_one, strays, waits}
-use Rattle.aom_determinism.proofs.Lefts.{bereaved_no_more, commanded_no_more, completed_fewer, completed_no_more, event_there, events_left, fewer_left, later_left, left, natives_left, no_more_left, passed_late, timers_in}
+use Rattle.aom_determinism.proofs.Lefts.{bereaved_no_more, commanded_no_more, completed_fewer, completed_no_more, event_there, events_left}
+use Rattle.aom_determinism.proofs.Lefts.{fewer_left, later_left, left, natives_left, no_more_left, passed_late, timers_in}
 use Rattle.aom_determinism.proofs.Spending.{moved_spares, picked_spares}
 use Rattle.aom_determinism.specs.Endings.{CanEnd, RunsCanEnd, spare}
 
@@ -99,18 +102,18 @@ module _ (p : Image) (t : Typing) (outside : Environment) (few : outside.limit �
 
   -- the run is over: no more lines
   over : (lines : List Line) (s : State) (ending : Ending) → Reached lines s → s.rest.ended ≡ Some ending → CanEnd p outside lines
-  over lines s ending r e = record { more = []; last = s; ending = ending; run = record { reaches = subst (λ ls. Reached ls s) (sym (append-nil lines)) r; ended = e } }
+  over lines s ending r e = record { more = []; last = s; ending = ending; run = record { reaches = rw (append-nil lines) r; ended = e } }
 
   -- lines of a move, and then more
   further : (lines now : List Line) → CanEnd p outside (lines ++ now) → CanEnd p outside lines
-  further lines now c = record { more = now ++ c.more; last = c.last; ending = c.ending; run = subst (λ ls. Run_of p outside ls c.last c.ending) (append_assoc lines now c.more) c.run }
+  further lines now c = record { more = now ++ c.more; last = c.last; ending = c.ending; run = rw (append_assoc lines now c.more) at c.run }
 
   -- ---- turns
 
   -- between dispatches, with so little left, and so few natives to poll
   abbrev Between : ℕ → ℕ → ℕ → Type 0
-  Between n k j =
-      (lines : List Line) (s : State) → left outside s < k → natives_left outside s < j → spare outside.limit s < suc n → Reached lines s → WellTyped p t s → IsBetween s → CanEnd p outside lines
+  Between n k j = (lines : List Line) (s : State) →
+      left outside s < k → natives_left outside s < j → spare outside.limit s < suc n → Reached lines s → WellTyped p t s → IsBetween s → CanEnd p outside lines
 
   -- a turn after which nothing is at hand, and the run goes on
   module _ (s u : State) (tasks : u.tasks ≡ s.tasks) (dispatches : u.rest.dispatches ≡ s.rest.dispatches) (ended : u.rest.ended ≡ s.rest.ended) where
@@ -124,13 +127,13 @@ module _ (p : Image) (t : Typing) (outside : Environment) (few : outside.limit �
   less_left : (n k : ℕ) → ((j : ℕ) → Between n k j) → (lines : List Line) (s u : State) → left outside s ≤ k → left outside u < left outside s → spare outside.limit s < suc n
       → u.tasks ≡ s.tasks → u.rest.dispatches ≡ s.rest.dispatches → u.rest.ended ≡ s.rest.ended → IsBetween s → Reached lines u → WellTyped p t u → CanEnd p outside lines
   less_left n k again lines s u most falls spares tasks dispatches ended between r typed =
-      again (suc (natives_left outside u)) lines u (omega (arith, falls, most)) (omega arith) (omega (arith, still_spare s u tasks dispatches ended, spares)) r typed (still_between s u tasks dispatches ended between)
+      again (suc (natives_left outside u)) lines u (omega (arith, falls, most))
+      (omega arith) (omega (arith, still_spare s u tasks dispatches ended, spares)) r typed (still_between s u tasks dispatches ended between)
 
-  by_kind :
-      (n k j : ℕ) → Ends n → ((j : ℕ) → Between n k j) → Between n (suc k) j → (lines : List Line) (s : State) → left outside s ≤ k → natives_left outside s ≤ j →
-      spare outside.limit s < suc n → WellTyped p t s → IsBetween s
-      → (x : Turning) → Kind outside s x → (u : State) → turned p s x ≡ Goes u → Reached lines u → WellTyped p t u → CanEnd p outside lines
-  by_kind n k j ends again polling lines s most few_natives spares w between _ cuts u goes r typed = over lines u Limit r (ap (λ (v : State). v.rest.ended) (sym (goes_same _ u goes)))
+  by_kind : (n k j : ℕ) → Ends n → ((j : ℕ) → Between n k j) → Between n (suc k) j →
+      (lines : List Line) (s : State) → left outside s ≤ k → natives_left outside s ≤ j → spare outside.limit s < suc n → WellTyped p t s →
+      IsBetween s → (x : Turning) → Kind outside s x → (u : State) → turned p s x ≡ Goes u → Reached lines u → WellTyped p t u → CanEnd p outside lines
+  by_kind n k j ends again polling lines s most few_natives spares w between _ cuts u goes r typed = grind (arith, nat_tests, over lines u Limit r, goes_same)
   by_kind n k j ends again polling lines s most few_natives spares w between _ waits u goes r typed = over lines u Waiting r (ap (λ (v : State). v.rest.ended) (sym (goes_same _ u goes)))
   by_kind n k j ends again polling lines s most few_natives spares w between _ strays u goes r typed = cc
   by_kind n k j ends again polling lines s most few_natives spares w between _ (completes_one x first) u goes r typed =
@@ -168,20 +171,10 @@ module _ (p : Image) (t : Typing) (outside : Environment) (few : outside.limit �
     timers_in,
     less_left n k again lines s u most,
   )
-  by_kind n k j ends again polling lines s most few_natives spares w between _ (passes_on time next early) u goes r typed = grind (
-    arith,
-    nat_tests,
-    goes_same,
-    passed_late outside s u time next,
-    later_left outside s u,
-    timers_in,
-    less_left n k again lines s u most,
-  )
-  by_kind n k j ends again polling lines s most few_natives spares w between _ (picks_one x below) u goes r typed = grind (
-    arith,
-    nat_tests,
-    picked_spares p outside.limit s u x.seat below between.idle goes,
-  )
+  by_kind n k j ends again polling lines s most few_natives spares w between _ (passes_on time next early) u goes r typed =
+      grind (arith, nat_tests, goes_same, passed_late outside s u time next, later_left outside s u, timers_in, less_left n k again lines s u most)
+  by_kind n k j ends again polling lines s most few_natives spares w between _ (picks_one x below) u goes r typed =
+      grind (arith, nat_tests, picked_spares p outside.limit s u x.seat below between.idle goes)
   by_kind n k j ends again polling lines s most few_natives spares w between _ (polls_one native answer from to early) u goes r typed = grind (
     arith,
     nat_tests,
@@ -195,8 +188,6 @@ module _ (p : Image) (t : Typing) (outside : Environment) (few : outside.limit �
   )
 
   by_turns : (n k j : ℕ) → Ends n → Between n k j
-  by_turns n zero j ends lines s less few_natives spares r w between = absurd (omega (arith, less))
-  by_turns n (suc k) zero ends lines s less few_natives spares r w between = absurd (omega (arith, few_natives))
   by_turns n (suc k) (suc j) ends lines s less few_natives spares r w between =
       let owed = hears_nothing p outside s in
       let heard = quiet s in
@@ -204,6 +195,7 @@ module _ (p : Image) (t : Typing) (outside : Environment) (few : outside.limit �
       further lines (written_turn p outside s)
       (by_kind n k j ends (λ i. by_turns n k i ends) (by_turns n (suc k) j ends) (lines ++ written_turn p outside s) s (omega (arith, less)) (omega (arith, few_natives)) spares w between
       (turning outside heard s) (kind_of outside s heard) next.0 next.1 (turns heard r between owed next.1) next.2)
+  by_turns n x j ends lines s less few_natives spares r w between = grind arith
 
   -- ---- moves
 
@@ -216,16 +208,14 @@ module _ (p : Image) (t : Typing) (outside : Environment) (few : outside.limit �
       let kept = moved_spares p outside.limit few (choice s) s next.0 next.1 in
       further lines (written p s) (again (lines ++ written p s) next.0 (omega (arith, lower, less)) (omega (arith, kept, spares)) (moves (choice s) r busy free next.1) next.2)
 
-  by_tasks :
-      (n : ℕ) → Ends n → (ts : List Task) (lines : List Line) (s : State) → s.tasks ≡ ts → s.rest.ended ≡ None → spare outside.limit s < suc n → Reached lines s → WellTyped p t s →
-      (IsBusy s → CanEnd p outside lines) → CanEnd p outside lines
-  by_tasks n ends [] lines s none going spares r w busy =
-      by_turns n (suc (left outside s)) (suc (natives_left outside s)) ends lines s (omega arith) (omega arith) spares r w (record { idle = none; going = going })
+  by_tasks : (n : ℕ) → Ends n → (ts : List Task) (lines : List Line) (s : State) → s.tasks ≡ ts →
+      s.rest.ended ≡ None → spare outside.limit s < suc n → Reached lines s → WellTyped p t s → (IsBusy s → CanEnd p outside lines) → CanEnd p outside lines
+  by_tasks n ends [] lines s none going spares r w busy = by_turns n
+      (suc (left outside s)) (suc (natives_left outside s)) ends lines s (omega arith) (omega arith) spares r w (record { idle = none; going = going })
   by_tasks n ends (task ∷ tasks) lines s is going spares r w busy = busy (task, tasks, is)
 
-  by_end :
-      (n : ℕ) → Ends n → (e : Option Ending) (lines : List Line) (s : State) → s.rest.ended ≡ e → spare outside.limit s < suc n → Reached lines s → WellTyped p t s →
-      (IsBusy s → CanEnd p outside lines) → CanEnd p outside lines
+  by_end : (n : ℕ) → Ends n → (e : Option Ending) (lines : List Line) (s : State) →
+      s.rest.ended ≡ e → spare outside.limit s < suc n → Reached lines s → WellTyped p t s → (IsBusy s → CanEnd p outside lines) → CanEnd p outside lines
   by_end n ends None lines s going spares r w busy = by_tasks n ends s.tasks lines s refl going spares r w busy
   by_end n ends (Some ending) lines s ended spares r w busy = over lines s ending r ended
 

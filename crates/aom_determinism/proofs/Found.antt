@@ -6,7 +6,9 @@ use Rattle.std.specs.Prelude.{◌||◌}
 use Rattle.aom_semantics.specs.Places.{Cell, Object, Phase, Request, Tidy, Timer, named, requested, service_of}
 use Rattle.aom_semantics.specs.Servers.{has_more}
 use Rattle.aom_semantics.specs.State.{State}
-use Rattle.aom_semantics.specs.World.{Candidate, Completes, Heard, Obeys, Environment, Picks, Timed, Turning, among_ready, among_timers, before_others, by_event, by_timer, cell_at, first_due, first_ready, goes_before, goes_now, has_signal, is_ready, is_sooner, lives, next_event, next_native, next_time, passes, picks, polls, sooner, turning}
+use Rattle.aom_semantics.specs.World.{Candidate, Completes, Heard, Obeys, Environment, Picks, Timed, Turning, among_ready, among_timers, before_others}
+use Rattle.aom_semantics.specs.World.{by_event, by_timer, cell_at, first_due, first_ready, goes_before, goes_now, has_signal, is_ready, is_sooner}
+use Rattle.aom_semantics.specs.World.{lives, next_event, next_native, next_time, passes, picks, polls, sooner, turning}
 use Rattle.aom_transcript.specs.declared.event.TimedEvent.{TimedEvent}
 
 -- that object is there, with that request
@@ -31,7 +33,7 @@ service_later : (c : Cell) (cs : List Cell) (o : Object) → Tidy (c ∷ cs) →
 service_later c cs o tidy lives = ap (λ b. cond b c.service (service_of cs o.name)) (is_apart c cs o tidy lives)
 
 is_later : (c : Cell) (cs : List Cell) (o : Object) (r : Option Request) → Tidy (c ∷ cs) → IsCell cs o r → IsCell (c ∷ cs) o r
-is_later c cs o r tidy f = record { lives = ap (λ b. cond b (Some c.object) (named cs o.name)) other ∙ f.lives; asked = ap (λ b. cond b c.request (requested cs o.name)) other ∙ f.asked }
+is_later c cs o r tidy f = record { lives = grind (arith, nat_tests); asked = ap (λ b. cond b c.request (requested cs o.name)) other ∙ f.asked }
   where
     other : (c.object.name == o.name) ≡ false
     other = is_apart c cs o tidy f.lives
@@ -65,9 +67,9 @@ module _ (c : Cell) (cs : List Cell) (x : Timed) (tidy : Tidy (c ∷ cs)) (rest 
       go true e = due_later (same ∙ e)
       go false e = due_here r asked t timed cc
 
-  by_its_timer : (order : ℕ) (priority : ℤ) (phase : Phase) (status : ℤ) (timer : Option Timer) (token : Option ℕ) →
-      c.request ≡ Some (record { order = order; priority = priority; phase = phase; status = status; timer = timer; token = token }) →
-      among_timers c.object (Some (record { order = order; priority = priority; phase = phase; status = status; timer = timer; token = token })) (first_due cs) ≡ Some x → IsDue (c ∷ cs) x
+  by_its_timer : (order : ℕ) (priority : ℤ) (phase : Phase) (status : ℤ) (timer : Option Timer) (token : Option ℕ) → c.request ≡ Some
+      (record { order = order; priority = priority; phase = phase; status = status; timer = timer; token = token }) → among_timers c.object (Some
+      (record { order = order; priority = priority; phase = phase; status = status; timer = timer; token = token })) (first_due cs) ≡ Some x → IsDue (c ∷ cs) x
   by_its_timer order priority phase status None token asked e = due_later e
   by_its_timer order priority phase status (Some t) token asked e = sooner_due _ asked t refl (first_due cs) refl e
 
@@ -96,8 +98,7 @@ module _ (c : Cell) (cs : List Cell) (y : Candidate) (tidy : Tidy (c ∷ cs)) (r
   me r = record { seat = record { object = c.object; place = c.owner }; request = r }
 
   ready_here : (r : Request) → c.request ≡ Some r → goes_now c r ≡ true → me r ≡ y → IsReady (c ∷ cs) y
-  ready_here r asked ready same =
-      subst (λ z. IsReady (c ∷ cs) z) same (subst (λ q. IsCell (c ∷ cs) c.object q) asked (is_first c cs), ap (λ v. is_ready r || has_more v.queue) (service_first c cs) ∙ ready)
+  ready_here r asked ready same = grind (arith, nat_tests, asked, is_first, service_first)
 
   first_of_all : (r : Request) → c.request ≡ Some r → goes_now c r ≡ true → (others : Option Candidate) → first_ready cs ≡ others → Some (before_others (me r) others) ≡ Some y → IsReady (c ∷ cs) y
   first_of_all r asked ready None same e = ready_here r asked ready cc
@@ -108,12 +109,10 @@ module _ (c : Cell) (cs : List Cell) (y : Candidate) (tidy : Tidy (c ∷ cs)) (r
       go false e = ready_here r asked ready cc
 
   ready_or_not : (r : Request) → c.request ≡ Some r → (b : Bool) → goes_now c r ≡ b → cond b (Some (before_others (me r) (first_ready cs))) (first_ready cs) ≡ Some y → IsReady (c ∷ cs) y
-  ready_or_not r asked true ready e = first_of_all r asked ready (first_ready cs) refl e
-  ready_or_not r asked false ready e = ready_later e
+  ready_or_not r asked x ready e = grind (arith, nat_tests, first_of_all, asked, ready_later)
 
   with_request_of : (r : Option Request) → c.request ≡ r → among_ready c r (first_ready cs) ≡ Some y → IsReady (c ∷ cs) y
-  with_request_of None asked e = ready_later e
-  with_request_of (Some r) asked e = ready_or_not r asked (goes_now c r) refl e
+  with_request_of x asked e = grind (arith, nat_tests, ready_later, ready_or_not, asked)
 
 pub is_found_ready : (cs : List Cell) → Tidy cs → (y : Candidate) → first_ready cs ≡ Some y → IsReady cs y
 is_found_ready [] tidy y e = cc
@@ -145,7 +144,8 @@ module _ (outside : Environment) (heard : Heard) (s : State) where
 
   -- where the limit is not reached
   abbrev within : Turning
-  within = by_timer s (first_due s.cells) (by_event outside heard.name s (next_event outside s) (polls (next_native outside s) heard.completion (picks (has_signal s.cells) (first_ready s.cells) (next_time outside s))))
+  within = by_timer s (first_due s.cells) (by_event outside heard.name s
+      (next_event outside s) (polls (next_native outside s) heard.completion (picks (has_signal s.cells) (first_ready s.cells) (next_time outside s))))
 
   about_within : named s.cells heard.name ≡ None → IsAbout s within
   about_within free = grind (arith, nat_tests, about_timer, about_event heard.name, about_native, about_ready)

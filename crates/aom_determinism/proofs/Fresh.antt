@@ -1,5 +1,6 @@
 -- Renamings that change no name in use change nothing: so any free name may be put for any other, by changing the two.
-use Rattle.std.proofs.Common.{Bool, List, None, Option, Some, [], ap, cond, false, refl, subst, suc, sym, true, zero, ℕ, ⊎_elim, ◌&&◌, ◌==◌, ◌∙◌, ◌∷◌, ◌≡◌, ◌≢◌, arith}
+use Rattle.std.proofs.Common.{Bool, List, None, Option, Some, [], ap, cond, false, refl, subst, suc}
+use Rattle.std.proofs.Common.{sym, true, zero, ℕ, ⊎_elim, ◌&&◌, ◌==◌, ◌∙◌, ◌∷◌, ◌≡◌, ◌≢◌, arith}
 use Rattle.std.proofs.lemmas.Bool.Decides.{nat_tests}
 use Rattle.std.proofs.lemmas.Option.{same_Some}
 use Rattle.std.proofs.lemmas.Bool.{cases_eq, eq-eqb, eqb-true, ne_eqb, true≢false}
@@ -8,7 +9,8 @@ use Rattle.std.specs.Prelude.{◌||◌}
 use Rattle.aom_clients.specs.Nodes.{is_connecting_at}
 use Rattle.aom_clients.specs.Table.{server_of}
 use Rattle.aom_clients.specs.declared.client.Client.{Client}
-use Rattle.aom_clients.specs.declared.client.Client.TheVariants.{Closing as Closing_client, Connecting, Dead, Dying as Dying_client, Gone as Gone_client, Open, Unconnected}
+use Rattle.aom_clients.specs.declared.client.Client.TheVariants.{Closing as Closing_client, Connecting, Dead, Dying as Dying_client}
+use Rattle.aom_clients.specs.declared.client.Client.TheVariants.{Gone as Gone_client, Open, Unconnected}
 use Rattle.aom_image.specs.Image.{Image}
 use Rattle.aom_rules.specs.Typing.{Typing}
 use Rattle.aom_shape.specs.Kinds.{filled}
@@ -23,12 +25,15 @@ use Rattle.aom_safety.proofs.Straight.{fits_unowning}
 use Rattle.aom_safety.specs.Claims.{Dispatching, Dying, Ending, Layer, Mark, Method, Unwinding, by_close, declared, tasks_of, claim}
 use Rattle.aom_semantics.specs.Clients.{client_at}
 use Rattle.aom_safety.specs.Kept.{ClientsFit, is_message_of}
-use Rattle.aom_semantics.specs.Places.{Asked, Cell, Close_of, Connect_of, Elsewhere, Entry, Field, Going, Message_of, Object, Place, Register, Tidy, held, named, seen, service_of, unserved, Other, Root, Session, In_service, Queued}
+use Rattle.aom_semantics.specs.Places.{Asked, Cell, Close_of, Connect_of, Elsewhere, Field, Message_of, Object, Place}
+use Rattle.aom_semantics.specs.Places.{Tidy, held, named, service_of, unserved, Other, Root, Session, In_service, Queued}
 use Rattle.aom_semantics.specs.Servers.{has_session, session_thing}
-use Rattle.aom_semantics.specs.State.{Answered, Asks, Closing, Destroy, Dispatch, Dispatched, Home, Object_left, Of_object, Of_server, Parts, Run, Seat, Stage, State, Task, Trapped, Unwind}
-use Rattle.aom_safety.specs.WellTyped.{AllSit, Back, Caught, Fits, Gone, Good, IsHoused, Leaves, Now, Returns, SitsFirst, Stack, WellTyped, seat_of}
+use Rattle.aom_semantics.specs.State.{Closing, Destroy, Dispatch, Dispatched, Home}
+use Rattle.aom_semantics.specs.State.{Of_server, Parts, Run, Seat, Stage, State, Task, Trapped, Unwind}
+use Rattle.aom_safety.specs.WellTyped.{AllSit, Back, Caught, Gone, Good, IsHoused, Leaves, Now, Returns, SitsFirst, Stack, WellTyped, seat_of}
 use Rattle.aom_safety.proofs.ClientsFacts.{queued_well}
-use Rattle.aom_determinism.specs.Names.{IsOneToOne, renamed, renamed_asked, renamed_cells, renamed_client, renamed_clients, renamed_dispatch, renamed_home, renamed_place, renamed_queue, renamed_seat, renamed_stage, renamed_task, renamed_tasks, renamed_other}
+use Rattle.aom_determinism.specs.Names.{IsOneToOne, renamed, renamed_asked, renamed_cells, renamed_client, renamed_clients, renamed_dispatch, renamed_home}
+use Rattle.aom_determinism.specs.Names.{renamed_place, renamed_queue, renamed_seat, renamed_stage, renamed_task, renamed_tasks, renamed_other}
 use Rattle.aom_determinism.specs.There.{AllThere, IsAtPlace, accepts, dispatch_of}
 
 -- ---- two names change places
@@ -49,18 +54,7 @@ unfolding swapped
 swap_other a b n e f = rw (ne_eqb n a e, ne_eqb n b f)
 
 swap_twice : (a b n : ℕ) → swapped a b (swapped a b n) ≡ n
-swap_twice a b n = grind (
-  arith,
-  nat_tests,
-  swapped a b,
-  swap_other a b n,
-  cases_eq n b,
-  cases_eq n a,
-  swapped a b (swapped a b n),
-  swapped a b n,
-  swap_first a b,
-  swap_second a b,
-)
+swap_twice a b n = grind (arith, nat_tests, swapped, swap_other, cases_eq, swap_first, swap_second)
 
 pub swap_one_to_one : (a b : ℕ) → IsOneToOne (swapped a b)
 swap_one_to_one a b n m e = sym (swap_twice a b n) ∙ ap (swapped a b) e ∙ swap_twice a b m
@@ -69,9 +63,6 @@ swap_one_to_one a b n m e = sym (swap_twice a b n) ∙ ap (swapped a b) e ∙ sw
 
 or_right : (b x : Bool) → x ≡ true → (b || x) ≡ true
 or_right x y h = grind arith
-
-and_first : (b x : Bool) → (b && x) ≡ true → b ≡ true
-and_first x y h = grind arith
 
 -- ---- one renaming after another
 
@@ -106,12 +97,7 @@ module _ (then first : ℕ → ℕ) where
   stage_twice x = grind arith
 
   dispatch_twice : (d : Dispatch) → renamed_dispatch both d ≡ renamed_dispatch then (renamed_dispatch first d)
-  dispatch_twice (Of_object x) = ap Of_object (seat_twice x)
-  dispatch_twice (Object_left x code) = ap (λ y. Object_left y code) (seat_twice x)
-  dispatch_twice (Asks x) = ap Asks (seat_twice x)
-  dispatch_twice (Answered x answer) = ap (λ y. Answered y answer) (seat_twice x)
-  dispatch_twice (Of_server x client stage) = rw (seat_twice x, stage_twice stage)
-  dispatch_twice _ = refl
+  dispatch_twice x = grind (arith, nat_tests, seat_twice, stage_twice)
 
   task_twice : (k : Task) → renamed_task both k ≡ renamed_task then (renamed_task first k)
   task_twice x = grind (arith, nat_tests, home_twice, dispatch_twice)
@@ -169,7 +155,7 @@ module _ (names : ℕ → ℕ) where
 
   sent_first : (c : Cell) (cs : List Cell) → SparesSent (c ∷ cs) → (d m : ℕ) → list_any (is_message_of d m) c.service.queue ≡ true → names m ≡ m
   sent_first c cs sent_so d m h =
-      sent_so c.object.name d m (ap (λ b. list_any (is_message_of d m) (cond b c.service (service_of cs c.object.name)).queue) (eq-eqb c.object.name c.object.name refl) ∙ h)
+      sent_so c.object.name d m (grind (arith, nat_tests, eq-eqb))
 
   sent_on : (c : Cell) (cs : List Cell) → named cs c.object.name ≡ None → SparesSent (c ∷ cs) → SparesSent cs
   sent_on c cs alone sent_so n d m h = go (c.object.name == n) refl
@@ -210,12 +196,7 @@ module _ (names : ℕ → ℕ) where
     stage_spared x client y at = grind (arith, nat_tests, held_named cs (Elsewhere (Session x.object.name client)))
 
     dispatch_spared : (d : Dispatch) (seats : List Seat) → AllSit cs seats → SitsFirst cs (seat_of d) seats → IsAtPlace cs (Some d) → renamed_dispatch names d ≡ d
-    dispatch_spared (Of_object x) seats sit h at = ap Of_object (first_spared x seats sit h)
-    dispatch_spared (Object_left x code) seats sit h at = ap (λ y. Object_left y code) (first_spared x seats sit h)
-    dispatch_spared (Asks x) seats sit h at = ap Asks (first_spared x seats sit h)
-    dispatch_spared (Answered x answer) seats sit h at = ap (λ y. Answered y answer) (first_spared x seats sit h)
-    dispatch_spared (Of_server x client stage) seats sit h at = rw (first_spared x seats sit h, stage_spared x client stage at)
-    dispatch_spared _ seats sit h at = refl
+    dispatch_spared x seats sit h at = grind (arith, nat_tests, first_spared, stage_spared)
 
     tasks_spared : (ls : List Layer) (back : Back) → Stack p t cs back ls → IsAtPlace cs (dispatch_of (tasks_of ls)) → renamed_tasks names (tasks_of ls) ≡ tasks_of ls
     tasks_spared [] back k at = refl
@@ -264,15 +245,14 @@ session_null p t cs (Mark gv ∷ ls) back n c k e = session_null p t cs ls (Caug
 session_null p t cs (Dying o ∷ ls) back n c k e = ap (cond (o.name == n) Null) (session_null p t cs ls Gone n c k.2 e) ∙ cond_same (o.name == n) Null
 session_null p t cs (Ending o left ∷ ls) back n c k e = grind (arith, nat_tests, ne_eqb o.name n, session_null p t cs ls Now n c k.3 e)
 session_null p t cs (Unwinding code es ∷ ls) back n c k e = session_null p t cs ls Leaves n c k.1 e
-session_null p t cs (Dispatching d seats ∷ ls) back n c k e = by_dispatch d (ap (λ l. claim p (declared p cs) l (Elsewhere (Session n c))) k.1 ∙ session_declared p cs n c e)
+session_null p t cs (Dispatching d seats ∷ ls) back n c k e = by_dispatch d (grind (arith, nat_tests, session_declared))
   where
     by_dispatch : (d : Dispatch) → claim p (declared p cs) ls (Elsewhere (Session n c)) ≡ Null → by_close d n c (claim p (declared p cs) ls (Elsewhere (Session n c))) ≡ Null
     by_dispatch (Of_server x client Parts) null = ap (cond ((x.object.name == n) && (client == c)) Null) null ∙ cond_same ((x.object.name == n) && (client == c)) Null
-    by_dispatch (Of_server x client _) null = null
     by_dispatch _ null = null
 
 unclaimed_owns_nothing : (p : Image) (t : Typing) (cs : List Cell) (ls : List Layer) (o : Other) → Good p t cs ls → claim p (declared p cs) ls (Elsewhere o) ≡ Null → held cs (Elsewhere o) ≡ None
-unclaimed_owns_nothing p t cs ls o good null = fits_unowning p (seen cs) (held cs (Elsewhere o)) Null refl (subst (λ k. Fits p (seen cs) (held cs (Elsewhere o)) k) null (good.fits (Elsewhere o)))
+unclaimed_owns_nothing p t cs ls o good null = grind (arith, nat_tests, fits_unowning)
 
 -- ---- a renaming of names that are not in use
 
@@ -287,24 +267,13 @@ module _ (p : Image) (t : Typing) (s : State) (names : ℕ → ℕ) (well : Well
 
   other_so : (o : Other) → held s.cells (Elsewhere o) ≢ None → renamed_other names o ≡ o
   other_so Root some = refl
-  other_so (Session n c) some =
-      ap (λ k. Session k c) (named_so n (λ e. some (unclaimed_owns_nothing p t s.cells well.layers (Session n c) well.good (session_null p t s.cells well.layers Now n c well.good.stack e))))
+  other_so (Session n c) some = ap (λ k. Session k c) (named_so n
+      (λ e. some (unclaimed_owns_nothing p t s.cells well.layers (Session n c) well.good (session_null p t s.cells well.layers Now n c well.good.stack e))))
   other_so In_service some = refl
-  other_so (Queued n m) some = grind (
-    arith,
-    nat_tests,
-    unclaimed_owns_nothing p t s.cells well.layers (Queued n m) well.good,
-    waiting_so n m some,
-    queued_claim p,
-    service_unnamed s.cells n,
-  )
+  other_so (Queued n m) some = grind (arith, nat_tests, unclaimed_owns_nothing, waiting_so, queued_claim, service_unnamed)
 
   held_so : (q : Place) → held s.cells q ≢ None → renamed_place names q ≡ q
-  held_so (Register f r) some = refl
-  held_so (Entry k) some = refl
-  held_so (Field n f) some = ap (λ m. Field m f) (named_so n (λ e. some (unnamed_owns_nothing p t s.cells well.layers well.good n f e)))
-  held_so (Going k) some = refl
-  held_so (Elsewhere o) some = ap Elsewhere (other_so o some)
+  held_so x some = grind (arith, nat_tests, unnamed_owns_nothing, other_so)
 
   -- what a client sent waits under its name
   sent_so : (n c m : ℕ) → list_any (is_message_of c m) (service_of s.cells n).queue ≡ true → names m ≡ m
@@ -338,13 +307,12 @@ module _ (p : Image) (t : Typing) (s : State) (names : ℕ → ℕ) (well : Well
   client_so c Dead e = refl
 
   spared_tasks : renamed_tasks names s.tasks ≡ s.tasks
-  spared_tasks = ap (renamed_tasks names) well.tasks ∙ tasks_spared names p t s.cells named_so held_so well.layers Now well.good.stack (subst (λ ts. IsAtPlace s.cells (dispatch_of ts)) well.tasks there.serves) ∙ sym well.tasks
+  spared_tasks = ap (renamed_tasks names) well.tasks ∙ tasks_spared names p t s.cells named_so held_so well.layers Now well.good.stack (grind (arith, nat_tests)) ∙ sym well.tasks
 
   pub spared : renamed names s ≡ s
   spared = rw (cells_spared names s.cells well.good.tidy named_so held_so sent_so, spared_tasks, clients_spared names s.clients (λ c. client_so c (client_at s.clients c) refl))
 
 -- two names that are free change places, and nothing changes
-pub swapped_free :
-    (p : Image) (t : Typing) (s : State) (a b : ℕ) → WellTyped p t s → ClientsFit p s.clients s.cells → AllThere s → named s.cells a ≡ None → named s.cells b ≡ None →
-    renamed (swapped a b) s ≡ s
+pub swapped_free : (p : Image) (t : Typing) (s : State) (a b : ℕ) →
+    WellTyped p t s → ClientsFit p s.clients s.cells → AllThere s → named s.cells a ≡ None → named s.cells b ≡ None → renamed (swapped a b) s ≡ s
 swapped_free p t s a b well fit there free_a free_b = grind (arith, nat_tests, spared p t s (swapped a b) well fit there, swapped a b, swap_other a b)

@@ -25,10 +25,12 @@ use Rattle.aom_roles.specs.Classes.{kind_in}
 use Rattle.aom_roles.specs.Shapes.{kind_of}
 
 -- where no native serves a class, a request begins the same whatever one would answer
-unheard : (k : Option ClassKind) (clock order : ℕ) (x y a : ℤ) (r : Request) → is_native_kind k ≡ false → issued_of k (record { clock = clock; order = order; started = x }) a r ≡ issued_of k (record { clock = clock; order = order; started = y }) a r
+unheard : (k : Option ClassKind) (clock order : ℕ) (x y a : ℤ) (r : Request) → is_native_kind k ≡ false →
+    issued_of k (record { clock = clock; order = order; started = x }) a r ≡ issued_of k (record { clock = clock; order = order; started = y }) a r
 unheard k clock order x y a r h = grind arith
 
-unheard_on : (k : Option ClassKind) (clock order : ℕ) (x y a : ℤ) (r : Option Request) → is_native_kind k ≡ false → on_request (issued_of k (record { clock = clock; order = order; started = x }) a) r ≡ on_request (issued_of k (record { clock = clock; order = order; started = y }) a) r
+unheard_on : (k : Option ClassKind) (clock order : ℕ) (x y a : ℤ) (r : Option Request) → is_native_kind k ≡ false → on_request (issued_of k
+    (record { clock = clock; order = order; started = x }) a) r ≡ on_request (issued_of k (record { clock = clock; order = order; started = y }) a) r
 unheard_on k clock order x y a z h = grind (arith, nat_tests, unheard k clock order x y a)
 
 module _ (p : Image) (c : Choice) (answer : ℤ) where

@@ -1,7 +1,7 @@
 -- As cells change no connect is lost, and no session's place changes: by the queues that stay, and by what moves and goes.
 use Rattle.std.proofs.lemmas.Bool.Decides.{nat_tests}
 use Rattle.std.proofs.Common.{arith, Bool, List, None, Option, Some, [], ap, false, refl, suc, sym, true, ℕ, ℤ, ◌==◌, ◌∙◌, ◌∷◌, ◌≡◌}
-use Rattle.std.proofs.lemmas.Bool.{eqb-true, true≢false}
+use Rattle.std.proofs.lemmas.Bool.{eqb-true}
 use Rattle.std.specs.List.{list_any}
 use Rattle.std.specs.Prelude.{◌||◌}
 use Rattle.aom_image.specs.Image.{Image}
@@ -66,7 +66,7 @@ place_moved : (cs : List Cell) (a b : Place) → NoSession a → NoSession b →
 place_moved cs a b from to n c = grind (arith, nat_tests, held_elsewhere cs a b (Elsewhere (Session n c)) (to n c))
 
 pub calm_moved : (cs : List Cell) (a b : Place) → NoSession a → NoSession b → Calm cs (moved a b cs)
-calm_moved cs a b from to = record { connects = λ n c h. ap (λ v. list_any (is_connect_of c) v.queue) (service_moved cs a b n) ∙ h; places = place_moved cs a b from to }
+calm_moved cs a b from to = record { connects = grind (arith, nat_tests, service_moved); places = place_moved cs a b from to }
 
 module _ (p : Image) (fr : Frame) (ts : List Task) (s : State) where
   field_alone : (home : Home) (f : ℕ) → NoSession (field_place home f)
@@ -119,7 +119,7 @@ module _ (f : Service → Service) (keeps : (v : Service) (c : ℕ) → list_any
   connects_reserved n c h = go (m == n) refl
     where
       there : m ≡ n → (o : Option Object) → named cs m ≡ o → waits (reserved f m cs) n c ≡ true
-      there same None e = absurd (true≢false (sym h ∙ ap (λ k. waits cs k c) (sym same) ∙ ap (λ v. list_any (is_connect_of c) v.queue) (service_unnamed cs m e)))
+      there same None e = absurd (grind (arith, nat_tests, service_unnamed))
       there same (Some o) e =
           ap (λ k. waits (reserved f m cs) k c) (sym same)
           ∙ ap (λ v. list_any (is_connect_of c) v.queue) (service_here cs m (f (service_of cs m)) o e)
@@ -141,8 +141,8 @@ calm_unslotted xs cs = record {
 -- ---- cells go, of which none has a connect
 
 module _ (gone : Place → Bool) (cs : List Cell) (tidy : Tidy cs) where
-  pub connects_dropped :
-      (n c : ℕ) → ((q : Place) (o : Object) → gone q ≡ true → held cs q ≡ Some o → o.name ≡ n → (service_of cs n).queue ≡ []) → waits cs n c ≡ true → waits (dropped gone cs) n c ≡ true
+  pub connects_dropped : (n c : ℕ) → ((q : Place) (o : Object) → gone q ≡ true → held cs q ≡ Some o → o.name ≡ n → (service_of cs n).queue ≡ []) →
+      waits cs n c ≡ true → waits (dropped gone cs) n c ≡ true
   connects_dropped n c empty h = grind (arith, nat_tests, each_name gone cs tidy n, Same gone cs n, dropped gone cs, Went gone cs n, named_name cs n)
 
   pub places_dropped : ((n c : ℕ) → gone (Elsewhere (Session n c)) ≡ false) → (n c : ℕ) → held (dropped gone cs) (Elsewhere (Session n c)) ≡ held cs (Elsewhere (Session n c))

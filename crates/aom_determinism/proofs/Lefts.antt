@@ -1,6 +1,7 @@
 -- What is left between dispatches: timers that run, events to come, natives to poll. Each turn that dispatches nothing takes of it.
 use Rattle.std.proofs.lemmas.Bool.Decides.{nat_tests}
-use Rattle.std.proofs.Common.{◌≡◌, ◌<◌, ◌≤◌, ◌+◌, ◌-◌, ◌*◌, ℕ, zero, suc, ℤ, Bool, true, false, List, [], ◌∷◌, Option, Some, None, ap, arith, cond, length, refl, ◌∙◌}
+use Rattle.std.proofs.Common.{◌≡◌, ◌<◌, ◌≤◌, ◌+◌, ◌-◌, ◌*◌, ℕ, zero, suc, ℤ, Bool, true, false, List}
+use Rattle.std.proofs.Common.{[], ◌∷◌, Option, Some, None, ap, arith, cond, length, refl, ◌∙◌}
 use Rattle.std.specs.Prelude.{is_some, nat_le, not, ◌||◌}
 use Rattle.aom_active.proofs.Dues.{running}
 use Rattle.aom_active.specs.Agrees.{timer_in}
@@ -8,10 +9,10 @@ use Rattle.aom_image.specs.Image.{Image}
 use Rattle.aom_clients.specs.declared.client.Client.{Client}
 use Rattle.aom_clients.specs.declared.refusal.Refusal.{Refusal}
 use Rattle.aom_semantics.specs.Clients.{Listed, commanded, connecting, leaving, sending, told}
-use Rattle.aom_semantics.specs.Servers.{asked_last, withdrawn}
+use Rattle.aom_semantics.specs.Servers.{withdrawn}
 use Rattle.aom_semantics.specs.Enlisted.{completed_with, on_request}
 use Rattle.aom_semantics.specs.Natives.{all_bereaved, is_served_by, terminated_request}
-use Rattle.aom_semantics.specs.Places.{Cell, Connect_of, Object, Request, Service, Tidy, requested, service_of, set_request, set_service}
+use Rattle.aom_semantics.specs.Places.{Cell, Object, Request, Service, Tidy, requested, set_request, set_service}
 use Rattle.aom_semantics.specs.State.{State}
 use Rattle.aom_semantics.specs.World.{Environment, Timed, due_of, event_at, first_due, first_living, nearer, next_event, next_time, time_of, with_request}
 use Rattle.aom_transcript.specs.declared.event.Command.{Command}
@@ -67,9 +68,7 @@ module _ (p : Image) (client : ℕ) (s : State) where
   StartsNone u = timers_in u.cells ≤ timers_in s.cells
 
   connecting_no_more : (refused : Option Refusal) (server : Option Listed) (slots : ℕ) → StartsNone (connecting p client s refused server slots)
-  connecting_no_more None (Some x) slots = omega (arith, served_timers s.cells x.name (asked_last (Connect_of client) (service_of s.cells x.name)))
-  connecting_no_more None None slots = omega arith
-  connecting_no_more (Some r) server slots = omega arith
+  connecting_no_more x server slots = grind (arith, nat_tests, served_timers)
 
   sending_no_more : (refused : Option Refusal) (own : Client) (name : ℕ) (words : List ℤ) → StartsNone (sending p client s refused own name words)
   sending_no_more x y name words = grind (arith, nat_tests, served_timers s.cells)
@@ -93,15 +92,16 @@ reached (Some time) now = nat_le time now
 abbrev pub is_late : Environment → State → Bool
 is_late outside s = reached (due_of (first_due s.cells)) s.rest.clock || reached (time_of (next_event outside s)) s.rest.clock
 
-pub early_both : (outside : Environment) (s : State) → reached (due_of (first_due s.cells)) s.rest.clock ≡ false → reached (time_of (next_event outside s)) s.rest.clock ≡ false → is_late outside s ≡ false
+pub early_both : (outside : Environment) (s : State) →
+    reached (due_of (first_due s.cells)) s.rest.clock ≡ false → reached (time_of (next_event outside s)) s.rest.clock ≡ false → is_late outside s ≡ false
 early_both outside s timer event = ap (λ b. b || reached (time_of (next_event outside s)) s.rest.clock) timer ∙ event
 
 -- the nearer of two times has come by then
 nearer_reached : (a b : Option ℕ) (time : ℕ) → nearer a b ≡ Some time → (reached a time || reached b time) ≡ true
 nearer_reached a b time e = grind arith
 
-pub passed_late :
-    (outside : Environment) (s u : State) (time : ℕ) → next_time outside s ≡ Some time → u.cells ≡ s.cells → u.rest.clock ≡ time → u.rest.delivered ≡ s.rest.delivered → is_late outside u ≡ true
+pub passed_late : (outside : Environment) (s u : State) (time : ℕ) →
+    next_time outside s ≡ Some time → u.cells ≡ s.cells → u.rest.clock ≡ time → u.rest.delivered ≡ s.rest.delivered → is_late outside u ≡ true
 passed_late outside s u time next cells clock delivered = grind (arith, nat_tests, nearer_reached)
 
 -- ---- events and natives
@@ -131,11 +131,10 @@ pub fewer_left : (outside : Environment) (s u : State) → timers_in u.cells + e
 fewer_left outside s u fewer = omega (arith, fewer, one_at_most (not (is_late outside u)))
 
 -- or as many, and time has come where it had not
-pub later_left :
-    (outside : Environment) (s u : State) → timers_in u.cells + events_left outside u ≤ timers_in s.cells + events_left outside s → is_late outside s ≡ false → is_late outside u ≡ true →
-    left outside u < left outside s
+pub later_left : (outside : Environment) (s u : State) → timers_in u.cells + events_left outside u ≤ timers_in s.cells + events_left outside s →
+    is_late outside s ≡ false → is_late outside u ≡ true → left outside u < left outside s
 later_left outside s u same early late = omega (arith, same, ap (λ b. one_where (not b)) early, ap (λ b. one_where (not b)) late)
 
-pub no_more_left :
-    (outside : Environment) (s u : State) → timers_in u.cells + events_left outside u ≤ timers_in s.cells + events_left outside s → is_late outside s ≡ false → left outside u ≤ left outside s
+pub no_more_left : (outside : Environment) (s u : State) →
+    timers_in u.cells + events_left outside u ≤ timers_in s.cells + events_left outside s → is_late outside s ≡ false → left outside u ≤ left outside s
 no_more_left outside s u same early = omega (arith, same, ap (λ b. one_where (not b)) early, one_at_most (not (is_late outside u)))

@@ -5,7 +5,7 @@ use Rattle.aom_semantics.proofs.Altering.{read_kept, sessions}
 use Rattle.aom_safety.proofs.Redeeming.{redeemed_by_alike, redeemed_good, redeeming, requested_redeemed}
 use Rattle.aom_safety.proofs.Storing.{rerequested_alike}
 use Rattle.aom_safety.specs.Requests.{Known, Suits}
-use Rattle.aom_semantics.specs.Tokens.{all_redeemed, awaits, is_crowded, redeemed_by, redeemed_with, token_of}
+use Rattle.aom_semantics.specs.Tokens.{awaits, is_crowded, redeemed_by, token_of}
 use Rattle.std.proofs.Common.{Bool, List, None, Option, Some, ap, cond, false, length, refl, subst, sym, true, ℕ, ℤ, ◌&&◌, ◌==◌, ◌∙◌, ◌∷◌, ◌≡◌, pos, arith}
 use Rattle.std.proofs.lemmas.Bool.{not-true, and_right, eqb-true}
 use Rattle.std.specs.Prelude.{not}
@@ -13,8 +13,10 @@ use Rattle.aom_image.specs.Image.{Image}
 use Rattle.aom_image.specs.Views.{gives_of, instr_at}
 use Rattle.aom_instructions.specs.declared.instr.Instr.{Instr}
 use Rattle.aom_instructions.specs.declared.instr.Instr.TheVariants.{Cancel, Enlist, Reply, Return, SetActive, Hand}
-use Rattle.aom_determinism.proofs.Calls.{IsAlive, Told, abort_told, alive_in, at_it, found, ask_told, asked_same, close_told, connect_told, ended_same, issue_told, sessions_after, sessions_along, taken_off, told_along, told_before, told_none, still}
-use Rattle.aom_determinism.proofs.Cells.{Unchanged, meets_gone, owes_gone, served_none, unchanged_along, unchanged_itself, unchanged_moved, unchanged_alike, unchanged_asked, unchanged_new}
+use Rattle.aom_determinism.proofs.Calls.{IsAlive, Told, abort_told, alive_in, at_it, found, ask_told, asked_same, close_told, connect_told, ended_same}
+use Rattle.aom_determinism.proofs.Calls.{issue_told, sessions_after, sessions_along, taken_off, told_along, told_before, told_none, still}
+use Rattle.aom_determinism.proofs.Cells.{Unchanged, meets_gone, owes_gone, served_none, unchanged_along, unchanged_itself}
+use Rattle.aom_determinism.proofs.Cells.{unchanged_moved, unchanged_alike, unchanged_asked, unchanged_new}
 use Rattle.aom_determinism.proofs.Effects.{IsAside, applied_killed, applied_unchanged, returned_unchanged}
 use Rattle.aom_determinism.proofs.Requests.{cancelling_owed, none_owed, rests_owed, waits_owed}
 use Rattle.aom_determinism.specs.Laws.{FollowsCall, MovesFollowCalls}
@@ -28,13 +30,17 @@ use Rattle.aom_semantics.proofs.Maps.{tidy_without, held_lives, named_name}
 use Rattle.aom_safety.proofs.Moving.{acted, steps_are_moves}
 use Rattle.aom_semantics.specs.Calls.{returned}
 use Rattle.aom_safety.specs.Claims.{Dispatching, Layer}
-use Rattle.aom_semantics.specs.Destruction.{first_session, vanished, parting, gone, is_at_rest, needs_gone}
-use Rattle.aom_semantics.specs.Effects.{Effect, Leaves, Same, applied, cancels_if, deals, deletes, effect, jumps_if, jumps_unless, makes_unless, round, sets, unless_refused, updates, cells_after, hands_unless}
-use Rattle.aom_semantics.specs.Enlisted.{cancel_method, ended_cells, first_request, in_phase, is_active, next_timer, on_request, own_request, thing_kind, waits, home_kind, rerequested}
-use Rattle.aom_semantics.specs.Moves.{stage_ends, answered, counted, dispatch_ends, handled, main_ends, needs, object_ends, step, step_instr, step_task}
+use Rattle.aom_semantics.specs.Destruction.{vanished, parting, gone, is_at_rest, needs_gone}
+use Rattle.aom_semantics.specs.Effects.{Effect, Leaves, Same, applied, cancels_if, deals, deletes, effect, jumps_if, jumps_unless}
+use Rattle.aom_semantics.specs.Effects.{makes_unless, round, sets, unless_refused, updates, cells_after, hands_unless}
+use Rattle.aom_semantics.specs.Enlisted.{cancel_method, ended_cells, in_phase, is_active, next_timer}
+use Rattle.aom_semantics.specs.Enlisted.{own_request, thing_kind, home_kind, rerequested}
+use Rattle.aom_semantics.specs.Moves.{stage_ends, answered, counted, dispatch_ends, handled, main_ends, needs, object_ends, step, step_task}
 use Rattle.aom_semantics.specs.Natives.{is_owed, native_of}
-use Rattle.aom_semantics.specs.Places.{service_of, In_service, Tidy, Cell, Elsewhere, Entry, Going, Object, Root, held, in_session, named, requested, without, Request}
-use Rattle.aom_semantics.specs.State.{Parts, Service_left, Of_server, Closing, Stage, Seat, Answered, Asks, Choice, Destroy, Dispatch, Frame, Goes, Home, Item, Main_left, Object_left, Of_main, Of_object, Of_root, Run, State, Task, Unwind}
+use Rattle.aom_semantics.specs.Places.{In_service, Tidy, Cell, Elsewhere, Going, Object}
+use Rattle.aom_semantics.specs.Places.{Root, held, in_session, named, requested, without, Request}
+use Rattle.aom_semantics.specs.State.{Service_left, Of_server, Stage, Seat, Answered, Asks, Choice, Destroy, Dispatch, Frame}
+use Rattle.aom_semantics.specs.State.{Goes, Home, Item, Object_left, Of_main, Of_object, Run, State, Task}
 use Rattle.aom_safety.specs.Steps.{Empties, Acts, Arrives, Clears, Comes_out, Ends, Fits, IsStill, Move, Rests, Undoes, Vanishes}
 use Rattle.aom_semantics.specs.Wanted.{Exchange, Nothing, exchange, exchange_at, Closes, wanted, wanted_by, wanted_going, wanted_gone, wanted_if, wanted_task}
 use Rattle.aom_safety.specs.WellTyped.{Good, IsHoused, WellTyped}
@@ -44,7 +50,8 @@ use Rattle.aom_semantics.specs.Objects.{is_thing}
 use Rattle.aom_image.specs.declared.method.Thing.TheVariants.{Message}
 use Rattle.aom_roles.specs.Tests.{AllTrue}
 use Rattle.aom_roles.specs.Kinds.{is_token_kind}
-use Rattle.aom_determinism.proofs.Services.{serves_unqueued, unchanged_unslotted, unchanged_served, session_unqueued, unchanged_completed, going_unqueued, tidy_unqueued, unchanged_unqueued}
+use Rattle.aom_determinism.proofs.Services.{serves_unqueued, unchanged_unslotted, unchanged_served, session_unqueued}
+use Rattle.aom_determinism.proofs.Services.{unchanged_completed, going_unqueued, tidy_unqueued, unchanged_unqueued}
 use Rattle.aom_safety.proofs.Things.{stands_message}
 
 -- ---- what tokens complete
@@ -58,36 +65,23 @@ awaits_token order k n r s e = grind arith
 -- no native serves what waits for a token
 unchanged_redeemed : (p : Image) (t : Typing) (cs : List Cell) (ls : List Layer) → Good p t cs ls → (order : Option ℕ) (code : ℤ) → Unchanged p cs (redeemed_by order code cs)
 unchanged_redeemed p t cs ls good None code = unchanged_itself p cs
-unchanged_redeemed p t cs ls good (Some order) code = record { owes = λ n m. owing n m (awaits order (requested cs m)) refl; meets = meeting }
-  where
-    us : List Cell
-    us = all_redeemed order code cs
-
-    objects : (m : ℕ) → named us m ≡ named cs m
-    objects m = (redeemed_by_alike (Some order) code cs).named_so m
-
-    unserved : (n m : ℕ) → awaits order (requested cs m) ≡ true → (o : Option Object) → named cs m ≡ o → serves_object p n o ≡ false
-    unserved n m e x lives = grind (arith, nat_tests, named_name cs m, served_none p n, awaits_token order)
-
-    owing : (n m : ℕ) (b : Bool) → awaits order (requested cs m) ≡ b → owes p us n m ≡ owes p cs n m
-    owing n m true e =
-        let none = unserved n m e (named cs m) refl in
-        ap (λ o. serves_object p n o && is_owed (requested us m)) (objects m) ∙ ap (λ b. b && is_owed (requested us m)) none ∙ sym (ap (λ b. b && is_owed (requested cs m)) none)
-    owing n m false e =
-        ap (λ o. serves_object p n o && is_owed (requested us m)) (objects m)
-        ∙ ap (λ r. serves p cs n m && is_owed r) (requested_redeemed order code cs m ∙ ap (λ b. cond b (on_request (redeemed_with code) (requested cs m)) (requested cs m)) e)
-
-    meeting : (n m : ℕ) → meets p us n m ≡ meets p cs n m
-    meeting n m = ap (λ o. serves_object p n o && in_session us m) (objects m) ∙ ap (λ b. serves p cs n m && b) (read_kept (redeeming order code) sessions (λ c. refl) cs m)
+unchanged_redeemed p t cs ls good (Some order) code = search (
+  arith,
+  nat_tests,
+  redeemed_by_alike (Some order) code cs,
+  named_name cs,
+  served_none p,
+  awaits_token order,
+  requested_redeemed order code cs,
+  read_kept (redeeming order code) sessions,
+  redeeming order code,
+  sessions,
+)
 
 -- ---- an instruction
 
-abbrev IsNothing : Exchange → Type 0
-IsNothing Nothing = Unit {0}
-IsNothing _ = ⊥
-
-module _ (p : Image) (t : Typing) (c : Choice) (fr : Frame) (ts : List Task) (s : State) (ls : List Layer) (good : Good p t s.cells ls) (holds : SessionsHold p s)
-    (alive : IsAlive s.cells fr.home) (unused : named s.cells c.name ≡ None) where
+module _ (p : Image) (t : Typing) (c : Choice) (fr : Frame) (ts : List Task) (s : State)
+    (ls : List Layer) (good : Good p t s.cells ls) (holds : SessionsHold p s) (alive : IsAlive s.cells fr.home) (unused : named s.cells c.name ≡ None) where
   -- the cells after an instruction
   abbrev after : Instr → List Cell
   after i = (applied p fr ts (counted p s) (effect p c fr ts (counted p s) i)).cells
@@ -130,7 +124,8 @@ module _ (p : Image) (t : Typing) (c : Choice) (fr : Frame) (ts : List Task) (s 
   cancels : (b : Bool) → in_phase is_active (own_request s.cells fr.home) ≡ b → (m : Option ℕ) → Unchanged p s.cells (applied p fr ts (counted p s) (cancels_if fr b m)).cells
   cancels x e m = grind (arith, nat_tests, asked_same p c.answer s fr.home, cancelling_owed, unchanged_itself p s.cells)
 
-  returns : (a : ℕ) → AllTrue (needs p c fr ts (counted p s) (Return a)) → Unchanged p s.cells (returned p fr ts (record (counted p s) { cells = ended_cells p fr s.cells }) (gives_of p fr.method) a ts).cells
+  returns : (a : ℕ) → AllTrue (needs p c fr ts (counted p s) (Return a)) →
+      Unchanged p s.cells (returned p fr ts (record (counted p s) { cells = ended_cells p fr s.cells }) (gives_of p fr.method) a ts).cells
   returns a met = grind (arith, nat_tests, all_parts, unchanged_along p s.cells, ended_same p c.answer s fr ts, returned_unchanged p fr ts)
 
   is_message : (a : ℕ) (x : Object) → held s.cells (here fr ts (counted p s) a) ≡ Some x → is_thing p Message (held s.cells (here fr ts (counted p s) a)) ≡ true → x.thing ≡ Message
@@ -153,8 +148,8 @@ module _ (p : Image) (t : Typing) (c : Choice) (fr : Frame) (ts : List Task) (s 
   )
 
   silently : (i : Instr) → exchange i ≡ Nothing → AllTrue (needs p c fr ts (counted p s) i) → Tells Nothing i
-  silently (Enlist priority) none met = silent (Enlist priority) (asked_same p c.answer s fr.home (Some (first_request s.cells priority)) (sym (none_owed (own_request s.cells fr.home) met.1.0)))
-  silently SetActive none met = silent SetActive (asked_same p c.answer s fr.home (on_request waits (own_request s.cells fr.home)) (waits_owed (own_request s.cells fr.home) met.1.1.1.0))
+  silently (Enlist priority) none met = silent (Enlist priority) (grind (arith, nat_tests, asked_same p c.answer s fr.home, none_owed))
+  silently SetActive none met = silent SetActive (grind (arith, nat_tests, asked_same p c.answer s fr.home, waits_owed))
   silently Cancel none met = silent Cancel (cancels (in_phase is_active (own_request s.cells fr.home)) refl (cancel_method p fr))
   silently (Return a) none met = silent (Return a) (returns a met)
   silently (Reply a b) none met =
@@ -167,19 +162,8 @@ module _ (p : Image) (t : Typing) (c : Choice) (fr : Frame) (ts : List Task) (s 
       (λ x there. is_message a x (sym ((redeemed_by_alike order code s.cells).held_so (here fr ts (counted p s) a)) ∙ there) met.1.1.0)))
   silently (Hand a) none met = silent (Hand a) (hands (is_crowded p s.cells) a met.1.0)
   -- the others leave all as it is, whatever a test of theirs decides
-  silently i none met = grind (
-    arith,
-    nat_tests,
-    aside i,
-    jumps_aside,
-    misses_aside,
-    round_aside,
-    deletes_aside,
-    deals_aside,
-    makes_aside,
-    refused_aside,
-    leaves_aside,
-  )
+  silently i none met =
+      grind (arith, nat_tests, aside i, jumps_aside, misses_aside, round_aside, deletes_aside, deals_aside, makes_aside, refused_aside, leaves_aside)
 
   tells : (i : Instr) → AllTrue (needs p c fr ts (counted p s) i) → Tells (exchange i) i
   tells = by_exchange (λ i x. AllTrue (needs p c fr ts (counted p s) i) → Tells x i) (λ a met. connect_told p c.answer s fr ts holds fr.home alive)
@@ -240,40 +224,35 @@ abbrev IsCalm : Image → State → State → Type 0
 IsCalm p s u = Unchanged p s.cells u.cells × (u.killed ≡ s.killed)
 
 object_calm : (p : Image) (s : State) → IsCalm p s (object_ends p s)
-object_calm p s = (main_unchanged p s.rest.stopped (held s.cells (Elsewhere Root)) (handled s), main_killed p s.rest.stopped (held s.cells (Elsewhere Root)) (handled s))
+object_calm p s = (main_unchanged p s.rest.stopped (held s.cells (Elsewhere Root)) (handled s), grind (arith, nat_tests, main_killed))
 
 answer_calm : (p : Image) (answer : ℤ) (s : State) → IsCalm p s (answered p answer s)
 answer_calm p answer s = grind (arith, nat_tests, object_calm p s, unchanged_itself p s.cells)
 
 module _ (p : Image) (t : Typing) (s : State) where
   -- what a service has left is a message
-  left_message :
-      (x : Seat) (client : ℕ) (code : ℤ) (seats : List Seat) (below : List Layer) → Good p t s.cells (Dispatching (Of_server x client (Service_left code)) seats ∷ below) → (y : Object) →
-      held s.cells (Elsewhere In_service) ≡ Some y → y.thing ≡ Message
+  left_message : (x : Seat) (client : ℕ) (code : ℤ) (seats : List Seat) (below : List Layer) → Good p t s.cells
+      (Dispatching (Of_server x client (Service_left code)) seats ∷ below) → (y : Object) → held s.cells (Elsewhere In_service) ≡ Some y → y.thing ≡ Message
   left_message x client code seats below good y there = grind (arith, nat_tests, stands_message p y.thing)
 
-  stage_calm :
-      (x : Seat) (client : ℕ) (stage : Stage) (seats : List Seat) (below : List Layer) → Good p t s.cells (Dispatching (Of_server x client stage) seats ∷ below) →
-      IsCalm p s (stage_ends x client stage s)
+  stage_calm : (x : Seat) (client : ℕ) (stage : Stage) (seats : List Seat) (below : List Layer) →
+      Good p t s.cells (Dispatching (Of_server x client stage) seats ∷ below) → IsCalm p s (stage_ends x client stage s)
   stage_calm x client (Service_left code) seats below good =
       (unchanged_completed p t s.cells (Dispatching (Of_server x client (Service_left code)) seats ∷ below) good (Elsewhere In_service) (left_message x client code seats below good), refl)
-  stage_calm x client Parts seats below good = (unchanged_served p s.cells x.object.name _, refl)
-  stage_calm x client _ seats below good = (unchanged_itself p s.cells, refl)
+  stage_calm x client y seats below good = grind (arith, nat_tests, unchanged_served p s.cells x.object.name, unchanged_itself p s.cells)
 
   end_calm : (d : Dispatch) (seats : List Seat) (below : List Layer) → Good p t s.cells (Dispatching d seats ∷ below) → IsCalm p s (dispatch_ends p d s)
   end_calm Of_main seats below good = (main_unchanged p s.rest.stopped (held s.cells (Elsewhere Root)) s, main_killed p s.rest.stopped (held s.cells (Elsewhere Root)) s)
-  end_calm (Main_left code) seats below good = (unchanged_itself p s.cells, refl)
-  end_calm Of_root seats below good = (unchanged_itself p s.cells, refl)
   end_calm (Of_object x) seats below good = object_calm p s
   end_calm (Object_left x code) seats below good = grind (arith, nat_tests, answer_calm p code s, unchanged_itself p s.cells)
   end_calm (Asks x) seats below good = object_calm p s
   end_calm (Answered x answer) seats below good = answer_calm p answer s
   end_calm (Of_server x client stage) seats below good = stage_calm x client stage seats below good
+  end_calm _ seats below good = (unchanged_itself p s.cells, refl)
 
 -- a server that goes lets go of a session, or its destructor begins
 parting_calm : (p : Image) (o : Object) (first : Option Seat) (ts : List Task) (s : State) → IsCalm p s (parting p o first ts s)
-parting_calm p o None ts s = (unchanged_itself p s.cells, refl)
-parting_calm p o (Some x) ts s = (unchanged_moved p s.cells x.place (Going (length (Closing ∷ Destroy ∷ ts))), refl)
+parting_calm p o x ts s = grind (arith, nat_tests, unchanged_itself, unchanged_moved)
 
 -- ---- any move
 
@@ -299,7 +278,7 @@ module _ (p : Image) (t : Typing) (c : Choice) (s u : State) (w : WellTyped p t 
   of_method fr ts i at there = (told, ap (λ (x : State). x.killed) acts.2 ∙ applied_killed p fr ts (counted p s) (effect p c fr ts (counted p s) i))
     where
       acts : AllTrue (needs p c fr ts (counted p s) i) × Fits p c fr ts (counted p s) i (effect p c fr ts (counted p s) i) × (u ≡ applied p fr ts (counted p s) (effect p c fr ts (counted p s) i))
-      acts = acted p c (counted p s) u fr ts i (subst (λ x. step_instr p c fr ts (counted p s) x ≡ Goes u) there (subst (λ l. step_task p c (counted p s) l ≡ Goes u) at e))
+      acts = acted p c (counted p s) u fr ts i (grind (arith, nat_tests))
 
       alive : IsAlive s.cells fr.home
       alive = method_layer (λ ls. Good p t s.cells ls) fr ts w.layers (sym w.tasks ∙ at) w.good (λ sh below _ good. alive_home p s.cells below fr.home good.stack.2)
@@ -324,8 +303,8 @@ module _ (p : Image) (t : Typing) (c : Choice) (s u : State) (w : WellTyped p t 
       after = guarded_goes (needs_gone less.cells o) _ u goes
 
       unqueued : Told p c.answer less (wanted_gone less p (Some o)) (without (Going (length ts)) less.cells)
-      unqueued =
-          goes_told p c.answer less (sessions_along p s less (unchanged_unqueued p t s.cells w.layers w.good o.name) refl holds) (tidy_unqueued p t s.cells w.layers w.good o.name) (length ts) o
+      unqueued = goes_told p c.answer less (sessions_along p s less (unchanged_unqueued p t s.cells w.layers w.good o.name) refl holds)
+          (tidy_unqueued p t s.cells w.layers w.good o.name) (length ts) o
           (going_unqueued p t s.cells w.layers w.good o.name (length ts) o there) (guarded_met (needs_gone less.cells o) _ u goes).1.1.0
 
       same_call : wanted_gone less p (Some o) ≡ wanted_gone s p (Some o)
@@ -336,25 +315,23 @@ module _ (p : Image) (t : Typing) (c : Choice) (s u : State) (w : WellTyped p t 
           go (Some n) = ap (λ b. wanted_if b (Closes n o.name)) (session_unqueued p t s.cells w.layers w.good o.name (length ts) o there)
 
       told : Told p c.answer s (wanted p s) u.cells
-      told =
-          subst (λ l. Told p c.answer s (wanted_task s p l) u.cells) (sym at)
-          (subst (λ x. Told p c.answer s (wanted_gone s p x) u.cells) (sym there)
-          (subst (λ (x : State). Told p c.answer s (wanted_gone s p (Some o)) x.cells) after
-          (told_along p c.answer s (wanted_gone s p (Some o)) _ _ (unchanged_unslotted p (service_of s.cells o.name).sessions _ (tidy_without less.cells (Going (length ts)) (tidy_unqueued p t s.cells w.layers w.good o.name)))
-          (subst (λ x. Told p c.answer s x (without (Going (length ts)) less.cells)) same_call
-          (told_before p c.answer s less (unchanged_unqueued p t s.cells w.layers w.good o.name) (λ k m. serves_unqueued p t s.cells w.layers w.good o.name k m) refl (wanted_gone less p (Some o)) _ unqueued)))))
+      told = subst (λ l. Told p c.answer s (wanted_task s p l) u.cells) (sym at) (subst (λ x. Told p c.answer s (wanted_gone s p x) u.cells)
+          (sym there) (subst (λ (x : State). Told p c.answer s (wanted_gone s p (Some o)) x.cells) after (told_along p c.answer s
+          (wanted_gone s p (Some o)) _ _ (grind (arith, nat_tests, unchanged_unslotted, tidy_without, tidy_unqueued)) (subst (λ x. Told p c.answer s x
+          (without (Going (length ts)) less.cells)) same_call (told_before p c.answer s less (unchanged_unqueued p t s.cells w.layers w.good o.name)
+          (λ k m. serves_unqueued p t s.cells w.layers w.good o.name k m) refl (wanted_gone less p (Some o)) _ unqueued)))))
 
   of_move : Move p c s u → Tale
   of_move (Acts fr ts i effect at there met fits same) = of_method fr ts i at there
   of_move (Vanishes ts o at there owns same) = of_going ts o at there
   of_move (Rests still same) = calmly _ same (still_asks_none p s s.tasks still) (unchanged_itself p s.cells, refl)
-  of_move (Clears code ts items o at top there same) = calmly _ same (ap (λ l. wanted_task s p l) at) (unchanged_moved p s.cells (Entry (length items)) (Going (length (Unwind code ∷ ts))), refl)
+  of_move (Clears code ts items o at top there same) = grind (arith, nat_tests, calmly, unchanged_moved p s.cells)
   of_move (Undoes code ts items m x at top same) = calmly _ same (ap (λ l. wanted_task s p l) at) (unchanged_itself p s.cells, refl)
   of_move (Arrives code fr ts items at top same) = calmly _ same (ap (λ l. wanted_task s p l) at) (unchanged_itself p s.cells, refl)
   of_move (Comes_out code d ts items at top same) = calmly _ same (ap (λ l. wanted_task s p l) at) (unchanged_itself p s.cells, refl)
-  of_move (Ends d ts at same) =
-      calmly _ same (ap (λ l. wanted_task s p l) at) (dispatch_layer (λ ls. Good p t s.cells ls) d ts w.layers (sym w.tasks ∙ at) w.good (λ seats below _ good. end_calm p t (counted p s) d seats below good))
-  of_move (Empties ts o at there same) = calmly _ same (ap (λ l. wanted_task s p l) at) (parting_calm p o (first_session s.cells o.name (service_of s.cells o.name).sessions) ts (counted p s))
+  of_move (Ends d ts at same) = calmly _ same (ap (λ l. wanted_task s p l) at)
+      (dispatch_layer (λ ls. Good p t s.cells ls) d ts w.layers (sym w.tasks ∙ at) w.good (λ seats below _ good. end_calm p t (counted p s) d seats below good))
+  of_move (Empties ts o at there same) = calmly _ same (ap (λ l. wanted_task s p l) at) (grind (arith, nat_tests, parting_calm p o))
 
   move_told : FollowsCall p c s u
   move_told = let tale = of_move (steps_are_moves p c s u e) in record {

@@ -1,6 +1,6 @@
 -- What is there stays there as a method moves, returns, or is left: connects wait as before, and the same dispatch stands below all.
 use Rattle.std.proofs.lemmas.Bool.Decides.{nat_tests}
-use Rattle.std.proofs.Common.{Bool, List, None, Option, Some, [], ap, cond, false, length, refl, subst, suc, sym, true, ℕ, ℤ, ◌&&◌, ◌==◌, ◌∙◌, ◌∷◌, ◌≡◌, arith}
+use Rattle.std.proofs.Common.{Bool, List, None, Option, Some, [], ap, cond, false, length, refl, subst, sym, true, ℕ, ℤ, ◌&&◌, ◌==◌, ◌∙◌, ◌∷◌, ◌≡◌, arith}
 use Rattle.std.proofs.lemmas.Bool.{eqb-true, true≢false}
 use Rattle.std.specs.List.{list_any}
 use Rattle.std.specs.Prelude.{◌||◌}
@@ -15,14 +15,15 @@ use Rattle.aom_safety.proofs.Queues.{client_here, client_there}
 use Rattle.aom_safety.proofs.Services.{service_moved}
 use Rattle.aom_safety.proofs.Storing.{rerequested_alike}
 use Rattle.aom_semantics.specs.Calls.{accepted_cells, accepted_clients, answered_by, ended_well, returned}
-use Rattle.aom_semantics.specs.Cleanup.{arrived, destroyed, ended_by, to_trap, top_is_whole, top_place, unwound}
+use Rattle.aom_semantics.specs.Cleanup.{arrived, destroyed, ended_by, to_trap, top_is_whole, unwound}
 use Rattle.aom_semantics.specs.Clients.{at_opening, client_at, with_client}
 use Rattle.aom_semantics.specs.Destruction.{begun, begun_by, line_on}
 use Rattle.aom_semantics.specs.Effects.{Calls, Cancels, Destroys, Destroys_last, Effect, Goes_on, Leaves, Returns, Sets_trap, applied}
 use Rattle.aom_safety.specs.Kept.{is_connect_of}
 use Rattle.aom_semantics.specs.Places.{Cell, Elsewhere, Entry, Going, Object, Place, Session, held, moved}
 use Rattle.aom_semantics.specs.Servers.{opened}
-use Rattle.aom_semantics.specs.State.{Home, A_mark, Accepts, An_object, An_operation, Destroy, Dispatch, Dispatched, Frame, Goes, IsStuck, Item, NullOrDead, Of_server, Run, Serves, State, Task, Trapped, Unwind, resumed}
+use Rattle.aom_semantics.specs.State.{Home, A_mark, Accepts, An_object, An_operation, Destroy, Dispatch, Dispatched, Frame, Goes}
+use Rattle.aom_semantics.specs.State.{IsStuck, Item, NullOrDead, Of_server, Run, Serves, State, Task, Trapped, Unwind, resumed}
 use Rattle.aom_semantics.specs.Words.{here}
 use Rattle.aom_safety.proofs.ClientsMoves.{steady_asked}
 use Rattle.aom_safety.proofs.ClientsTurn.{on_none}
@@ -61,9 +62,9 @@ module _ (p : Image) (fr : Frame) (ts : List Task) (s : State) (there : AreThere
   effect_there (Returns g a) f = absurd f
   effect_there (Leaves code u) f = by (applied p fr ts s (Leaves code u)) refl (calm_update p fr ts s u f) (dispatch_to_trap ts)
   effect_there (Destroys x a words) f =
-      by (applied p fr ts s (Destroys x a words)) refl (calm_moved s.cells (here fr ts s a) (Going (suc (length ts))) (λ n c. refl) (λ n c. refl)) (dispatch_begun p x _ (Run _ ∷ ts))
+      by (applied p fr ts s (Destroys x a words)) refl (grind (arith, nat_tests, calm_moved)) (dispatch_begun p x _ (Run _ ∷ ts))
   effect_there (Destroys_last x) f =
-      by (applied p fr ts s (Destroys_last x)) refl (calm_moved s.cells (top_place s.items) (Going (suc (length ts))) (λ n c. refl) (λ n c. refl)) (dispatch_begun p x _ (Run _ ∷ ts))
+      by (applied p fr ts s (Destroys_last x)) refl (grind (arith, nat_tests, calm_moved)) (dispatch_begun p x _ (Run _ ∷ ts))
   effect_there r f = by (applied p fr ts s r) refl (calm_itself s.cells) refl
 
 -- ---- a method returns
@@ -109,13 +110,12 @@ module _ (p : Image) (fr : Frame) (ts : List Task) (s : State) where
   answered_there : (answer : ℤ) (d : Dispatch) → AreThere s.clients s.cells (Some d) → AreThere s.clients s.cells (Some (answered_by answer d))
   answered_there answer x there = grind arith
 
-  pub returned_there :
-      (g : Gives) (a : ℕ) (below : List Task) → s.tasks ≡ Run fr ∷ ts → AreThere s.clients s.cells (dispatch_of below) → AreThere s.clients s.cells (dispatch_of ts) →
-      AllThere (returned p fr ts s g a below)
+  pub returned_there : (g : Gives) (a : ℕ) (below : List Task) → s.tasks ≡ Run fr ∷ ts →
+      AreThere s.clients s.cells (dispatch_of below) → AreThere s.clients s.cells (dispatch_of ts) → AllThere (returned p fr ts s g a below)
   returned_there g a (Run caller ∷ below) tasks there all = there_by s.clients s.cells (dispatch_of below) s.clients _ _ refl (calm_result p fr ts s g a _ below) refl there
   returned_there g a (Trapped ∷ Run caller ∷ below) tasks there all = there_by s.clients s.cells (dispatch_of below) s.clients _ _ refl (calm_result p fr ts s g a _ below) refl there
   returned_there g a (Trapped ∷ Dispatched d ∷ below) tasks there all = accepted_there d (here fr ts s a) there
-  returned_there g a (Destroy ∷ below) tasks there all = subst (λ d. AreThere s.clients s.cells d) (sym (dispatch_line p fr.method fr.home fr.height below)) there
+  returned_there g a (Destroy ∷ below) tasks there all = grind (arith, nat_tests, dispatch_line)
   returned_there g a (Unwind code ∷ below) tasks there all = there
   returned_there g a (Dispatched d ∷ below) tasks there all = answered_there _ d there
   returned_there g a _ tasks there all = subst (λ l. AreThere s.clients s.cells (dispatch_of l)) (sym tasks) all

@@ -8,18 +8,22 @@ use Rattle.aom_instructions.specs.declared.instr.Target.{Target}
 use Rattle.aom_image.specs.declared.method.Argument.{Argument}
 use Rattle.aom_image.specs.declared.method.Argument.TheVariants.{Own as Takes_own, Word as Takes_word}
 use Rattle.aom_image.specs.declared.method.Gives.{Gives}
-use Rattle.aom_image.specs.declared.method.Gives.TheVariants.{Left, Maybe as A_maybe, Nothing, Own as An_own, Word as A_word}
+use Rattle.aom_image.specs.declared.method.Gives.TheVariants.{Maybe as A_maybe, Own as An_own}
 use Rattle.aom_image.specs.declared.method.Thing.{Thing}
 use Rattle.aom_image.specs.declared.method.Thing.TheVariants.{Message, Object as An_object_of}
-use Rattle.aom_semantics.specs.Calls.{none_filled, end_needs, is_asked, given_cells, is_level, is_worked_on, leaves_object, needs_argument, needs_call, needs_destroyed, needs_each, needs_ended, needs_entering, needs_reply, needs_result, needs_return, needs_target, needs_target_object, needs_trap, passed_cells, result_needs}
+use Rattle.aom_semantics.specs.Calls.{none_filled, end_needs, is_asked, given_cells, is_level, is_worked_on, leaves_object, needs_argument}
+use Rattle.aom_semantics.specs.Calls.{needs_call, needs_destroyed, needs_each, needs_ended, needs_entering, needs_reply, needs_result}
+use Rattle.aom_semantics.specs.Calls.{needs_return, needs_target, needs_target_object, needs_trap, passed_cells, result_needs}
 use Rattle.aom_semantics.specs.Cleanup.{above_trap_is_free, has_trap, if_refused, leave_needs, needs_push, pushed_cells, top_is_whole}
 use Rattle.aom_semantics.specs.Enlisted.{home_kind, own_request}
 use Rattle.aom_semantics.specs.Objects.{is_declared_thing, is_no_message, is_thing, needs_put, needs_take_message}
 use Rattle.aom_semantics.specs.Places.{Cell, Elsewhere, Entry, In_service, Object, Place, Register, held}
-use Rattle.aom_semantics.specs.State.{A_mark, An_object, An_operation, Choice, Dispatch, Frame, Home, Item, Need, Run, State, Task, Trapped, field_place, guarded, home_view}
+use Rattle.aom_semantics.specs.State.{A_mark, An_object, An_operation, Choice, Dispatch, Frame, Home, Item}
+use Rattle.aom_semantics.specs.State.{Need, Run, State, Task, Trapped, field_place, guarded, home_view}
 use Rattle.aom_determinism.proofs.NamedCells.{held_renamed, past_kept, moved_renamed, none_owns_kept, redeemable_kept, requested_kept, tasks_counted}
 use Rattle.aom_determinism.proofs.Serving.{token_named, without_queue_renamed}
-use Rattle.aom_determinism.specs.Names.{IsOneToOne, renamed, renamed_cells, renamed_choice, renamed_dispatch, renamed_frame, renamed_home, renamed_object, renamed_outcome, renamed_place, renamed_tasks}
+use Rattle.aom_determinism.specs.Names.{IsOneToOne, renamed, renamed_cells, renamed_choice, renamed_dispatch, renamed_frame}
+use Rattle.aom_determinism.specs.Names.{renamed_home, renamed_object, renamed_outcome, renamed_place, renamed_tasks}
 
 -- ---- what is asked of an object, none of which is its name
 
@@ -173,13 +177,8 @@ module _ (names : ℕ → ℕ) (one_to_one : IsOneToOne names) (p : Image) (c : 
       passed_cells p fr' ts' s' depth xs first to (renamed_cells names cs) ≡ renamed_cells names (passed_cells p fr ts s depth xs first to cs)
   passed_renamed depth [] first to cs = refl
   passed_renamed depth (Takes_word ∷ xs) first to cs = passed_renamed depth xs (suc first) (suc to) cs
-  passed_renamed depth (Takes_own t ∷ xs) first to cs = grind (
-    arith,
-    nat_tests,
-    tasks_counted names ts,
-    moved_renamed names one_to_one,
-    passed_renamed depth xs,
-  )
+  passed_renamed depth (Takes_own t ∷ xs) first to cs =
+      grind (arith, nat_tests, tasks_counted names ts, moved_renamed names one_to_one, passed_renamed depth xs)
 
   -- over these tasks
   pub given_renamed : (over : List Task) (m first : ℕ) → given_cells p fr' ts' s' (renamed_tasks names over) m first ≡ renamed_cells names (given_cells p fr ts s over m first)
@@ -195,42 +194,28 @@ module _ (names : ℕ → ℕ) (one_to_one : IsOneToOne names) (p : Image) (c : 
   call_kept target m first a = grind (arith, nat_tests, entering_kept target m first, given_renamed (Run fr ∷ ts) m first, result_kept)
 
   pub under_trap_kept : (target : Target) (m first a : ℕ) → needs_trap p fr' ts' s' target m first a ≡ needs_trap p fr ts s target m first a
-  under_trap_kept target m first a = grind (
-    arith,
-    nat_tests,
-    entering_kept target m first,
-    given_renamed (Trapped ∷ Run fr ∷ ts) m first,
-    result_kept,
-    free_at names one_to_one,
-  )
+  under_trap_kept target m first a =
+      grind (arith, nat_tests, entering_kept target m first, given_renamed (Trapped ∷ Run fr ∷ ts) m first, result_kept, free_at names one_to_one)
 
   -- ---- returns
 
   result_needs_kept : (g : Gives) (a : ℕ) → result_needs p fr' ts' s' g a ≡ result_needs p fr ts s g a
-  result_needs_kept Nothing a = refl
-  result_needs_kept A_word a = refl
   result_needs_kept (An_own t) a = argument_kept (Takes_own t) a
   result_needs_kept (A_maybe t) a = rw (thing_at names one_to_one p t s.cells ts a)
-  result_needs_kept (Left x) a = refl
+  result_needs_kept _ a = refl
 
   end_kept : (below : List Task) → end_needs p fr' ts' s' (renamed_tasks names below) ≡ end_needs p fr ts s below
   end_kept x = grind (arith, nat_tests, destroyed_kept names one_to_one p fr.method s.cells fr.home, ended_kept names one_to_one, is_asked_kept names)
 
   leaves_object_kept : (x : ℕ) (items : List Item) → leaves_object p fr' ts' s' x items ≡ leaves_object p fr ts s x items
   leaves_object_kept x [] = refl
-  leaves_object_kept x (An_object ∷ items) = grind (
-    arith,
-    nat_tests,
-    held_renamed names one_to_one s.cells,
-    some_kept names,
-    thing_kept names p (An_object_of x),
-  )
+  leaves_object_kept x (An_object ∷ items) =
+      grind (arith, nat_tests, held_renamed names one_to_one s.cells, some_kept names, thing_kept names p (An_object_of x))
   leaves_object_kept x (An_operation m w ∷ items) = refl
   leaves_object_kept x (A_mark ∷ items) = refl
 
   level_kept : (g : Gives) → is_level p fr' ts' s' g ≡ is_level p fr ts s g
-  level_kept (Left x) = leaves_object_kept x s.items
-  level_kept _ = refl
+  level_kept x = grind (arith, nat_tests, leaves_object_kept)
 
   pub return_kept : (a : ℕ) → needs_return p fr' ts' s' a ≡ needs_return p fr ts s a
   return_kept a = grind (

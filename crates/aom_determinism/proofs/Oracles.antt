@@ -1,5 +1,6 @@
 -- What a run hears of natives is told by its moves and turns, one after another: an oracle that says so is one that the run follows.
-use Rattle.std.proofs.Common.{List, None, ap, arith, cond, pos, refl, suc, sym, ℕ, ◌<◌, ◌==◌, ◌∙◌, ◌≡◌}
+use Rattle.std.proofs.lemmas.Bool.Decides.{nat_tests}
+use Rattle.std.proofs.Common.{List, None, ap, arith, cond, pos, refl, suc, sym, ℕ, ◌<◌, ◌==◌, ◌≡◌}
 use Rattle.std.proofs.lemmas.Bool.{eq-eqb, ne_eqb}
 use Rattle.aom_image.specs.Image.{Image}
 use Rattle.aom_semantics.specs.State.{State}
@@ -29,10 +30,8 @@ sooner n one other same = record { answers = λ k lt. same.answers k (omega (ari
 module _ {p : Image} {outside : Environment} {from : State} where
   follows_both : (one other : Oracle) {lines : List Line} {s : State} (reached : Reaches p outside from lines s) → SameBefore (stages reached) one other → Follows one reached → Follows other reached
   follows_both one other begins same follows = tt
-  follows_both one other (moves c reached busy opened goes) same follows =
-      (follows_both one other reached (sooner (stages reached) one other same) follows.0, λ heard. follows.1 heard ∙ same.answers (stages reached) (omega arith))
-  follows_both one other (turns heard reached between well goes) same follows =
-      (follows_both one other reached (sooner (stages reached) one other same) follows.0, λ polled. follows.1 polled ∙ same.completes (stages reached) (omega arith))
+  follows_both one other (moves c reached busy opened goes) same follows = search (arith, nat_tests, follows_both one other reached, sooner)
+  follows_both one other (turns heard reached between well goes) same follows = search (arith, nat_tests, follows_both one other reached, sooner)
 
   -- what a run heard
   abbrev heard_by : {lines : List Line} {s : State} → Reaches p outside from lines s → Oracle

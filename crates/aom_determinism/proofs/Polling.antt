@@ -9,7 +9,8 @@ use Rattle.aom_semantics.specs.Enlisted.{thing_kind}
 use Rattle.aom_semantics.specs.Natives.{is_outstanding_at, native_of}
 use Rattle.aom_semantics.specs.Places.{Cell}
 use Rattle.aom_semantics.specs.State.{Choice, State}
-use Rattle.aom_semantics.specs.World.{AnswersWell, Candidate, Completion, Heard, Environment, Polls, Reaches, Timed, Turning, begins, by_event, by_timer, delivers, moves, next_native, nothing_heard, passes, picks, polls, turn, turning, turns}
+use Rattle.aom_semantics.specs.World.{AnswersWell, Candidate, Completion, Heard, Environment, Polls, Reaches, Timed, Turning, begins, by_event}
+use Rattle.aom_semantics.specs.World.{by_timer, delivers, moves, next_native, nothing_heard, passes, picks, polls, turn, turning, turns}
 use Rattle.aom_transcript.specs.declared.event.Event.{Event}
 use Rattle.aom_transcript.specs.declared.event.TimedEvent.{TimedEvent}
 use Rattle.aom_transcript.specs.declared.line.Line.{Line}
@@ -100,7 +101,7 @@ module _ (p : Image) (natives : HasNoNative p) where
     pub without : outside.natives ≡ 0 → {from : State} {lines : List Line} {s : State} (reached : Reaches p outside from lines s) → Follows oracle reached
     without none begins = tt
     without none (moves {s = s} c reached busy opened goes) = (without none reached, unheard_moves c s (stages reached))
-    without none (turns {s = s} heard reached between well goes) = (without none reached, λ polled. absurd (true≢false (sym polled ∙ none_polled outside s none)))
+    without none (turns {s = s} heard reached between well goes) = (without none reached, grind (arith, nat_tests, none_polled))
 
     pub idle : ((n : ℕ) → oracle.completes n ≡ None) → {from : State} {lines : List Line} {s : State} (reached : Reaches p outside from lines s) → Follows oracle reached
     idle nothing begins = tt
@@ -109,8 +110,4 @@ module _ (p : Image) (natives : HasNoNative p) where
         (idle nothing reached, grind (arith, nat_tests, nothing_completed s heard.completion, polling_named outside, told_turning heard outside s))
 
 pub nothing_is_heard : NothingIsHeard
-nothing_is_heard = record {
-  unnamed = unnamed_unserved;
-  without = λ p outside natives none oracle from lines s reached. without p natives outside oracle none reached;
-  idle = λ p outside natives oracle nothing from lines s reached. idle p natives outside oracle nothing reached;
-}
+nothing_is_heard = search (arith, nat_tests, unnamed_unserved, without, idle)

@@ -4,7 +4,6 @@ use Rattle.std.proofs.Common.{Bool, List, None, Option, Some, ap, arith, false, 
 use Rattle.std.proofs.lemmas.Bool.{eqb-true, ne_eqb}
 use Rattle.std.specs.Prelude.{◌||◌}
 use Rattle.aom_image.specs.Image.{Image}
-use Rattle.aom_image.specs.declared.method.Role.TheVariants.{Error as Answers}
 use Rattle.aom_classes.specs.Roles.{destructor_of}
 use Rattle.aom_clients.specs.Nodes.{is_connecting_at}
 use Rattle.aom_clients.specs.declared.client.Client.{Client}
@@ -22,12 +21,12 @@ use Rattle.aom_safety.specs.Claims.{Dying, Layer, tasks_of}
 use Rattle.aom_semantics.specs.Clients.{at_parting, client_at, with_client}
 use Rattle.aom_safety.proofs.Emptying.{found_first}
 use Rattle.aom_semantics.specs.Destruction.{closing, first_session, parting, parting_from}
-use Rattle.aom_semantics.specs.Enlisted.{part_of}
 use Rattle.aom_safety.specs.Kept.{ClientsFit}
 use Rattle.aom_semantics.specs.Moves.{answered, asking, dispatch_ends, handled, main_ends, object_ends, stage_ends}
 use Rattle.aom_semantics.specs.Places.{Cell, Elsewhere, Going, In_service, Object, Root, Session, Tidy, held, moved, service_of}
 use Rattle.aom_semantics.specs.Servers.{is_server, parted}
-use Rattle.aom_semantics.specs.State.{Accept_left, Accepted, Accepts, Answered, Asks, Closing, Destroy, Dispatch, Dispatched, Goes, Main_left, Object_left, Of_main, Of_object, Of_root, Of_server, Parts, Seat, Service_left, Serves, Stage, State, Task}
+use Rattle.aom_semantics.specs.State.{Accept_left, Accepted, Accepts, Answered, Asks, Closing, Destroy, Dispatch, Dispatched, Goes, Main_left, Object_left}
+use Rattle.aom_semantics.specs.State.{Of_main, Of_object, Of_root, Of_server, Parts, Seat, Service_left, Serves, Stage, State, Task}
 use Rattle.aom_safety.specs.WellTyped.{EndsDispatch, Gone, Now, SomeIn, Stack, WellTyped}
 use Rattle.aom_determinism.proofs.Fresh.{accepting, dispatch_at}
 use Rattle.aom_determinism.proofs.Keeping.{Calm, calm_itself, calm_moved, calm_reserved, still_either, there_by}
@@ -37,8 +36,8 @@ use Rattle.aom_determinism.specs.There.{AllThere, AreThere, IsAtPlace, accepts, 
 
 -- ---- what goes is not the server that is dispatched
 
-dying_apart :
-    (p : Image) (t : Typing) (cs : List Cell) (tidy : Tidy cs) (ls : List Layer) (ts : List Task) → Stack p t cs Now ls → Destroy ∷ ts ≡ tasks_of ls → (o : Object) → held cs (Going (length ts)) ≡ Some o →
+dying_apart : (p : Image) (t : Typing) (cs : List Cell) (tidy : Tidy cs) (ls : List Layer) (ts : List Task) →
+    Stack p t cs Now ls → Destroy ∷ ts ≡ tasks_of ls → (o : Object) → held cs (Going (length ts)) ≡ Some o →
     (x : Seat) (c : ℕ) (stage : Stage) → dispatch_of ts ≡ Some (Of_server x c stage) → (o.name == x.object.name) ≡ false
 dying_apart p t cs tidy ls ts stack tasks o there x c stage at = ne_eqb o.name x.object.name (λ same. u.some (subst (λ n. SomeIn n d.1) (sym same) l.2))
   where
@@ -55,16 +54,14 @@ dying_apart p t cs tidy ls ts stack tasks o there x c stage at = ne_eqb o.name x
     u = untouched p t cs (Going (length ts)) o tidy there (λ f. Null) d.1 Gone (subst (λ l. length (tasks_of d.1) ≤ length l) (sym d.3) (omega arith)) below
 
 -- of what a server that goes accepts
-accepted_apart :
-    (o : Object) (d : Option Dispatch) → ((x : Seat) (c : ℕ) (stage : Stage) → d ≡ Some (Of_server x c stage) → (o.name == x.object.name) ≡ false) → (n c : ℕ) → accepts n c d ≡ true →
-    (o.name == n) ≡ false
+accepted_apart : (o : Object) (d : Option Dispatch) → ((x : Seat) (c : ℕ) (stage : Stage) →
+    d ≡ Some (Of_server x c stage) → (o.name == x.object.name) ≡ false) → (n c : ℕ) → accepts n c d ≡ true → (o.name == n) ≡ false
 accepted_apart o d apart n c h = let a = accepting n c d h in ap (λ m. o.name == m) (sym a.name) ∙ apart a.seat a.client a.stage a.is
 
-pub gone_apart :
-    (p : Image) (t : Typing) (s : State) (w : WellTyped p t s) (ts : List Task) → s.tasks ≡ Destroy ∷ ts → (o : Object) → held s.cells (Going (length ts)) ≡ Some o →
-    (n c : ℕ) → accepts n c (dispatch_of ts) ≡ true → (o.name == n) ≡ false
-gone_apart p t s w ts tasks o there n c h =
-    accepted_apart o (dispatch_of ts) (λ x k stage at. dying_apart p t s.cells w.good.tidy w.layers ts w.good.stack (sym tasks ∙ w.tasks) o there x k stage at) n c h
+pub gone_apart : (p : Image) (t : Typing) (s : State) (w : WellTyped p t s) (ts : List Task) →
+    s.tasks ≡ Destroy ∷ ts → (o : Object) → held s.cells (Going (length ts)) ≡ Some o → (n c : ℕ) → accepts n c (dispatch_of ts) ≡ true → (o.name == n) ≡ false
+gone_apart p t s w ts tasks o there n c h = accepted_apart o
+    (dispatch_of ts) (λ x k stage at. dying_apart p t s.cells w.good.tidy w.layers ts w.good.stack (sym tasks ∙ w.tasks) o there x k stage at) n c h
 
 -- ---- the sessions of a server go
 
@@ -97,16 +94,16 @@ module _ (p : Image) (t : Typing) (s : State) (w : WellTyped p t s) (there : All
       before : AreThere s.clients s.cells (dispatch_of below)
       before = subst (λ ts. AreThere s.clients s.cells (dispatch_of ts)) tasks there
 
-      by_session :
-          (o : Object) → held s.cells (Going (length below)) ≡ Some o → (x : Option Seat) → first_session s.cells o.name (service_of s.cells o.name).sessions ≡ x →
-          AllThere (parting p o x below s)
-      by_session o at None first =
-          there_by s.clients s.cells (dispatch_of below) s.clients s.cells _ refl (calm_itself s.cells) (dispatch_begun_by p (destructor_of p o.thing) o (length s.items) below) before
+      by_session : (o : Object) → held s.cells (Going (length below)) ≡ Some o →
+          (x : Option Seat) → first_session s.cells o.name (service_of s.cells o.name).sessions ≡ x → AllThere (parting p o x below s)
+      by_session o at None first = there_by s.clients s.cells
+          (dispatch_of below) s.clients s.cells _ refl (calm_itself s.cells) (dispatch_begun_by p (destructor_of p o.thing) o (length s.items) below) before
       by_session o at (Some x) first =
           let found = found_first s.cells o.name (service_of s.cells o.name).sessions x first in
-          let goes = session_goes o found.client (length (Closing ∷ Destroy ∷ below)) (dispatch_of below) (λ x k stage d. dying_apart p t s.cells w.good.tidy l.0 below l.1 l.2 o at x k stage d) before in
+          let goes = session_goes o found.client (length (Closing ∷ Destroy ∷ below))
+          (dispatch_of below) (λ x k stage d. dying_apart p t s.cells w.good.tidy l.0 below l.1 l.2 o at x k stage d) before in
           there_by s.clients _ (dispatch_of below) s.clients _ _ refl (calm_itself _) (dispatch_begun p x.object (length s.items) (Closing ∷ Destroy ∷ below))
-          (subst (λ q. AreThere s.clients (moved q (Going (length (Closing ∷ Destroy ∷ below))) s.cells) (dispatch_of below)) (sym found.place) goes)
+          (rw found.place goes)
 
       by_server : (o : Option Object) → held s.cells (Going (length below)) ≡ o → parting_from p o below s ≡ Goes u → AllThere u
       by_server None at e = cc
@@ -125,10 +122,7 @@ IsPlain (Some (Of_server x c stage)) = ⊥
 IsPlain _ = Unit {0}
 
 pub plain_there : (clients : List Client) (cs : List Cell) (d : Option Dispatch) → IsPlain d → AllWait clients cs → AreThere clients cs d
-plain_there clients cs d plain all = record { asked = λ n c e. ap (λ b. b || accepts n c d) (all n c e); serves = go d plain }
-  where
-    go : (d : Option Dispatch) → IsPlain d → IsAtPlace cs d
-    go d h = grind arith
+plain_there clients cs d plain all = search (arith, nat_tests)
 
 or_true : (a b : Bool) → b ≡ false → (a || b) ≡ true → a ≡ true
 or_true x b e h = grind arith
@@ -159,8 +153,7 @@ module _ (p : Image) (s : State) (all : AllWait s.clients s.cells) where
   answer_there answer = grind (arith, nat_tests, object_there, plain_there s.clients s.cells None)
 
   asking_there : (m : Option ℕ) (x : Seat) (code : ℤ) → AllThere (asking p m x code s)
-  asking_there None x code = answer_there code
-  asking_there (Some m) x code = plain_there s.clients s.cells (Some (Asks x)) tt all
+  asking_there x y code = grind (arith, nat_tests, answer_there, plain_there)
 
 module _ (p : Image) (s : State) (fit : ClientsFit p s.clients s.cells) (tidy : Tidy s.cells) (plain : (o : Object) → held s.cells (Elsewhere In_service) ≡ Some o → is_server p o.thing ≡ false) where
   -- a client is at something else, where it does not connect
@@ -174,8 +167,8 @@ module _ (p : Image) (s : State) (fit : ClientsFit p s.clients s.cells) (tidy : 
 
   stage_there : (x : Seat) (c : ℕ) (stage : Stage) → EndsDispatch p (Of_server x c stage) Now → AreThere s.clients s.cells (Some (Of_server x c stage)) → AllThere (stage_ends x c stage s)
   stage_there x c Accepts ends there = absurd ends
-  stage_there x c Accepted ends there = plain_there s.clients s.cells (Some (Of_object x)) tt (all_wait s.clients s.cells (Some (Of_server x c Accepted)) (λ n d. refl) there)
-  stage_there x c (Serves o) ends there = plain_there s.clients s.cells (Some (Of_object x)) tt (all_wait s.clients s.cells (Some (Of_server x c (Serves o))) (λ n d. refl) there)
+  stage_there x c Accepted ends there = grind (arith, nat_tests, plain_there, all_wait)
+  stage_there x c (Serves o) ends there = grind (arith, nat_tests, plain_there, all_wait)
   stage_there x c (Accept_left code) ends there = grind (arith, nat_tests, plain_there, all_with c Unconnected, or_true, or_none)
   stage_there x c (Service_left code) ends there = grind (
     arith,
@@ -188,14 +181,14 @@ module _ (p : Image) (s : State) (fit : ClientsFit p s.clients s.cells) (tidy : 
   stage_there x c Parts ends there =
       let all : AllWait s.clients s.cells = all_wait s.clients s.cells (Some (Of_server x c Parts)) (λ n d. refl) there in
       plain_there _ _ (Some (Of_object x)) tt
-      (calm_waits _ s.cells _ (calm_reserved (parted c) (λ v k h. h) s.cells x.object.name) (all_with c (at_parting (client_at s.clients c)) (λ n d other e. all n d e) (λ n e. all n c (parting_connecting n (client_at s.clients c) e))))
+      (calm_waits _ s.cells _ (calm_reserved (parted c) (λ v k h. h) s.cells x.object.name) (grind (arith, nat_tests, all_with, parting_connecting)))
 
   ends_there : (d : Dispatch) → EndsDispatch p d Now → AreThere s.clients s.cells (Some d) → AllThere (dispatch_ends p d s)
   ends_there Of_main ends there = main_there p s (all_wait s.clients s.cells (Some Of_main) (λ n d. refl) there) s.rest.stopped (held s.cells (Elsewhere Root))
   ends_there (Main_left code) ends there = plain_there s.clients s.cells None tt (all_wait s.clients s.cells (Some (Main_left code)) (λ n d. refl) there)
   ends_there Of_root ends there = plain_there s.clients s.cells None tt (all_wait s.clients s.cells (Some Of_root) (λ n d. refl) there)
   ends_there (Of_object x) ends there = object_there p s (all_wait s.clients s.cells (Some (Of_object x)) (λ n d. refl) there)
-  ends_there (Object_left x code) ends there = asking_there p s (all_wait s.clients s.cells (Some (Object_left x code)) (λ n d. refl) there) (part_of p Answers x.object.thing) x code
+  ends_there (Object_left x code) ends there = grind (arith, nat_tests, asking_there, all_wait)
   ends_there (Asks x) ends there = object_there p s (all_wait s.clients s.cells (Some (Asks x)) (λ n d. refl) there)
   ends_there (Answered x answer) ends there = answer_there p s (all_wait s.clients s.cells (Some (Answered x answer)) (λ n d. refl) there) answer
   ends_there (Of_server x c stage) ends there = stage_there x c stage ends there
@@ -204,12 +197,8 @@ module _ (p : Image) (s : State) (fit : ClientsFit p s.clients s.cells) (tidy : 
 top_dispatch : (p : Image) (t : Typing) (cs : List Cell) (ls : List Layer) (d : Dispatch) (ts : List Task) → Stack p t cs Now ls → Dispatched d ∷ ts ≡ tasks_of ls → EndsDispatch p d Now
 top_dispatch p t cs ls d ts k e = dispatch_layer (λ ls. Stack p t cs Now ls) d ts ls (sym e) k (λ seats below is k. k.0)
 
-pub dispatch_there :
-    (p : Image) (t : Typing) (s : State) (w : WellTyped p t s) → ClientsFit p s.clients s.cells → ((o : Object) → held s.cells (Elsewhere In_service) ≡ Some o → is_server p o.thing ≡ false) →
-    (d : Dispatch) (ts : List Task) → s.tasks ≡ Dispatched d ∷ ts → AllThere s → (v : State) → v.cells ≡ s.cells → v.clients ≡ s.clients → AllThere (dispatch_ends p d v)
-dispatch_there p t s w fit plain d ts tasks there v cells clients = grind (
-  arith,
-  nat_tests,
-  ends_there p v,
-  top_dispatch p t s.cells w.layers d ts w.good.stack,
-)
+pub dispatch_there : (p : Image) (t : Typing) (s : State) (w : WellTyped p t s) → ClientsFit p s.clients s.cells →
+    ((o : Object) → held s.cells (Elsewhere In_service) ≡ Some o → is_server p o.thing ≡ false) → (d : Dispatch) (ts : List Task) →
+    s.tasks ≡ Dispatched d ∷ ts → AllThere s → (v : State) → v.cells ≡ s.cells → v.clients ≡ s.clients → AllThere (dispatch_ends p d v)
+dispatch_there p t s w fit plain d ts tasks there v cells clients =
+    grind (arith, nat_tests, ends_there p v, top_dispatch p t s.cells w.layers d ts w.good.stack)

@@ -1,5 +1,6 @@
 -- All along a run sessions hold: as it begins, after each move, and after each turn.
-use Rattle.std.proofs.Common.{List, subst}
+use Rattle.std.proofs.lemmas.Bool.Decides.{nat_tests}
+use Rattle.std.proofs.Common.{arith, List}
 use Rattle.aom_image.specs.Image.{Image}
 use Rattle.aom_determinism.proofs.Cells.{boot_owes_nothing}
 use Rattle.aom_determinism.proofs.Moves.{moves_follow_calls}
@@ -14,7 +15,7 @@ use Rattle.aom_safety.proofs.ClientsKeep.{clients_keep}
 use Rattle.aom_safety.specs.Kept.{IsKept}
 use Rattle.aom_safety.specs.Laws.{IsWired}
 use Rattle.aom_semantics.specs.State.{State}
-use Rattle.aom_safety.specs.WellTyped.{Keeps, WellTyped}
+use Rattle.aom_safety.specs.WellTyped.{WellTyped}
 use Rattle.aom_semantics.specs.World.{Environment, Reaches, begins, boot_state, moves, turns}
 use Rattle.aom_transcript.specs.declared.line.Line.{Line}
 
@@ -23,10 +24,13 @@ module _ (p : Image) (t : Typing) (outside : Environment) (wired : IsWired p) (t
   stays _ _ begins = (boot_keeps p t wired typed, boot_owes_nothing.sessions p, clients_keep.boot p)
   stays _ _ (moves {lines = lines} {s = s} {u = u} c before busy choice e) =
       let h = stays lines s before in
-      (subst (λ o. Keeps p t o) e (step_keeps p t wired typed c s h.0 choice.name), (moves_follow_calls p t c s u h.0 choice.name h.1 e).sessions, clients_keep.moves p t wired typed c s u h.0 choice.name h.2 e)
+      (grind (arith, nat_tests, step_keeps), (moves_follow_calls p t c s u h.0 choice.name h.1 e).sessions, clients_keep.moves p t wired typed c s u h.0 choice.name h.2 e)
   stays _ _ (turns {lines = lines} {s = s} {u = u} heard before between owed e) =
-      let h = stays lines s before in
-      (subst (λ o. Keeps p t o) e (turn_goes_on p t outside wired typed heard s h.0 between owed h.2.fit), (turns_kill_or_complete p t outside heard s u h.0 owed h.2.fit h.1 e).sessions, clients_keep.turns p t outside wired typed heard s u h.0 between owed h.2 e)
+      let h = stays lines s before in (
+        grind (arith, nat_tests, turn_goes_on),
+        (turns_kill_or_complete p t outside heard s u h.0 owed h.2.fit h.1 e).sessions,
+        clients_keep.turns p t outside wired typed heard s u h.0 between owed h.2 e,
+      )
 
 pub runs_keep_sessions : RunsKeepSessions
 runs_keep_sessions p t outside wired typed lines s reached = (stays p t outside wired typed lines s reached).1

@@ -14,7 +14,8 @@ use Rattle.aom_rules.specs.Typing.{Typing}
 use Rattle.aom_safety.proofs.Dropping.{queued_claim, waits_message}
 use Rattle.aom_semantics.proofs.Maps.{same_place-true}
 use Rattle.aom_safety.proofs.Services.{named_served, requested_served}
-use Rattle.aom_safety.proofs.Sifted.{a_cell_of, cell_in, cell_in_sifted, cell_lives, cell_of, cell_of_sifted, cell_owner, cell_placed, held_cell, kept, named_cell, object_in, request_in, requested_cell, sifted, tidy_sifted, unqueued_so, unslotted_so, withdrawn_so}
+use Rattle.aom_safety.proofs.Sifted.{a_cell_of, cell_in, cell_in_sifted, cell_lives, cell_of, cell_of_sifted, cell_owner, cell_placed, held_cell, kept}
+use Rattle.aom_safety.proofs.Sifted.{named_cell, object_in, request_in, requested_cell, sifted, tidy_sifted, unqueued_so, unslotted_so, withdrawn_so}
 use Rattle.aom_safety.specs.Claims.{Layer}
 use Rattle.aom_transcript.specs.declared.event.Command.{Command}
 use Rattle.aom_semantics.specs.Clients.{Listed, commanded, connecting, each_unslotted, leaving, sending}
@@ -31,7 +32,7 @@ session_served [] n v m = refl
 session_served (c ∷ cs) n v m = ap (λ x. cond (c.object.name == m) c.session x) (session_served cs n v m)
 
 pub unchanged_served : (p : Image) (cs : List Cell) (n : ℕ) (v : Service) → Unchanged p cs (set_service n v cs)
-unchanged_served p cs n v = unchanged_alike p cs (set_service n v cs) (λ m. named_served cs n v m) (λ m. requested_served cs n v m) (λ m. session_served cs n v m)
+unchanged_served p cs n v = grind (arith, nat_tests, unchanged_alike, named_served, requested_served, session_served)
 
 -- ---- some cells go, which are messages
 
@@ -65,7 +66,8 @@ abbrev pub DropsMessages : (Cell → Bool) → List Cell → Type 0
 DropsMessages drops cs = (c : Cell) → cell_in cs c.owner ≡ Some c → drops c ≡ true → c.object.thing ≡ Message
 
 module _ (p : Image) (drops : Cell → Bool) (f : Cell → Service) (cs : List Cell) (tidy : Tidy cs) (messages : DropsMessages drops cs) where
-  by_cell : (k m : ℕ) (f' : Option Cell → Bool) → ((c : Cell) → f' (Some (record c { service = f c })) ≡ f' (Some c)) → ((c : Cell) → is_served_by p k c.object.thing ≡ false → f' None ≡ f' (Some c)) → f' (cell_of (sifted drops f cs) m) ≡ f' (cell_of cs m)
+  by_cell : (k m : ℕ) (f' : Option Cell → Bool) → ((c : Cell) → f' (Some (record c { service = f c })) ≡ f' (Some c)) →
+      ((c : Cell) → is_served_by p k c.object.thing ≡ false → f' None ≡ f' (Some c)) → f' (cell_of (sifted drops f cs) m) ≡ f' (cell_of cs m)
   by_cell k m test stays goes = grind (arith, nat_tests, cell_of_sifted drops f cs m tidy, cell_of cs m, kept drops f, unserved_message p k, cell_placed cs m)
 
   pub serves_sifted : (k m : ℕ) → serves p (sifted drops f cs) k m ≡ serves p cs k m
@@ -73,21 +75,15 @@ module _ (p : Image) (drops : Cell → Bool) (f : Cell → Service) (cs : List C
 
   pub unchanged_sifted : Unchanged p cs (sifted drops f cs)
   unchanged_sifted = record {
-    owes = λ k m. owes_cell p k (sifted drops f cs) m ∙ by_cell k m (λ x. serves_in p k x && is_owed (request_in x)) (λ c. refl) (λ c e. sym (ap (λ b. b && is_owed c.request) e)) ∙ sym (owes_cell p k cs m);
+    owes = λ k m. owes_cell p k (sifted drops f cs) m
+        ∙ by_cell k m (λ x. serves_in p k x && is_owed (request_in x)) (λ c. refl) (λ c e. sym (ap (λ b. b && is_owed c.request) e)) ∙ sym (owes_cell p k cs m);
     meets = λ k m. meets_cell p k (sifted drops f cs) m ∙ by_cell k m (λ x. serves_in p k x && session_in x) (λ c. refl) (λ c e. sym (ap (λ b. b && c.session) e)) ∙ sym (meets_cell p k cs m);
   }
 
   -- a cell that stays has its session
   pub session_sifted : (c : Cell) (m : ℕ) → cell_of cs m ≡ Some c → drops c ≡ false → in_session (sifted drops f cs) m ≡ in_session cs m
-  session_sifted c m at stays = grind (
-    arith,
-    nat_tests,
-    session_cell (sifted drops f cs) m,
-    sifted drops f cs,
-    cell_of_sifted drops f cs m tidy,
-    kept drops f,
-    session_cell cs m,
-  )
+  session_sifted c m at stays =
+      grind (arith, nat_tests, session_cell (sifted drops f cs) m, sifted drops f cs, cell_of_sifted drops f cs m tidy, kept drops f, session_cell cs m)
 
 -- ---- which cells these are
 
@@ -130,20 +126,12 @@ module _ (p : Image) (t : Typing) (cs : List Cell) (ls : List Layer) (good : Goo
     going_unqueued = grind (arith, nat_tests, unqueued_so n cs, held_cell, sifted, object_in, cell_in_sifted, kept, stays)
 
     pub session_unqueued : in_session (without_queue n cs) o.name ≡ in_session cs o.name
-    session_unqueued = grind (
-      arith,
-      nat_tests,
-      unqueued_so n cs,
-      session_sifted p,
-      queue_drops n,
-      cell_of cs,
-      cell_lives cs (Going k) cell.0 good.tidy cell.1,
-      stays,
-    )
+    session_unqueued =
+        grind (arith, nat_tests, unqueued_so n cs, session_sifted p, queue_drops n, cell_of cs, cell_lives cs (Going k) cell.0 good.tidy cell.1, stays)
 
   -- a message goes from its place
   pub unchanged_completed : (q : Place) → ((x : Object) → held cs q ≡ Some x → x.thing ≡ Message) → Unchanged p cs (without q cs)
-  unchanged_completed q message = subst (λ l. Unchanged p cs l) (sym (without_so cs)) (unchanged_sifted p (λ c. same_place c.owner q) (λ c. c.service) cs good.tidy drops)
+  unchanged_completed q message = rw (without_so cs) (unchanged_sifted p (λ c. same_place c.owner q) (λ c. c.service) cs good.tidy drops)
     where
       without_so : (cs : List Cell) → without q cs ≡ sifted (λ c. same_place c.owner q) (λ c. c.service) cs
       without_so [] = refl
@@ -153,31 +141,20 @@ module _ (p : Image) (t : Typing) (cs : List Cell) (ls : List Layer) (good : Goo
       drops c at e = message c.object (ap (λ r. held cs r) (sym (same_place-true c.owner q e)) ∙ in_place c at)
 
   pub unchanged_withdrawn : (client : ℕ) → Unchanged p cs (withdrawn client cs)
-  unchanged_withdrawn client =
-      subst (λ l. Unchanged p cs l) (sym (withdrawn_so client cs))
-      (unchanged_sifted p _ _ cs good.tidy (λ c at e. queue_message c.owner c.object (and_parts (is_queue c.owner) (is_from client c.service.sender) e).0 (in_place c at)))
+  unchanged_withdrawn client = rw (withdrawn_so client cs) (unchanged_sifted p _ _ cs good.tidy
+      (λ c at e. queue_message c.owner c.object (and_parts (is_queue c.owner) (is_from client c.service.sender) e).0 (in_place c at)))
 
 -- messages hold no slot any more
 pub unchanged_unslotted : (p : Image) (clients : List ℕ) (cs : List Cell) → Tidy cs → Unchanged p cs (each_unslotted clients cs)
 unchanged_unslotted p [] cs tidy = unchanged_itself p cs
-unchanged_unslotted p (c ∷ clients) cs tidy = grind (
-  arith,
-  nat_tests,
-  unchanged_along p cs,
-  Unchanged p cs,
-  unslotted_so c cs,
-  unchanged_sifted p,
-  unchanged_unslotted p clients,
-  tidy_sifted,
-)
+unchanged_unslotted p (c ∷ clients) cs tidy =
+    grind (arith, nat_tests, unchanged_along p cs, Unchanged p cs, unslotted_so c cs, unchanged_sifted p, unchanged_unslotted p clients, tidy_sifted)
 
 -- ---- a client's command
 
 module _ (p : Image) (t : Typing) (s : State) (ls : List Layer) (good : Good p t s.cells ls) (client name : ℕ) (unused : named s.cells name ≡ None) where
   connecting_same : (refused : Option Refusal) (server : Option Listed) (slots : ℕ) → Unchanged p s.cells (connecting p client s refused server slots).cells
-  connecting_same None (Some x) slots = unchanged_served p s.cells x.name _
-  connecting_same None None slots = unchanged_itself p s.cells
-  connecting_same (Some r) server slots = unchanged_itself p s.cells
+  connecting_same x server slots = grind (arith, nat_tests, unchanged_served, unchanged_itself)
 
   sending_same : (refused : Option Refusal) (c : Client) (words : List ℤ) → Unchanged p s.cells (sending p client s refused c name words).cells
   sending_same x y words = grind (

@@ -10,10 +10,12 @@ use Rattle.aom_clients.specs.Table.{at_gone}
 use Rattle.aom_semantics.specs.Clients.{at_opening, at_parting, client_at, each_unslotted, queue_ended, sessions_ended, with_client}
 use Rattle.aom_semantics.specs.Destruction.{first_session, seat_or}
 use Rattle.aom_semantics.specs.Places.{Asked, Cell, Close_of, Connect_of, Elsewhere, Message_of, Object, Place, Service, Session, service_of, set_service}
-use Rattle.aom_semantics.specs.Servers.{all_unslotted, asked_last, has_more, is_queue_of, opened, parted, reserved, rest_of, taken_first, unslotted, without_queue}
+use Rattle.aom_semantics.specs.Servers.{all_unslotted, asked_last, has_more, is_queue_of, opened, parted}
+use Rattle.aom_semantics.specs.Servers.{reserved, rest_of, taken_first, without_queue}
 use Rattle.aom_semantics.specs.State.{Seat}
 use Rattle.aom_determinism.proofs.NamedCells.{cond_applied, held_renamed, same_name}
-use Rattle.aom_determinism.specs.Names.{IsOneToOne, renamed_asked, renamed_cell, renamed_cells, renamed_client, renamed_clients, renamed_object, renamed_place, renamed_queue, renamed_seat, renamed_service}
+use Rattle.aom_determinism.specs.Names.{IsOneToOne, renamed_asked, renamed_cells, renamed_client, renamed_clients}
+use Rattle.aom_determinism.specs.Names.{renamed_object, renamed_place, renamed_queue, renamed_seat, renamed_service}
 
 module _ (names : ℕ → ℕ) where
   -- ---- what a client is at
@@ -39,17 +41,17 @@ module _ (names : ℕ → ℕ) where
   gone_renamed x = grind arith
 
   -- what becomes of what a client is at
-  pub changed_client_renamed :
-      (f : Client → Client) → ((x : Client) → f (renamed_client names x) ≡ renamed_client names (f x)) → (c : ℕ) (clients : List Client) →
-      with_client c (f (client_at (renamed_clients names clients) c)) (renamed_clients names clients) ≡ renamed_clients names (with_client c (f (client_at clients c)) clients)
+  pub changed_client_renamed : (f : Client → Client) → ((x : Client) → f (renamed_client names x) ≡ renamed_client names (f x)) →
+      (c : ℕ) (clients : List Client) → with_client c (f (client_at (renamed_clients names clients) c))
+      (renamed_clients names clients) ≡ renamed_clients names (with_client c (f (client_at clients c)) clients)
   changed_client_renamed f same c clients = grind (arith, nat_tests, client_renamed clients c, with_client_renamed c)
 
-  pub opened_client_renamed :
-      (c : ℕ) (clients : List Client) → with_client c (at_opening 0 (client_at (renamed_clients names clients) c)) (renamed_clients names clients) ≡ renamed_clients names (with_client c (at_opening 0 (client_at clients c)) clients)
+  pub opened_client_renamed : (c : ℕ) (clients : List Client) → with_client c (at_opening 0 (client_at (renamed_clients names clients) c))
+      (renamed_clients names clients) ≡ renamed_clients names (with_client c (at_opening 0 (client_at clients c)) clients)
   opened_client_renamed c clients = changed_client_renamed (at_opening 0) (opening_renamed 0) c clients
 
-  pub parted_client_renamed :
-      (c : ℕ) (clients : List Client) → with_client c (at_parting (client_at (renamed_clients names clients) c)) (renamed_clients names clients) ≡ renamed_clients names (with_client c (at_parting (client_at clients c)) clients)
+  pub parted_client_renamed : (c : ℕ) (clients : List Client) → with_client c (at_parting (client_at (renamed_clients names clients) c))
+      (renamed_clients names clients) ≡ renamed_clients names (with_client c (at_parting (client_at clients c)) clients)
   parted_client_renamed c clients = changed_client_renamed at_parting parting_renamed c clients
 
   pub queue_ended_renamed : (es : List Asked) (clients : List Client) → queue_ended (renamed_queue names es) (renamed_clients names clients) ≡ renamed_clients names (queue_ended es clients)
@@ -60,14 +62,14 @@ module _ (names : ℕ → ℕ) where
 
   pub sessions_ended_renamed : (cs : List ℕ) (clients : List Client) → sessions_ended cs (renamed_clients names clients) ≡ renamed_clients names (sessions_ended cs clients)
   sessions_ended_renamed [] clients = refl
-  sessions_ended_renamed (c ∷ cs) clients =
-      ap (sessions_ended cs) (changed_client_renamed at_gone gone_renamed c clients) ∙ sessions_ended_renamed cs (with_client c (at_gone (client_at clients c)) clients)
+  sessions_ended_renamed (c ∷ cs) clients = ap (sessions_ended cs) (changed_client_renamed at_gone gone_renamed c clients)
+      ∙ sessions_ended_renamed cs (with_client c (at_gone (client_at clients c)) clients)
 
   -- ---- slots, which name nothing
 
   unslotted_renamed : (c : ℕ) (cs : List Cell) → all_unslotted c (renamed_cells names cs) ≡ renamed_cells names (all_unslotted c cs)
   unslotted_renamed c [] = refl
-  unslotted_renamed c (x ∷ xs) = ap (λ l. renamed_cell names (record x { service = record x.service { sender = unslotted c x.service.sender } }) ∷ l) (unslotted_renamed c xs)
+  unslotted_renamed c (x ∷ xs) = grind (arith, nat_tests, unslotted_renamed c xs)
 
   pub each_unslotted_renamed : (clients : List ℕ) (cs : List Cell) → each_unslotted clients (renamed_cells names cs) ≡ renamed_cells names (each_unslotted clients cs)
   each_unslotted_renamed [] cs = refl
@@ -132,17 +134,11 @@ module _ (names : ℕ → ℕ) (one_to_one : IsOneToOne names) where
 
   -- ---- the first session that is there
 
-  seat_or_renamed :
-      (o : Option Object) (q : Place) (others : Option Seat) →
-      seat_or (option_map (renamed_object names) o) (renamed_place names q) (option_map (renamed_seat names) others) ≡ option_map (renamed_seat names) (seat_or o q others)
+  seat_or_renamed : (o : Option Object) (q : Place) (others : Option Seat) → seat_or (option_map (renamed_object names) o)
+      (renamed_place names q) (option_map (renamed_seat names) others) ≡ option_map (renamed_seat names) (seat_or o q others)
   seat_or_renamed x q others = grind arith
 
   pub first_session_renamed : (cs : List Cell) (n : ℕ) (clients : List ℕ) → first_session (renamed_cells names cs) (names n) clients ≡ option_map (renamed_seat names) (first_session cs n clients)
   first_session_renamed cs n [] = refl
-  first_session_renamed cs n (c ∷ clients) = grind (
-    arith,
-    nat_tests,
-    held_renamed names one_to_one cs (Elsewhere (Session n c)),
-    first_session_renamed cs n clients,
-    seat_or_renamed,
-  )
+  first_session_renamed cs n (c ∷ clients) =
+      grind (arith, nat_tests, held_renamed names one_to_one cs (Elsewhere (Session n c)), first_session_renamed cs n clients, seat_or_renamed)

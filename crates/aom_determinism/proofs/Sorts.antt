@@ -1,14 +1,14 @@
 -- What a turn is, by what is due, what has come, what is left to poll and what is ready.
 use Rattle.std.proofs.lemmas.Bool.Decides.{nat_tests}
-use Rattle.std.proofs.Common.{arith, ◌≡◌, ◌<◌, ◌≤◌, ◌-◌, ◌+◌, ℕ, Bool, true, false, Option, Some, None, ap, cond, refl, ◌∙◌}
-use Rattle.std.specs.Prelude.{nat_le, nat_lt}
+use Rattle.std.proofs.Common.{arith, ◌≡◌, ◌<◌, ◌≤◌, ◌-◌, ◌+◌, ℕ, Bool, true, false, Option, Some, cond, refl}
+use Rattle.std.specs.Prelude.{nat_le}
 use Rattle.std.proofs.lemmas.Bool.{leb-false}
-use Rattle.aom_semantics.specs.Clients.{client_count}
 use Rattle.aom_semantics.specs.State.{State}
-use Rattle.aom_semantics.specs.World.{Candidate, Completes, Completion, Cuts, Heard, Hears, Kills, Obeys, Environment, Passes, Picks, Polls, Strays, Timed, Turning, Waits, by_event, by_timer, delivers, due_of, first_due, first_ready, has_signal, lives, next_event, next_native, next_time, picks, polls, time_of, turning}
+use Rattle.aom_semantics.specs.World.{Candidate, Completes, Completion, Cuts, Heard, Hears, Kills, Obeys, Environment, Passes, Picks}
+use Rattle.aom_semantics.specs.World.{Polls, Strays, Timed, Turning, Waits, by_event, by_timer, delivers, due_of, first_due, first_ready}
+use Rattle.aom_semantics.specs.World.{has_signal, next_event, next_native, next_time, picks, polls, time_of, turning}
 use Rattle.aom_transcript.specs.declared.event.Command.{Command}
 use Rattle.aom_transcript.specs.declared.event.Event.{Event}
-use Rattle.aom_transcript.specs.declared.event.Event.TheVariants.{Client, Kill, Tell}
 use Rattle.aom_transcript.specs.declared.event.TimedEvent.{TimedEvent}
 use Rattle.aom_determinism.proofs.Lefts.{early_both, is_late, living_within, reached}
 
@@ -35,43 +35,25 @@ module _ (outside : Environment) (s : State) where
   picks_kind :
       (b : Bool) (ready : Option Candidate) (next : Option ℕ) → s.rest.dispatches < outside.limit → next_time outside s ≡ next → is_late outside s ≡ false →
       Kind outside s (picks b ready next)
-  picks_kind true None next below is early = strays
-  picks_kind true (Some x) next below is early = picks_one x below
-  picks_kind false ready None below is early = waits
-  picks_kind false ready (Some time) below is early = passes_on time is early
+  picks_kind x ready next below is early = grind (arith, nat_tests, strays, picks_one, waits, passes_on)
 
   polls_kind : (n : Option ℕ) → next_native outside s ≡ n → (answer : Option Completion) (after : Turning) → is_late outside s ≡ false → Kind outside s after → Kind outside s (polls n answer after)
   polls_kind x is answer after early then = grind (arith, nat_tests, living_within s.killed (outside.natives - s.rest.polled) s.rest.polled, polls_one)
 
   delivers_kind : (name : ℕ) (e : TimedEvent) → next_event outside s ≡ Some e → (event : Event) → Kind outside s (delivers outside name s event)
-  delivers_kind name e is (Tell n word) = hears_one e is
-  delivers_kind name e is (Kill n) = go (lives outside s n)
-    where
-      go : (b : Bool) → Kind outside s (cond b (Kills n) Hears)
-      go true = kills_one e n is
-      go false = hears_one e is
-  delivers_kind name e is (Client c command) = go (nat_lt c client_count)
-    where
-      go : (b : Bool) → Kind outside s (cond b (Obeys c command name) Hears)
-      go true = obeys_one e c command name is
-      go false = hears_one e is
+  delivers_kind name e is x = grind (arith, nat_tests, hears_one, kills_one, obeys_one)
 
   event_kind : (name : ℕ) (next : Option TimedEvent) → next_event outside s ≡ next → (after : Turning) → (event_early → Kind outside s after) → Kind outside s (by_event outside name s next after)
   event_kind name x is after then = grind (arith, nat_tests, reached, delivers_kind name)
 
   timer_kind : (next : Option Timed) → first_due s.cells ≡ next → (after : Turning) → (timer_early → Kind outside s after) → Kind outside s (by_timer s next after)
-  timer_kind None is after then = then (ap (λ x. reached (due_of x) s.rest.clock) is)
-  timer_kind (Some x) is after then = go (nat_le x.timer.due s.rest.clock) refl
-    where
-      go : (b : Bool) → nat_le x.timer.due s.rest.clock ≡ b → Kind outside s (cond b (Completes x.object) after)
-      go true due = completes_one x is
-      go false early = then (ap (λ x. reached (due_of x) s.rest.clock) is ∙ early)
+  timer_kind x is after then = grind (arith, nat_tests, reached, completes_one)
 
   pub kind_of : (heard : Heard) → Kind outside s (turning outside heard s)
   kind_of heard = go (nat_le outside.limit s.rest.dispatches) refl
     where
-      go : (b : Bool) → nat_le outside.limit s.rest.dispatches ≡ b
-          → Kind outside s (cond b Cuts (by_timer s (first_due s.cells) (by_event outside heard.name s (next_event outside s) (polls (next_native outside s) heard.completion (picks (has_signal s.cells) (first_ready s.cells) (next_time outside s))))))
+      go : (b : Bool) → nat_le outside.limit s.rest.dispatches ≡ b → Kind outside s (cond b Cuts (by_timer s (first_due s.cells) (by_event outside heard.name s
+          (next_event outside s) (polls (next_native outside s) heard.completion (picks (has_signal s.cells) (first_ready s.cells) (next_time outside s))))))
       go true at = cuts
       go false at =
           timer_kind (first_due s.cells) refl _ (λ timer.

@@ -30,9 +30,8 @@ moved_spares p limit most c s u goes = go (restarts p s.tasks) refl
         by_case b (dispatches_are_counted.moves p c s u goes ∙ ap (λ x. cond x (raised s.rest.dispatches) s.rest.dispatches) is)
         (ap (λ o. one_where (is_some o)) (payers p c s u goes ∙ ap (λ x. cond x None (payer s.tasks)) is))
       where
-        by_case :
-            (b : Bool) → u.rest.dispatches ≡ cond b (raised s.rest.dispatches) s.rest.dispatches → one_where (is_some (payer u.tasks)) ≡ one_where (is_some (cond b None (payer s.tasks))) →
-            spare limit u ≤ spare limit s
+        by_case : (b : Bool) → u.rest.dispatches ≡ cond b (raised s.rest.dispatches) s.rest.dispatches →
+            one_where (is_some (payer u.tasks)) ≡ one_where (is_some (cond b None (payer s.tasks))) → spare limit u ≤ spare limit s
         by_case true counts pays = omega (arith, counts, pays, one_at_most (is_some (payer s.tasks)), most)
         by_case false counts pays = omega (arith, counts, pays)
 

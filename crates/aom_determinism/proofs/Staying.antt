@@ -11,7 +11,6 @@ use Rattle.aom_image.specs.Image.{Image}
 use Rattle.aom_image.specs.Views.{instr_at}
 use Rattle.aom_image.specs.declared.method.Gives.{Gives}
 use Rattle.aom_image.specs.declared.method.Thing.TheVariants.{Message}
-use Rattle.aom_classes.specs.Roles.{main_of}
 use Rattle.aom_clients.specs.declared.client.Client.{Client}
 use Rattle.aom_instructions.specs.declared.instr.Instr.{Instr}
 use Rattle.aom_instructions.specs.declared.instr.Instr.TheVariants as instrs
@@ -36,22 +35,19 @@ use Rattle.aom_semantics.specs.Servers.{is_server, without_queue}
 use Rattle.aom_semantics.specs.State.{Choice, Closing, Destroy, Dispatched, Frame, Goes, Run, State, Task, Trapped, Unwind}
 use Rattle.aom_safety.specs.WellTyped.{WellTyped}
 use Rattle.aom_semantics.specs.Words.{here, read}
-use Rattle.aom_semantics.specs.World.{Completes, Kills, Obeys, Picks, Polls, Strays, Turning, boot_state, heard_one, main_tasks, turned, turning, with_request}
+use Rattle.aom_semantics.specs.World.{Completes, Kills, Obeys, Picks, Polls, Strays, Turning, boot_state, heard_one, turned, turning, with_request}
 use Rattle.aom_determinism.proofs.Remaining.{AllWait, all_wait, closing_there, dispatch_there, gone_apart, plain_there}
 use Rattle.aom_determinism.proofs.Keeping.{calm_ended, there_by, Calm, calm_along, calm_steady}
 use Rattle.aom_determinism.proofs.Moving.{dispatch_resumed, effect_there, returned_there, unwound_there}
 use Rattle.aom_determinism.proofs.Asking.{commanded_waits, picked_there, same_waits}
 use Rattle.aom_determinism.proofs.Vanishing.{calm_without, there_vanished}
 use Rattle.aom_determinism.specs.Determined.{AllStaysThere}
-use Rattle.aom_determinism.specs.There.{AllThere, AreThere, IsAtPlace, dispatch_of}
+use Rattle.aom_determinism.specs.There.{AllThere, AreThere, dispatch_of}
 
 -- ---- as it boots
 
 boot_there : (p : Image) → AllThere (boot_state p)
-boot_there p = record { asked = λ n c e. cc; serves = go (main_of p) }
-  where
-    go : (m : Option ℕ) → IsAtPlace [] (dispatch_of (main_tasks m))
-    go x = grind arith
+boot_there p = search (arith, nat_tests)
 
 -- ---- each move
 
@@ -81,7 +77,8 @@ module _ (p : Image) (t : Typing) (wired : IsWired p) (c : Choice) (s : State) (
 
         calm : Calm s.cells (without (here fr ts s a) cs)
         calm = calm_along s.cells cs (without (here fr ts s a) cs) (calm_steady s.cells cs still (λ n c. like.held_so (Elsewhere (Session n c))))
-            (calm_without p s.clients cs (like.tidy w.good.tidy) (fit_steady p s.clients s.cells cs still kept.fit) (here fr ts s a) (λ n c. refl) (λ o e. plain o (sym (like.held_so (here fr ts s a)) ∙ e)))
+            (calm_without p s.clients cs (like.tidy w.good.tidy)
+            (fit_steady p s.clients s.cells cs still kept.fit) (here fr ts s a) (λ n c. refl) (λ o e. plain o (sym (like.held_so (here fr ts s a)) ∙ e)))
 
     -- a method returns
     returns_there : (g : Gives) (a : ℕ) → AllThere (applied p fr ts (counted p s) (Returns g a))
@@ -97,10 +94,10 @@ module _ (p : Image) (t : Typing) (wired : IsWired p) (c : Choice) (s : State) (
   gone_there : (ts : List Task) (u : State) → s.tasks ≡ Destroy ∷ ts → (o : Option Object) → held s.cells (Going (length ts)) ≡ o → gone o ts (counted p s) ≡ Goes u → AllThere u
   gone_there ts u tasks None at e = cc
   gone_there ts u tasks (Some o) at e =
-      let before = subst (λ l. AreThere s.clients s.cells (dispatch_of l)) tasks there in
+      let before = rw tasks at there in
       let after = there_vanished p s.clients s.cells w.good.tidy kept.fit (waiting_well p t wired s w) (length ts) o at (dispatch_of ts) (gone_apart p t s w ts tasks o at) before in
       let then = vanished o ts (counted p s) in
-      subst AllThere (guarded_goes (needs_gone (without_queue o.name s.cells) o) (vanished o ts (counted p s)) u e) (subst (λ d. AreThere then.clients then.cells d) (sym (dispatch_resumed ts)) after)
+      subst AllThere (guarded_goes (needs_gone (without_queue o.name s.cells) o) (vanished o ts (counted p s)) u e) (rw (dispatch_resumed ts) after)
 
   -- what is counted is no matter of types
   counted_well : WellTyped p t (counted p s)
@@ -112,9 +109,9 @@ module _ (p : Image) (t : Typing) (wired : IsWired p) (c : Choice) (s : State) (
   moved_there (Trapped ∷ ts) tasks u e = cc
   moved_there (Destroy ∷ ts) tasks u e = gone_there ts u tasks (held s.cells (Going (length ts))) refl e
   moved_there (Closing ∷ ts) tasks u e = closing_there p t (counted p s) counted_well there ts u tasks e
-  moved_there (Unwind code ∷ ts) tasks u e = unwound_there p (counted p s) code ts s.items u (subst (λ l. AreThere s.clients s.cells (dispatch_of l)) tasks there) e
-  moved_there (Dispatched d ∷ ts) tasks u e =
-      subst AllThere (guarded_goes (needs_end d s.cells) _ u e) (dispatch_there p t s w kept.fit (serving_plain p t s w) d ts tasks there (counted p s) refl refl)
+  moved_there (Unwind code ∷ ts) tasks u e = grind (arith, nat_tests, unwound_there)
+  moved_there (Dispatched d ∷ ts) tasks u e = subst AllThere
+      (guarded_goes (needs_end d s.cells) _ u e) (dispatch_there p t s w kept.fit (serving_plain p t s w) d ts tasks there (counted p s) refl refl)
 
 -- ---- each turn
 
@@ -140,8 +137,8 @@ module _ (p : Image) (t : Typing) (wired : IsWired p) (s : State) (w : WellTyped
         | answers o code ↦ by_idle s.clients (with_request (completed_with (recorded code)) o s.cells) s.tasks idle (requested_there (completed_with (recorded code)) o)
       ]
   turned_there (Obeys client command name) f u e =
-      subst AllThere (goes_same _ u e)
-      (by_idle _ _ _ ((commanded_kept p client (heard_one s) command name).1 ∙ idle) (commanded_waits p client (heard_one s) w.good.tidy kept.fit (waiting_well p t wired s w) waiting command name f))
+      subst AllThere (goes_same _ u e) (by_idle _ _ _ ((commanded_kept p client (heard_one s) command name).1 ∙ idle)
+      (commanded_waits p client (heard_one s) w.good.tidy kept.fit (waiting_well p t wired s w) waiting command name f))
   turned_there (Picks x) f u e = picked_there p s u waiting x f.0 e
   turned_there Strays f u e = cc
   turned_there _ f u e = subst AllThere (goes_same _ u e) (by_idle s.clients s.cells s.tasks idle waiting)

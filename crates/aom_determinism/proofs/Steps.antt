@@ -1,6 +1,6 @@
 -- A move under other names, by the task at hand: the same move, and the same lines.
 use Rattle.std.proofs.lemmas.Bool.Decides.{nat_tests}
-use Rattle.std.proofs.Common.{arith, Bool, List, None, Option, Some, [], ap, false, length, refl, sym, true, ℕ, ℤ, ◌∙◌, ◌∷◌, ◌≡◌}
+use Rattle.std.proofs.Common.{arith, Bool, List, None, Option, Some, [], ap, length, refl, sym, true, ℕ, ℤ, ◌∙◌, ◌∷◌, ◌≡◌}
 use Rattle.std.specs.Prelude.{option_map}
 use Rattle.aom_image.specs.Image.{Image}
 use Rattle.aom_image.specs.declared.method.Role.TheVariants.{Error as Answers}
@@ -12,43 +12,37 @@ use Rattle.aom_clients.specs.declared.client.Client.TheVariants.{Unconnected}
 use Rattle.aom_semantics.specs.Destruction.{closing, gone, needs_gone, parting, parting_from, vanished}
 use Rattle.aom_semantics.specs.Servers.{without_queue}
 use Rattle.aom_semantics.specs.Enlisted.{part_of}
-use Rattle.aom_semantics.specs.Moves.{IsOpen, answered, asked, asking, counted, dispatch_ends, goes_line, is_counted, is_refused, main_ends, makes_cell, needs_end, object_ends, stage_ends, step, step_instr, step_task, written, written_instr, written_task}
+use Rattle.aom_semantics.specs.Moves.{IsOpen, answered, asked, asking, counted, dispatch_ends, goes_line, is_counted, is_refused, main_ends, makes_cell}
+use Rattle.aom_semantics.specs.Moves.{needs_end, object_ends, stage_ends, step, step_instr, step_task, written, written_instr, written_task}
 use Rattle.aom_semantics.specs.Places.{Cell, Elsewhere, Going, In_service, Object, Root, named}
-use Rattle.aom_semantics.specs.State.{A_mark, An_object, An_operation, Answered, Asks, Choice, Closing, Destroy, Dispatch, Dispatched, Frame, Item, Main_left, Object_left, Of_main, Of_object, Of_root, Of_server, Run, Seat, Stage, State, Task, Trapped, Unwind, resumed}
-use Rattle.aom_determinism.proofs.NamedCells.{cells_counted, cond_applied, emptied_kept, held_renamed, moved_renamed, named_renamed, requested_kept, tasks_counted, without_renamed}
+use Rattle.aom_semantics.specs.State.{A_mark, An_object, An_operation, Answered, Asks, Choice, Closing, Destroy, Dispatch, Dispatched, Frame, Item}
+use Rattle.aom_semantics.specs.State.{Object_left, Of_main, Of_object, Of_root, Of_server, Run, Seat, Stage, State, Task, Trapped, Unwind, resumed}
+use Rattle.aom_determinism.proofs.NamedCells.{cells_counted, cond_applied, emptied_kept, held_renamed, moved_renamed}
+use Rattle.aom_determinism.proofs.NamedCells.{named_renamed, requested_kept, tasks_counted, without_renamed}
 use Rattle.aom_determinism.proofs.Doing.{begun_renamed, dealt_renamed, destructed_renamed, does_renamed, needs_kept, told_renamed}
 use Rattle.aom_determinism.proofs.Needs.{guarded_renamed, place_owns, register_renamed, whole_kept}
 use Rattle.aom_determinism.proofs.Lines.{dispatch_lines_kept, message_line_kept, queue_lines_kept}
-use Rattle.aom_determinism.proofs.Serving.{each_unslotted_renamed, first_session_renamed, parted_client_renamed, parts_renamed, queue_ended_renamed, service_renamed, sessions_ended_renamed, with_client_renamed, without_queue_renamed}
+use Rattle.aom_determinism.proofs.Serving.{each_unslotted_renamed, first_session_renamed, parted_client_renamed, parts_renamed, queue_ended_renamed}
+use Rattle.aom_determinism.proofs.Serving.{service_renamed, sessions_ended_renamed, with_client_renamed, without_queue_renamed}
 use Rattle.aom_determinism.proofs.Turning.{turns_so, writes_turn_so, answers_so}
 use Rattle.aom_determinism.specs.Determined.{NamesMeanNothing}
-use Rattle.aom_determinism.specs.Names.{IsOneToOne, renamed, renamed_cells, renamed_choice, renamed_stage, renamed_dispatch, renamed_frame, renamed_object, renamed_outcome, renamed_seat, renamed_tasks, renamed_heard}
+use Rattle.aom_determinism.specs.Names.{IsOneToOne, renamed, renamed_cells, renamed_choice, renamed_stage, renamed_dispatch, renamed_frame}
+use Rattle.aom_determinism.specs.Names.{renamed_object, renamed_outcome, renamed_seat, renamed_tasks, renamed_heard}
 
 module _ (names : ℕ → ℕ) (one_to_one : IsOneToOne names) where
   resumed_renamed : (ts : List Task) → resumed (renamed_tasks names ts) ≡ renamed_tasks names (resumed ts)
   resumed_renamed x = grind arith
 
-  instr_renamed :
-      (p : Image) (c : Choice) (fr : Frame) (ts : List Task) (s : State) (i : Option Instr) →
-      step_instr p (renamed_choice names c) (renamed_frame names fr) (renamed_tasks names ts) (renamed names s) i ≡ renamed_outcome names (step_instr p c fr ts s i)
-  instr_renamed p c fr ts s x = grind (
-    arith,
-    nat_tests,
-    needs_kept names one_to_one p c fr ts s,
-    does_renamed names one_to_one p c fr ts s,
-    guarded_renamed names,
-  )
+  instr_renamed : (p : Image) (c : Choice) (fr : Frame) (ts : List Task) (s : State) (i : Option Instr) → step_instr p
+      (renamed_choice names c) (renamed_frame names fr) (renamed_tasks names ts) (renamed names s) i ≡ renamed_outcome names (step_instr p c fr ts s i)
+  instr_renamed p c fr ts s x =
+      grind (arith, nat_tests, needs_kept names one_to_one p c fr ts s, does_renamed names one_to_one p c fr ts s, guarded_renamed names)
 
   -- ---- a cell goes
 
   needs_gone_kept : (o : Object) (cs : List Cell) → needs_gone (without_queue (names o.name) (renamed_cells names cs)) (renamed_object names o) ≡ needs_gone (without_queue o.name cs) o
-  needs_gone_kept o cs = grind (
-    arith,
-    nat_tests,
-    without_queue_renamed names one_to_one o.name cs,
-    emptied_kept names one_to_one,
-    requested_kept names one_to_one,
-  )
+  needs_gone_kept o cs =
+      grind (arith, nat_tests, without_queue_renamed names one_to_one o.name cs, emptied_kept names one_to_one, requested_kept names one_to_one)
 
   vanished_renamed : (o : Object) (ts : List Task) (s : State) → vanished (renamed_object names o) (renamed_tasks names ts) (renamed names s) ≡ renamed names (vanished o ts s)
   vanished_renamed o ts s = grind (
@@ -69,28 +63,17 @@ module _ (names : ℕ → ℕ) (one_to_one : IsOneToOne names) where
 
   -- ---- the sessions of a server
 
-  parting_renamed :
-      (p : Image) (o : Object) (x : Option Seat) (below : List Task) (s : State) →
-      parting p (renamed_object names o) (option_map (renamed_seat names) x) (renamed_tasks names below) (renamed names s) ≡ renamed names (parting p o x below s)
+  parting_renamed : (p : Image) (o : Object) (x : Option Seat) (below : List Task) (s : State) → parting p
+      (renamed_object names o) (option_map (renamed_seat names) x) (renamed_tasks names below) (renamed names s) ≡ renamed names (parting p o x below s)
   parting_renamed p o None below s = ap (λ ts. record (renamed names s) { tasks = ts }) (destructed_renamed names p o (length s.items) below)
-  parting_renamed p o (Some x) below s = grind (
-    arith,
-    nat_tests,
-    tasks_counted names below,
-    moved_renamed names one_to_one x.place,
-    begun_renamed names p x.object,
-  )
+  parting_renamed p o (Some x) below s =
+      grind (arith, nat_tests, tasks_counted names below, moved_renamed names one_to_one x.place, begun_renamed names p x.object)
 
   parting_from_renamed :
       (p : Image) (o : Option Object) (below : List Task) (s : State) →
       parting_from p (option_map (renamed_object names) o) (renamed_tasks names below) (renamed names s) ≡ renamed_outcome names (parting_from p o below s)
-  parting_from_renamed p x below s = grind (
-    arith,
-    nat_tests,
-    service_renamed names one_to_one s.cells,
-    first_session_renamed names one_to_one s.cells,
-    parting_renamed p,
-  )
+  parting_from_renamed p x below s =
+      grind (arith, nat_tests, service_renamed names one_to_one s.cells, first_session_renamed names one_to_one s.cells, parting_renamed p)
 
   closing_renamed : (p : Image) (ts : List Task) (s : State) → closing p (renamed_tasks names ts) (renamed names s) ≡ renamed_outcome names (closing p ts s)
   closing_renamed p x s = grind (arith, nat_tests, tasks_counted names, held_renamed names one_to_one s.cells, parting_from_renamed p)
@@ -118,8 +101,7 @@ module _ (names : ℕ → ℕ) (one_to_one : IsOneToOne names) where
 
   main_ends_renamed : (p : Image) (b : Bool) (o : Option Object) (s : State) → main_ends p b (option_map (renamed_object names) o) (renamed names s) ≡ renamed names (main_ends p b o s)
   main_ends_renamed p true (Some o) s = rw (moved_renamed names one_to_one (Elsewhere Root) (Going 1) s.cells, begun_renamed names p o (length s.items) (Dispatched Of_root ∷ []))
-  main_ends_renamed p true None s = refl
-  main_ends_renamed p false o s = refl
+  main_ends_renamed p _ _ s = refl
 
   object_ends_renamed : (p : Image) (s : State) → object_ends p (renamed names s) ≡ renamed names (object_ends p s)
   object_ends_renamed p s = grind (arith, nat_tests, held_renamed names one_to_one s.cells (Elsewhere Root), main_ends_renamed p s.rest.stopped)
@@ -146,13 +128,12 @@ module _ (names : ℕ → ℕ) (one_to_one : IsOneToOne names) where
 
   ends_renamed : (p : Image) (d : Dispatch) (s : State) → dispatch_ends p (renamed_dispatch names d) (renamed names s) ≡ renamed names (dispatch_ends p d s)
   ends_renamed p Of_main s = grind (arith, nat_tests, held_renamed names one_to_one s.cells (Elsewhere Root), main_ends_renamed p s.rest.stopped)
-  ends_renamed p (Main_left code) s = refl
-  ends_renamed p Of_root s = refl
   ends_renamed p (Of_object x) s = object_ends_renamed p s
   ends_renamed p (Object_left x code) s = asking_renamed p (part_of p Answers x.object.thing) x code s
   ends_renamed p (Asks x) s = object_ends_renamed p s
   ends_renamed p (Answered x answer) s = answered_renamed p answer s
   ends_renamed p (Of_server x c stage) s = stage_ends_renamed x c stage s
+  ends_renamed p _ s = refl
 
   task_renamed : (p : Image) (c : Choice) (s : State) (ts : List Task) → step_task p (renamed_choice names c) (renamed names s) (renamed_tasks names ts) ≡ renamed_outcome names (step_task p c s ts)
   task_renamed p c s [] = refl
@@ -220,11 +201,4 @@ module _ (names : ℕ → ℕ) (one_to_one : IsOneToOne names) where
   hears_so p outside heard s well = record { completion = answers_so names one_to_one p outside heard s well.completion; name = free_so s heard.name well.name }
 
 pub names_mean_nothing : NamesMeanNothing
-names_mean_nothing = record {
-  opens = λ p refused names one_to_one c s h. opens_so names one_to_one p refused c s h;
-  moves = λ p names one_to_one c s. moves_so names one_to_one p c s;
-  writes = λ p names one_to_one s. writes_so names one_to_one p s;
-  turns = λ p outside heard names one_to_one s. turns_so names one_to_one p outside heard s;
-  hears = λ p outside heard names one_to_one s well. hears_so names one_to_one p outside heard s well;
-  writes_turn = λ p outside names one_to_one s. writes_turn_so names one_to_one p outside s;
-}
+names_mean_nothing = search (arith, nat_tests, opens_so, moves_so, writes_so, turns_so, hears_so, writes_turn_so)

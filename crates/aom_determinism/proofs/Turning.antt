@@ -1,17 +1,20 @@
 -- A turn under other names: orders, priorities, times and numbers decide, so the same timer is due first, the same native is polled or killed, the same object is picked, and the lines are the same.
 use Rattle.std.proofs.lemmas.Bool.Decides.{nat_tests}
-use Rattle.std.proofs.Common.{arith, Bool, List, None, Option, Some, [], ap, cond, refl, ℕ, ℤ, ◌∙◌, ◌∷◌, ◌≡◌, ◌||◌, sym}
+use Rattle.std.proofs.Common.{arith, Bool, List, None, Option, Some, [], ap, refl, ℕ, ℤ, ◌∙◌, ◌∷◌, ◌≡◌, sym}
 use Rattle.std.specs.Prelude.{option_map}
 use Rattle.aom_image.specs.Image.{Image}
-use Rattle.aom_semantics.specs.Lines.{refusal_line}
-use Rattle.aom_semantics.specs.Enlisted.{timed_out}
 use Rattle.aom_semantics.specs.Natives.{all_bereaved, bereaved}
 use Rattle.aom_semantics.specs.Places.{Asked, Cell, Close_of, Connect_of, Elsewhere, Going, In_service, Message_of, Object, Queued, Request, Session, held}
-use Rattle.aom_semantics.specs.State.{Goes, Seat, State}
-use Rattle.aom_semantics.specs.World.{Candidate, Completes, Completion, Cuts, Heard, Kills, Obeys, Environment, Picks, Polls, Timed, Turning, accepting, among_ready, among_timers, answered_by, attended, attending, before_others, by_event, by_timer, delivers, dispatched, due_of, first_due, first_ready, goes_now, has_signal, heard_one, is_ready, message_words, nearer, next_event, next_time, nothing_heard, parting_with, passes, picked, picks, polled, polls, pick_line, run_line, serves_first, signals, sooner, taken_from, time_of, turn, turned, turning, with_request, written_by, written_turn, AnswersWell}
+use Rattle.aom_semantics.specs.State.{Seat, State}
+use Rattle.aom_semantics.specs.World.{Candidate, Completes, Completion, Cuts, Heard, Obeys, Environment, Picks, Timed, Turning, accepting}
+use Rattle.aom_semantics.specs.World.{among_ready, among_timers, answered_by, attended, attending, before_others, by_event, by_timer, delivers, dispatched}
+use Rattle.aom_semantics.specs.World.{due_of, first_due, first_ready, has_signal, message_words, nearer, next_event, next_time}
+use Rattle.aom_semantics.specs.World.{nothing_heard, parting_with, passes, picked, picks, polled, polls, pick_line, run_line, serves_first, signals, sooner}
+use Rattle.aom_semantics.specs.World.{taken_from, time_of, turn, turned, turning, with_request, written_by, written_turn, AnswersWell}
 use Rattle.aom_transcript.specs.declared.event.Event.{Event}
 use Rattle.aom_transcript.specs.declared.event.TimedEvent.{TimedEvent}
-use Rattle.aom_determinism.proofs.NamedCells.{cell_at_renamed, cond_applied, cond_mapped, each_renamed, held_renamed, moved_renamed, requested_kept, set_request_renamed, word_field_kept}
+use Rattle.aom_determinism.proofs.NamedCells.{cell_at_renamed, cond_applied, cond_mapped, each_renamed, held_renamed}
+use Rattle.aom_determinism.proofs.NamedCells.{moved_renamed, requested_kept, set_request_renamed, word_field_kept}
 use Rattle.aom_determinism.proofs.Commands.{commanded_renamed, refusal_kept}
 use Rattle.aom_determinism.proofs.Lines.{serve_kept}
 use Rattle.aom_determinism.proofs.Naming.{polling_named, written_named}
@@ -19,7 +22,8 @@ use Rattle.aom_determinism.proofs.Doing.{begun_renamed}
 use Rattle.aom_determinism.proofs.Serving.{more_kept, service_renamed, takes_renamed}
 use Rattle.aom_determinism.proofs.Needs.{guarded_renamed}
 use Rattle.aom_determinism.specs.Hearing.{is_polling}
-use Rattle.aom_determinism.specs.Names.{IsOneToOne, renamed, renamed_cell, renamed_cells, renamed_heard, renamed_object, renamed_outcome, renamed_queue, renamed_seat}
+use Rattle.aom_determinism.specs.Names.{IsOneToOne, renamed, renamed_cell, renamed_cells, renamed_heard}
+use Rattle.aom_determinism.specs.Names.{renamed_object, renamed_outcome, renamed_queue, renamed_seat}
 
 module _ (names : ℕ → ℕ) where
   abbrev renamed_timed : Timed → Timed
@@ -65,11 +69,7 @@ module _ (names : ℕ → ℕ) where
       (c : Cell) (r : Option Request) (others : Option Candidate) →
       among_ready (renamed_cell names c) r (option_map renamed_candidate others) ≡ option_map renamed_candidate (among_ready c r others)
   among_renamed c None others = refl
-  among_renamed c (Some r) others =
-      let a : Candidate = record { seat = record { object = c.object; place = c.owner }; request = r } in
-      ap (λ b. cond (is_ready r || b) (Some (before_others (renamed_candidate a) (option_map renamed_candidate others))) (option_map renamed_candidate others)) (more_kept names c.service.queue)
-      ∙ ap (λ x. cond (goes_now c r) (Some x) (option_map renamed_candidate others)) (before_renamed a others)
-      ∙ cond_mapped renamed_candidate (goes_now c r) (before_others a others) others
+  among_renamed c (Some r) others = search (arith, nat_tests, more_kept names c.service.queue, before_renamed, cond_mapped)
 
   ready_renamed : (cs : List Cell) → first_ready (renamed_cells names cs) ≡ option_map renamed_candidate (first_ready cs)
   ready_renamed [] = refl
@@ -111,24 +111,15 @@ module _ (names : ℕ → ℕ) where
   by_timer_renamed s x after = grind (arith, nat_tests, cond_applied)
 
   pub turning_renamed : (outside : Environment) (heard : Heard) (s : State) → turning outside (renamed_heard names heard) (renamed names s) ≡ renamed_turning (turning outside heard s)
-  turning_renamed outside heard s = grind (
-    arith,
-    nat_tests,
-    picking_renamed outside s,
-    polls_renamed,
-    by_event_renamed outside heard.name s,
-    due_renamed s.cells,
-    by_timer_renamed s,
-    cond_applied,
-  )
+  turning_renamed outside heard s = grind (arith, nat_tests, picking_renamed, polls_renamed, by_event_renamed, due_renamed, by_timer_renamed, cond_applied)
 
   polling_renamed : (t : Turning) → is_polling (renamed_turning t) ≡ is_polling t
   polling_renamed x = grind arith
 
   -- a native is polled under other names too
   pub polling_kept : (outside : Environment) (s : State) → is_polling (turning outside nothing_heard (renamed names s)) ≡ is_polling (turning outside nothing_heard s)
-  polling_kept outside s =
-      sym (polling_named outside nothing_heard (names 0) (renamed names s)) ∙ ap is_polling (turning_renamed outside nothing_heard s) ∙ polling_renamed (turning outside nothing_heard s)
+  polling_kept outside s = sym (polling_named outside nothing_heard (names 0) (renamed names s))
+      ∙ ap is_polling (turning_renamed outside nothing_heard s) ∙ polling_renamed (turning outside nothing_heard s)
 
 module _ (names : ℕ → ℕ) (one_to_one : IsOneToOne names) where
   -- ---- where it leads
@@ -148,15 +139,7 @@ module _ (names : ℕ → ℕ) (one_to_one : IsOneToOne names) where
   accepting_renamed x y c s = grind arith
 
   words_kept : (cs : List Cell) (m : ℕ) → message_words (renamed_cells names cs) (names m) ≡ message_words cs m
-  words_kept cs m = grind (
-    arith,
-    nat_tests,
-    word_field_kept names one_to_one cs m 0,
-    word_field_kept names one_to_one cs m 1,
-    word_field_kept names one_to_one cs m 2,
-    word_field_kept names one_to_one cs m 3,
-    word_field_kept names one_to_one cs m 4,
-  )
+  words_kept cs m = grind (arith, nat_tests, word_field_kept)
 
   attending_renamed :
       (method : Option ℕ) (x : Seat) (c : ℕ) (o : Object) (m : ℕ) (s : State) →
@@ -172,45 +155,24 @@ module _ (names : ℕ → ℕ) (one_to_one : IsOneToOne names) where
   parting_renamed :
       (p : Image) (x : Seat) (c : ℕ) (o : Option Object) (s : State) →
       parting_with p (renamed_seat names x) c (option_map (renamed_object names) o) (renamed names s) ≡ renamed_outcome names (parting_with p x c o s)
-  parting_renamed p x c y s = grind (
-    arith,
-    nat_tests,
-    moved_renamed names one_to_one (Elsewhere (Session x.object.name c)) (Going 1) s.cells,
-    begun_renamed names p,
-  )
+  parting_renamed p x c y s =
+      grind (arith, nat_tests, moved_renamed names one_to_one (Elsewhere (Session x.object.name c)) (Going 1) s.cells, begun_renamed names p)
 
   -- the session of a client
   session_renamed : (n c : ℕ) (cs : List Cell) → held (renamed_cells names cs) (Elsewhere (Session (names n) c)) ≡ option_map (renamed_object names) (held cs (Elsewhere (Session n c)))
   session_renamed n c cs = held_renamed names one_to_one cs (Elsewhere (Session n c))
 
-  serves_renamed :
-      (p : Image) (x : Seat) (es : List Asked) (s : State) → serves_first p (renamed_seat names x) (renamed_queue names es) (renamed names s) ≡ renamed_outcome names (serves_first p x es s)
+  serves_renamed : (p : Image) (x : Seat) (es : List Asked) (s : State) →
+      serves_first p (renamed_seat names x) (renamed_queue names es) (renamed names s) ≡ renamed_outcome names (serves_first p x es s)
   serves_renamed p x [] s = refl
   serves_renamed p x (Connect_of c ∷ es) s = grind (arith, nat_tests, taken_from_renamed x.object.name s, accepting_renamed)
-  serves_renamed p x (Message_of c m ∷ es) s = grind (
-    arith,
-    nat_tests,
-    session_renamed x.object.name c s.cells,
-    taken_from_renamed x.object.name s,
-    attended_renamed p x c,
-  )
-  serves_renamed p x (Close_of c ∷ es) s = grind (
-    arith,
-    nat_tests,
-    session_renamed x.object.name c s.cells,
-    taken_from_renamed x.object.name s,
-    parting_renamed p x c,
-  )
+  serves_renamed p x (Message_of c m ∷ es) s =
+      grind (arith, nat_tests, session_renamed x.object.name c s.cells, taken_from_renamed x.object.name s, attended_renamed p x c)
+  serves_renamed p x (Close_of c ∷ es) s =
+      grind (arith, nat_tests, session_renamed x.object.name c s.cells, taken_from_renamed x.object.name s, parting_renamed p x c)
 
   picked_renamed : (p : Image) (x : Seat) (s : State) → picked p (renamed_seat names x) (renamed names s) ≡ renamed_outcome names (picked p x s)
-  picked_renamed p x s = grind (
-    arith,
-    nat_tests,
-    service_renamed names one_to_one s.cells x.object.name,
-    serves_renamed p x,
-    dispatched_renamed,
-    cond_applied,
-  )
+  picked_renamed p x s = grind (arith, nat_tests, service_renamed names one_to_one s.cells x.object.name, serves_renamed p x, dispatched_renamed, cond_applied)
 
   -- a native completes what a cell has outstanding, or is killed
   answered_renamed :
@@ -226,12 +188,7 @@ module _ (names : ℕ → ℕ) (one_to_one : IsOneToOne names) where
   bereaved_renamed p n cs = each_renamed names (bereaved p n) (λ c. refl) cs
 
   turned_renamed : (p : Image) (s : State) (t : Turning) → turned p (renamed names s) (renamed_turning names t) ≡ renamed_outcome names (turned p s t)
-  turned_renamed p s (Completes o) = rw (request_renamed timed_out o s.cells)
-  turned_renamed p s (Kills n) = rw (bereaved_renamed p n s.cells)
-  turned_renamed p s (Polls n answer) = polled_renamed p n answer s
-  turned_renamed p s (Picks x) = picked_renamed p x s
-  turned_renamed p s (Obeys client command name) = ap Goes (commanded_renamed names one_to_one p client (heard_one s) command name)
-  turned_renamed p s _ = refl
+  turned_renamed p s x = grind (arith, nat_tests, request_renamed, bereaved_renamed, polled_renamed, picked_renamed, commanded_renamed)
 
   pub turns_so : (p : Image) (outside : Environment) (heard : Heard) (s : State) → turn p outside (renamed_heard names heard) (renamed names s) ≡ renamed_outcome names (turn p outside heard s)
   turns_so p outside heard s = ap (turned p (renamed names s)) (turning_renamed names outside heard s) ∙ turned_renamed p s (turning outside heard s)
@@ -256,9 +213,8 @@ module _ (names : ℕ → ℕ) (one_to_one : IsOneToOne names) where
 
   by_kept : (p : Image) (s : State) (t : Turning) → written_by p (renamed names s) (renamed_turning names t) ≡ written_by p s t
   by_kept p s (Picks x) = pick_kept p s x.object
-  by_kept p s (Obeys client command name) = ap (refusal_line client) (refusal_kept names one_to_one p client s command)
-  by_kept p s _ = refl
+  by_kept p s x = grind (arith, nat_tests, refusal_kept names one_to_one p)
 
   pub writes_turn_so : (p : Image) (outside : Environment) (s : State) → written_turn p outside (renamed names s) ≡ written_turn p outside s
-  writes_turn_so p outside s =
-      sym (written_named p outside nothing_heard (names 0) (renamed names s)) ∙ ap (written_by p (renamed names s)) (turning_renamed names outside nothing_heard s) ∙ by_kept p s (turning outside nothing_heard s)
+  writes_turn_so p outside s = sym (written_named p outside nothing_heard (names 0) (renamed names s))
+      ∙ ap (written_by p (renamed names s)) (turning_renamed names outside nothing_heard s) ∙ by_kept p s (turning outside nothing_heard s)

@@ -21,12 +21,13 @@ use Rattle.aom_semantics.specs.Enlisted.{completed_with, is_active, on_request, 
 use Rattle.aom_roles.specs.Classes.{sessions_in, sessions_of}
 use Rattle.aom_safety.specs.Kept.{ClientsFit}
 use Rattle.aom_semantics.specs.Natives.{all_bereaved, is_dead, is_outstanding_at, is_owed, is_served_by, native_of, terminated, terminated_request}
-use Rattle.aom_semantics.specs.Places.{Cell, Elsewhere, Going, In_service, Queued, Request, Session as Session_at, Timer, requested}
+use Rattle.aom_semantics.specs.Places.{Cell, Request, Timer, requested}
 use Rattle.aom_safety.specs.Requests.{Known, Suits}
 use Rattle.aom_semantics.specs.State.{CompletedTwice, Goes, Inside, State}
 use Rattle.aom_safety.specs.WellTyped.{WellTyped}
-use Rattle.aom_semantics.specs.World.{taken_from, heard_one, Obeys, AnswersWell, Candidate, Completes, Kills, Picks, Polls, Strays, Timed, Turning, answered_by, cell_at, is_ready, turned, turning, with_request}
-use Rattle.aom_semantics.specs.Servers.{has_more, is_server}
+use Rattle.aom_semantics.specs.World.{taken_from, heard_one, Obeys, AnswersWell, Candidate, Completes, Kills, Picks, Polls, Strays}
+use Rattle.aom_semantics.specs.World.{Timed, Turning, answered_by, cell_at, is_ready, turned, turning, with_request}
+use Rattle.aom_semantics.specs.Servers.{is_server}
 use Rattle.aom_determinism.proofs.Services.{unchanged_served, unchanged_commanded, commanded_killed}
 
 -- ---- a native is killed
@@ -75,7 +76,7 @@ module _ (p : Image) (t : Typing) (s : State) (w : WellTyped p t s) where
   ready_same y cell ready =
       let own = requested s.cells y.seat.object.name in
       let completed = not-true (int_eq y.request.status pending) (and_parts (is_active y.request.phase) (not (int_eq y.request.status pending)) ready).1 in
-      asked_same p (pos 0) s (Inside y.seat.object y.seat.place) (on_request taken_up own) (taken_owed own ∙ sym (ap is_owed cell.asked ∙ completed_owed (Some y.request) completed))
+      asked_same p (pos 0) s (Inside y.seat.object y.seat.place) (on_request taken_up own) (grind (arith, nat_tests, taken_owed, completed_owed))
 
   -- no native serves a server
   server_unserved : (x : Thing) → is_server p x ≡ true → native_of (thing_kind p x) ≡ None
@@ -92,7 +93,7 @@ module _ (p : Image) (t : Typing) (s : State) (w : WellTyped p t s) where
 
       go : (b : Bool) → is_server p y.seat.object.thing ≡ b → Unchanged p s.cells (with_request taken_up y.seat.object s.cells)
       go true server = unchanged_asked p s.cells y.seat.object _ (λ k. still p (pos 0) s y.seat.object cell.lives (server_unserved y.seat.object.thing server) k _ _)
-      go false plain = ready_same y cell (sym (or_right_false (is_ready y.request)) ∙ sym (ap (λ q. is_ready y.request || has_more q) (fit.servers y.seat.object cell.lives plain).0) ∙ now)
+      go false plain = ready_same y cell (grind (arith, nat_tests, or_right_false))
 
   -- an object is dispatched, or a server with the first of its queue
   pick_same :
@@ -101,8 +102,14 @@ module _ (p : Image) (t : Typing) (s : State) (w : WellTyped p t s) where
   pick_same y u fit cell now d = elim d as (λ v d. Unchanged p s.cells v.cells × (v.killed ≡ s.killed)) [
     | handles m at ↦ (picked_same y fit cell now, refl)
     | accepts client m at ↦ (unchanged_served p s.cells y.seat.object.name _, refl)
-    | attends client message m o there at ↦ (unchanged_along p s.cells (taken_from y.seat.object.name s).cells _ (unchanged_served p s.cells y.seat.object.name _) (unchanged_moved p (taken_from y.seat.object.name s).cells (Elsewhere (Queued y.seat.object.name message)) (Elsewhere In_service)), refl)
-    | by_parting client o there ↦ (unchanged_along p s.cells (taken_from y.seat.object.name s).cells _ (unchanged_served p s.cells y.seat.object.name _) (unchanged_moved p (taken_from y.seat.object.name s).cells (Elsewhere (Session_at y.seat.object.name client)) (Going 1)), refl)
+    | attends client message m o there at ↦ (
+      unchanged_along p s.cells (taken_from y.seat.object.name s).cells _ (unchanged_served p s.cells y.seat.object.name _) (grind (arith, nat_tests, unchanged_moved)),
+      refl,
+    )
+    | by_parting client o there ↦ (
+      unchanged_along p s.cells (taken_from y.seat.object.name s).cells _ (unchanged_served p s.cells y.seat.object.name _) (grind (arith, nat_tests, unchanged_moved)),
+      refl,
+    )
   ]
 
   -- ---- a request is completed
@@ -124,16 +131,7 @@ module _ (p : Image) (t : Typing) (s : State) (w : WellTyped p t s) where
     owes_before = and_from (serves p s.cells n c.object.name) (is_owed (requested s.cells c.object.name)) (ap (λ o. serves_object p n o) cell.lives ∙ parts.0) outstanding
 
     owes_completed : (k m : ℕ) → owes p (with_request (completed_with code) c.object s.cells) k m ≡ (not ((n == k) && has_name (cell_at s.cells i) m) && owes p s.cells k m)
-    owes_completed k m = grind (
-      arith,
-      nat_tests,
-      owes_asked p s.cells c.object,
-      taken_off,
-      served k,
-      outstanding,
-      and_right,
-      completed_with_owed code settled,
-    )
+    owes_completed k m = grind (arith, nat_tests, owes_asked p s.cells c.object, taken_off, served k, outstanding, and_right, completed_with_owed code settled)
 
 -- ---- any turn
 
@@ -148,8 +146,8 @@ module _ (p : Image) (t : Typing) (s u : State) (w : WellTyped p t s) where
   asked_then :
       (i : ℕ) (c : Cell) → cell_at s.cells i ≡ Some c → (n : ℕ) (code : ℤ) → is_outstanding_at p n c ≡ true → answered_by p n (Some c) code s ≡ Goes u →
       Tale p s u (Polls n (Some (record { cell = i; code = code })))
-  asked_then i c at n code owed e =
-      subst (λ (v : State). Tale p s v (Polls n (Some (record { cell = i; code = code })))) (guarded_goes ((is_outstanding_at p n c, CompletedTwice) ∷ []) _ u e)
+  asked_then i c at n code owed e = subst (λ (v : State). Tale p s v (Polls n (Some (record { cell = i; code = code }))))
+      (guarded_goes ((is_outstanding_at p n c, CompletedTwice) ∷ []) _ u e)
       (record {
         completes = (c, at, owes_before p t s w n i c at owed (recorded code) (recorded_so code));
         owes = owes_completed p t s w n i c at owed (recorded code) (recorded_so code);
@@ -159,11 +157,11 @@ module _ (p : Image) (t : Typing) (s u : State) (w : WellTyped p t s) where
 
   pub told : (k : Turning) → ClientsFit p s.clients s.cells → IsAbout s k → AnswersWell p s k → turned p s k ≡ Goes u → Tale p s u k
   told Strays fit about well e = cc
-  told (Completes o) fit about well e =
-      let same = subst (λ x. Unchanged p s.cells (with_request timed_out x s.cells)) about.2 (due_same p t s w about.0 (is_due s.cells w.good.tidy about.0 about.1)) in
+  told (Completes o) fit about well e = let same =
+      subst (λ x. Unchanged p s.cells (with_request timed_out x s.cells)) about.2 (due_same p t s w about.0 (is_due s.cells w.good.tidy about.0 about.1)) in
       subst (λ (v : State). Tale p s v (Completes o)) (goes_same _ u e) (record { completes = tt; owes = same.owes; meets = same.meets; killed = refl })
-  told (Kills n) fit about well e =
-      subst (λ (v : State). Tale p s v (Kills n)) (goes_same _ u e) (record { completes = tt; owes = owes_bereaved p n s.cells; meets = meets_bereaved p n s.cells; killed = refl })
+  told (Kills n) fit about well e = subst (λ (v : State). Tale p s v (Kills n))
+      (goes_same _ u e) (record { completes = tt; owes = owes_bereaved p n s.cells; meets = meets_bereaved p n s.cells; killed = refl })
   told (Polls n (Some a)) fit about well e = asked_then a.cell well.0 well.1 n a.code well.2 (subst (λ c. answered_by p n c a.code s ≡ Goes u) well.1 e)
   told (Picks x) fit about well e =
       let cell = is_found_ready s.cells w.good.tidy about.0 about.1 in
@@ -171,7 +169,8 @@ module _ (p : Image) (t : Typing) (s u : State) (w : WellTyped p t s) where
       record { completes = tt; owes = same.0.owes; meets = same.0.meets; killed = same.1 }
   told (Obeys client command name) fit about well e =
       let same = unchanged_commanded p t (heard_one s) w.layers w.good client name about command in
-      subst (λ (v : State). Tale p s v (Obeys client command name)) (goes_same _ u e) (record { completes = tt; owes = same.owes; meets = same.meets; killed = commanded_killed p (heard_one s) client name command })
+      subst (λ (v : State). Tale p s v (Obeys client command name))
+      (goes_same _ u e) (record { completes = tt; owes = same.owes; meets = same.meets; killed = commanded_killed p (heard_one s) client name command })
   told r fit about well e = subst (λ (v : State). Tale p s v r) (goes_same _ u e) (record { completes = tt; owes = λ n m. refl; meets = λ n m. refl; killed = refl })
 
 -- ---- sessions hold after it
@@ -180,18 +179,13 @@ module _ (p : Image) (s : State) (holds : SessionsHold p s) where
   met_turned : (k : Turning) (n m : ℕ) → owes_turned s.cells k n m (owes p s.cells n m) ≡ true → meets_turned k n (meets p s.cells n m) ≡ true
   met_turned (Kills x) n m e = let both = and_parts (not (x == n)) (owes p s.cells n m) e in and_from (not (x == n)) (meets p s.cells n m) both.0 (holds.met n m both.1)
   met_turned (Polls x (Some a)) n m e = holds.met n m (and_parts (not ((x == n) && has_name (cell_at s.cells a.cell) m)) (owes p s.cells n m) e).1
-  met_turned (Polls x None) n m e = holds.met n m e
   met_turned _ n m e = holds.met n m e
 
   lives_turned : (k : Turning) (n m : ℕ) → meets_turned k n (meets p s.cells n m) ≡ true → is_dead (killed_turned k s.killed) n ≡ false
-  lives_turned (Kills x) n m e = grind (arith, nat_tests, meets p s.cells n m, list_any-append, or_from, not-true (x == n))
-  lives_turned _ n m e = holds.lives n m e
+  lives_turned x n m e = grind (arith, nat_tests, meets, list_any-append, or_from, not-true)
 
   pub sessions_turned : (u : State) (k : Turning) → Tale p s u k → SessionsHold p u
-  sessions_turned u k tale = record {
-    met = λ n m e. tale.meets n m ∙ met_turned k n m (sym (tale.owes n m) ∙ e);
-    lives = λ n m e. ap (λ l. is_dead l n) tale.killed ∙ lives_turned k n m (sym (tale.meets n m) ∙ e);
-  }
+  sessions_turned u k tale = search (arith, nat_tests, met_turned k, lives_turned k)
 
 pub turns_kill_or_complete : TurnsKillOrComplete
 turns_kill_or_complete p t outside heard s u w well fit holds e =

@@ -1,6 +1,7 @@
 -- Two runs, stage by stage, where each stage is a move or a turn: after as many stages they have written the same, and are the same but for names.
 use Rattle.std.proofs.lemmas.Bool.Decides.{nat_tests}
-use Rattle.std.proofs.Common.{List, None, Option, Some, [], ap, append-nil, append_assoc, arith, inl, inr, refl, subst, suc, sym, true, zero, ℕ, ⊎_elim, ◌∙◌, ◌∷◌, ◌≡◌, ◌<◌, ◌≤◌}
+use Rattle.std.proofs.Common.{List, None, Option, Some, [], ap, append-nil, append_assoc, arith, inl, inr}
+use Rattle.std.proofs.Common.{refl, subst, suc, sym, true, zero, ℕ, ⊎_elim, ◌∙◌, ◌∷◌, ◌≡◌, ◌<◌, ◌≤◌}
 use Rattle.std.proofs.lemmas.Bool.{cases_eq, cases_lt}
 use Rattle.std.specs.Prelude.{◌++◌, ◌⊎◌}
 use Rattle.aom_image.specs.Image.{Image}
@@ -14,7 +15,8 @@ use Rattle.aom_safety.specs.Laws.{IsWired}
 use Rattle.aom_semantics.specs.Moves.{IsOpen, step, written}
 use Rattle.aom_semantics.specs.State.{Choice, Goes, Outcome, State}
 use Rattle.aom_semantics.specs.Places.{named}
-use Rattle.aom_semantics.specs.World.{Heard, IsBetween, IsBusy, Reaches, Run_of, begins, boot_state, main_tasks, moves, nothing_heard, turn, turning, turns, written_turn, Environment}
+use Rattle.aom_semantics.specs.World.{Heard, IsBetween, IsBusy, Reaches, Run_of, begins, boot_state, main_tasks}
+use Rattle.aom_semantics.specs.World.{moves, nothing_heard, turn, turning, turns, written_turn, Environment}
 use Rattle.aom_transcript.specs.declared.line.Ending.{Ending}
 use Rattle.aom_transcript.specs.declared.line.Line.{Line}
 use Rattle.aom_determinism.proofs.Staying.{all_stays_there}
@@ -87,9 +89,8 @@ module _ (p : Image) (t : Typing) (outside : Environment) (wired : IsWired p) (t
       one.choice.answer ≡ other.choice.answer
   hears_alike n v w s u new new' alike one other heard = grind (arith, nat_tests, heard, heard_kept p alike.names v.tasks)
 
-  polls_alike :
-      (n : ℕ) (v w s u : State) (new new' : List Line) → AreAlike v w → (one : Turned n v s new) (other : Turned n w u new') → is_polling (turning outside nothing_heard v) ≡ true →
-      one.heard.completion ≡ other.heard.completion
+  polls_alike : (n : ℕ) (v w s u : State) (new new' : List Line) → AreAlike v w →
+      (one : Turned n v s new) (other : Turned n w u new') → is_polling (turning outside nothing_heard v) ≡ true → one.heard.completion ≡ other.heard.completion
   polls_alike n v w s u new new' alike one other polled = grind (arith, nat_tests, polling_kept alike.names outside v)
 
   stage_alike : (n : ℕ) (v w s u : State) (new new' : List Line) → WellKept p t w → AllThere w → AreAlike v w → Stage n v s new → Stage n w u new' → (new ≡ new') × AreAlike s u
@@ -164,17 +165,10 @@ module _ (p : Image) (t : Typing) (outside : Environment) (wired : IsWired p) (t
   Reached lines s = Reaches p outside (boot_state p) lines s
 
   agree : (lines others : List Line) (s u : State) (one : Reached lines s) (other : Reached others u) → Follows oracle one → Follows oracle other → Begins lines others ⊎ Begins others lines
-  agree lines others s u one other hears follows =
-      let a = staged one hears in
-      let b = staged other follows in
-      ⊎_elim
-      (λ lt. inl (begins_so (stages one) (stages other) lines others s u (omega arith) a b))
-      (λ le. inr (begins_so (stages other) (stages one) others lines u s le b a))
-      (cases_lt (stages one) (stages other))
+  agree lines others s u one other hears follows = grind (arith, nat_tests, staged, hears, begins_so, lines, cases_lt)
 
-  whole :
-      (lines others : List Line) (s u : State) (ending : Ending) (one : Run_of p outside lines s ending) (other : Reached others u) → Follows oracle one.reaches → Follows oracle other →
-      Begins others lines
+  whole : (lines others : List Line) (s u : State) (ending : Ending) (one : Run_of p outside lines s ending) (other : Reached others u) →
+      Follows oracle one.reaches → Follows oracle other → Begins others lines
   whole lines others s u ending one other hears follows =
       let a = staged one.reaches hears in
       let b = staged other follows in
@@ -183,13 +177,9 @@ module _ (p : Image) (t : Typing) (outside : Environment) (wired : IsWired p) (t
       (λ le. begins_so (stages other) (stages one.reaches) others lines u s le b a)
       (cases_lt (stages one.reaches) (stages other))
 
-  same_length :
-      (n m : ℕ) (lines others : List Line) (s u : State) (ending last : Ending) → Run_of p outside lines s ending → Run_of p outside others u last → After n lines s → After m others u →
-      n ≡ m
-  same_length n m lines others s u ending last one other a b = ⊎_elim
-      (λ lt. absurd (never_past n m lines others s u ending one lt a b))
-      (λ le. ⊎_elim (λ e. e) (λ ne. absurd (never_past m n others lines u s last other (omega arith) b a)) (cases_eq n m))
-      (cases_lt n m)
+  same_length : (n m : ℕ) (lines others : List Line) (s u : State) (ending last : Ending) →
+      Run_of p outside lines s ending → Run_of p outside others u last → After n lines s → After m others u → n ≡ m
+  same_length n m lines others s u ending last one other a b = grind (arith, nat_tests, never_past, lines, cases_eq, cases_lt)
 
   ended :
       (lines others : List Line) (s u : State) (ending last : Ending) (one : Run_of p outside lines s ending) (other : Run_of p outside others u last) →
@@ -202,8 +192,5 @@ module _ (p : Image) (t : Typing) (outside : Environment) (wired : IsWired p) (t
       (same.0, let x : Some ending ≡ Some last = sym one.ended ∙ sym (same_ended s u same.1) ∙ other.ended in cc, same.1)
 
 pub text_is_determined : TextIsDetermined
-text_is_determined p t outside wired typed = record {
-  agree = λ oracle. agree p t outside wired typed oracle;
-  whole = λ oracle. whole p t outside wired typed oracle;
-  ended = λ oracle. ended p t outside wired typed oracle;
-}
+text_is_determined p t outside wired typed =
+    search (arith, nat_tests, agree p t outside wired typed, whole p t outside wired typed, ended p t outside wired typed)

@@ -1,6 +1,6 @@
 -- As a cell goes: no connect at another server is lost, and a client that connected to this one asks nobody any more.
 use Rattle.std.proofs.lemmas.Bool.Decides.{nat_tests}
-use Rattle.std.proofs.Common.{Bool, List, None, Option, Some, [], ap, false, refl, sym, true, ℕ, ◌==◌, ◌∙◌, ◌≡◌, arith}
+use Rattle.std.proofs.Common.{Bool, List, Option, Some, [], ap, false, refl, sym, true, ℕ, ◌==◌, ◌∙◌, ◌≡◌, arith}
 use Rattle.std.proofs.lemmas.Bool.{eq-eqb, eqb-true, true≢false}
 use Rattle.std.specs.Prelude.{◌||◌}
 use Rattle.aom_image.specs.Image.{Image}
@@ -29,7 +29,7 @@ module _ (p : Image) (clients : List Client) (cs : List Cell) (tidy : Tidy cs) (
     connects = λ n c h. ap (λ l. waits l n c) (place_dropped g cs) ∙ connects_dropped (λ r. same_place r g) cs tidy n c (λ q o goes at same.
         let here : held cs g ≡ Some o = ap (held cs) (sym (same_place-true q g goes)) ∙ at in
         empty g o n here (plain o here) same) h;
-    places = λ n c. ap (λ l. held l (Elsewhere (Session n c))) (place_dropped g cs) ∙ places_dropped (λ r. same_place r g) cs tidy (λ n c. same_place_comm (Elsewhere (Session n c)) g ∙ apart n c) n c;
+    places = grind (arith, nat_tests, place_dropped, places_dropped, same_place_comm);
   }
 
   -- ---- a server goes
@@ -54,8 +54,8 @@ module _ (p : Image) (clients : List Client) (cs : List Cell) (tidy : Tidy cs) (
     other_connects n c other h = ap (λ l. waits l n c) gone_so ∙ connects_dropped (λ r. same_place r (Going k)) left (tidy_dropped (is_queue_of o.name) cs tidy) n c go (queue_connects n c h)
       where
         go : (q : Place) (x : Object) → same_place q (Going k) ≡ true → held left q ≡ Some x → x.name ≡ n → (service_of left n).queue ≡ []
-        go q x goes there same =
-            let it : Some o ≡ Some x = sym at ∙ sym (held_dropped (is_queue_of o.name) cs (Going k)) ∙ ap (held left) (sym (same_place-true q (Going k) goes)) ∙ there in
+        go q x goes there same = let it : Some o ≡ Some x =
+            sym at ∙ sym (held_dropped (is_queue_of o.name) cs (Going k)) ∙ ap (held left) (sym (same_place-true q (Going k) goes)) ∙ there in
             let equal : o ≡ x = cc in
             absurd (true≢false (sym (eq-eqb o.name n (ap (λ y. y.name) equal ∙ same)) ∙ other))
 
@@ -105,6 +105,4 @@ module _ (p : Image) (clients : List Client) (cs : List Cell) (tidy : Tidy cs) (
 
         at_place : (d : Option Dispatch) → IsAtPlace cs d → IsAtPlace (each_unslotted (service_of cs o.name).sessions cells) d
         at_place (Some (Of_server x c (Serves y))) h = calm.places x.object.name c ∙ places_gone x.object.name c ∙ h
-        at_place (Some (Of_server x c _)) h = tt
-        at_place (Some _) h = tt
-        at_place None h = tt
+        at_place _ h = tt
