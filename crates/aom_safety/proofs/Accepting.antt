@@ -3,7 +3,7 @@ use Rattle.std.proofs.lemmas.Bool.Decides.{nat_tests}
 use Rattle.std.proofs.Math.Bool.{or-true}
 use Rattle.std.proofs.Common.{arith, [], Bool, List, None, Some, ap, cond, false, length, refl, subst, sym, true, ℕ, ◌==◌, ◌∙◌, ◌∷◌, ◌≡◌}
 use Rattle.std.proofs.lemmas.Bool.{eq-eqb, eqb-true}
-use Rattle.std.specs.Prelude.{is_none, ◌&&◌, ◌++◌, ◌||◌}
+use Rattle.std.specs.Prelude.{is_none, ◌++◌, ◌||◌}
 use Rattle.aom_image.specs.Image.{Image}
 use Rattle.aom_image.specs.Views.{gives_of}
 use Rattle.aom_image.specs.declared.method.Gives.{Gives}
@@ -32,8 +32,7 @@ use Rattle.aom_semantics.specs.Calls.{result_needs}
 use Rattle.aom_safety.specs.Claims.{Dispatching, Layer, Mark, Mark_form, Method, claim, declared, declared_field, tasks_of}
 use Rattle.aom_semantics.specs.Places.{Cell, Elsewhere, Field, Place, Queued, Register, Service, Session, changed}
 use Rattle.aom_semantics.specs.Places.{held, moved, named, requested, same_place, seen, service_of, set_service}
-use Rattle.aom_safety.specs.Requests.{AllSuit}
-use Rattle.aom_semantics.specs.Servers.{has_message, has_session, is_among, opened}
+use Rattle.aom_semantics.specs.Servers.{is_among, opened}
 use Rattle.aom_semantics.specs.State.{word, Accepted, Accepts, Choice, Frame, Of_server, Seat, State}
 use Rattle.aom_safety.specs.WellTyped.{AllSit, Fits, Good, NoSeatAt}
 
@@ -75,9 +74,6 @@ module _ (p : Image) (t : Typing) (c : Choice) (s : State) (fr : Frame) (sh : Sh
   lives : named cs n ≡ Some x.object
   lives = sits_lives cs seats x at_hand.good.stack.4.1.2 at_hand.good.stack.4.1.3
 
-  none_yet : has_session (service_of cs n) client ≡ false
-  none_yet = at_hand.good.stack.4.1.4.1
-
   abbrev thing : Thing
   thing = at_hand.good.stack.4.1.0.0
 
@@ -86,7 +82,7 @@ module _ (p : Image) (t : Typing) (c : Choice) (s : State) (fr : Frame) (sh : Sh
 
   -- the session has a free place
   free : held cs to ≡ None
-  free = grind (arith, nat_tests, fits_unowning p, none_yet)
+  free = grind (arith, nat_tests, fits_unowning p)
 
   named_then : (m : ℕ) → named cs2 m ≡ named cs m
   named_then m = named_served cs1 n v m ∙ named_moved cs q to m
@@ -100,26 +96,17 @@ module _ (p : Image) (t : Typing) (c : Choice) (s : State) (fr : Frame) (sh : Sh
   service_then : (m : ℕ) → (n == m) ≡ false → service_of cs2 m ≡ service_of cs m
   service_then m other = service_there cs1 n m v other ∙ service_moved cs q to m
 
-  sessions_then : (m k : ℕ) → ((n == m) && (client == k)) ≡ false → has_session (service_of cs2 m) k ≡ has_session (service_of cs m) k
-  sessions_then m k other = grind (arith, nat_tests, eqb-true, service_now, among_old k client, service_then m)
-
-  messages_then : (m k : ℕ) → has_message (service_of cs2 m) k ≡ has_message (service_of cs m) k
-  messages_then m k = grind (arith, nat_tests, eqb-true, service_now, service_then m)
-
   -- nothing but the session is declared anew
   declared_then : (r : Place) → same_place to r ≡ false → declared p cs2 r ≡ declared p cs r
   declared_then (Field m f) e = ap (λ o. declared_field p o f) (named_then m)
-  declared_then (Elsewhere (Session m k)) e = grind (arith, nat_tests, sessions_then m k e, named_then m)
-  declared_then (Elsewhere (Queued m k)) e = grind (arith, nat_tests, messages_then m k, named_then m)
+  declared_then (Elsewhere (Session m k)) e = grind (arith, nat_tests, eqb-true, service_now, among_old, service_then, named_then m)
+  declared_then (Elsewhere (Queued m k)) e = grind (arith, nat_tests, eqb-true, service_now, service_then, named_then m)
   declared_then _ e = refl
 
   declared_now : declared p cs2 to ≡ Own thing Ready
   declared_now = grind (arith, nat_tests, service_now, among_new client, named_then, lives)
 
   -- a dispatch at either stage claims nothing
-  claims_alike : (d : Place → Kind) (r : Place) → claim p d (Dispatching (Of_server x client Accepted) seats ∷ ls) r ≡ claim p d (Dispatching (Of_server x client Accepts) seats ∷ ls) r
-  claims_alike d y = grind arith
-
   module _ (r : Returnable p fr sh a) where
     rule : AllTrue (rule_result p fr.method fr.place sh (An_own thing) a)
     rule = subst (λ g. AllTrue (rule_result p fr.method fr.place sh g a)) gives r.result
@@ -159,7 +146,7 @@ module _ (p : Image) (t : Typing) (c : Choice) (s : State) (fr : Frame) (sh : Sh
             at_hand.good.stack.2 at_hand.good.stack.3 refl entries rest_free (λ serving. absurd (at_hand.good.stack.1.message.0 serving)) r
             (seen cs1) (held cs1 r) bare in
             subst (λ y. Fits p (seen cs1) (held cs1 r) y)
-            (mark_claims p (declared p cs) gv (Dispatching (Of_server x client Accepts) seats ∷ ls) r ∙ sym (claims_alike (declared p cs) r)
+            (mark_claims p (declared p cs) gv (Dispatching (Of_server x client Accepts) seats ∷ ls) r ∙ sym (grind arith)
             ∙ claim_rel (λ y z. y ≡ z) (λ y. refl) p (declared p cs) (declared p cs2) (Dispatching (Of_server x client Accepted) seats ∷ ls) r (sym (declared_then r e)))
             over
 
@@ -172,15 +159,11 @@ module _ (p : Image) (t : Typing) (c : Choice) (s : State) (fr : Frame) (sh : Sh
         (λ r o other other' there lives. (grind (arith, nat_tests, held_served, held_moved, free), named_then o.name ∙ lives))
         tt (no_seat_there seats at_hand.good.stack.4.1.2) at_hand.good.stack.4.1.2
 
-    suits_then : AllSuit p cs2 (Dispatching (Of_server x client Accepted) seats ∷ ls)
-    suits_then o lives =
-        grind (arith, nat_tests, requested_then o.name, named_then o.name, lives, all_returned p, rests_there p o, suits_rests, known_resting p o fr sh.states)
-
     good_then : Good p t cs2 (Dispatching (Of_server x client Accepted) seats ∷ ls)
     good_then = record {
       stack = grind (arith, nat_tests, sits_then, first_kept, lives, requested_then, service_now, among_new client);
       fits = fits_then;
-      suits = suits_then;
+      suits = grind (arith, nat_tests, requested_then, named_then, lives, all_returned, rests_there, suits_rests, known_resting);
       tidy = tidy_served cs1 n v (tidy_moved cs q to free at_hand.good.tidy);
     }
 

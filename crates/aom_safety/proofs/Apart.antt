@@ -56,15 +56,12 @@ apart_fewer cs cs' waits told apart = search (arith, nat_tests)
 pub awaited_redeemed : (order : ℕ) (code : ℤ) (r : Option Request) (k : ℕ) → awaited (redeemed_request order code r) ≡ Some k → (awaited r ≡ Some k) × ((order == k) ≡ false)
 awaited_redeemed order code r k e = grind (arith, nat_tests, ne_eqb order k, is_order_of order)
 
-fewer_wait : (order : ℕ) (code : ℤ) (r : Option Request) (k : ℕ) → awaited (redeemed_request order code r) ≡ Some k → awaited r ≡ Some k
-fewer_wait order code r k e = grind arith
-
 pub told_as_before : (order : ℕ) (code : ℤ) (cs : List Cell) (n : ℕ) → service_of (all_redeemed order code cs) n ≡ service_of cs n
 told_as_before order code [] n = refl
 told_as_before order code (c ∷ cs) n = ap (λ v. cond (c.object.name == n) c.service v) (told_as_before order code cs n)
 
 pub redeemed_apart : (order : ℕ) (code : ℤ) (cs : List Cell) → TokensApart cs → TokensApart (all_redeemed order code cs)
-redeemed_apart order code cs = grind (arith, nat_tests, apart_fewer cs, fewer_wait order code, requested_redeemed order code cs, told_as_before order code cs)
+redeemed_apart order code cs = grind (arith, nat_tests, apart_fewer cs, requested_redeemed order code cs, told_as_before order code cs)
 
 pub redeemed_by_apart : (order : Option ℕ) (code : ℤ) (cs : List Cell) → TokensApart cs → TokensApart (redeemed_by order code cs)
 redeemed_by_apart x code cs apart = grind (arith, nat_tests, redeemed_apart)
@@ -95,9 +92,6 @@ module _ (cs us : List Cell) (apart : TokensApart cs) (name asker class : ℕ) (
   waits_as_before : (n k : ℕ) → awaited (requested vs n) ≡ Some k → awaited (requested us n) ≡ Some k
   waits_as_before n k e = grind (arith, nat_tests)
 
-  both_wait : (n m k : ℕ) → awaited (requested us n) ≡ Some k → awaited (requested us m) ≡ Some k → n ≡ m
-  both_wait n m k e f = grind (arith, nat_tests, past_waits cs m k, past_waits cs n k)
-
   abbrev its : Service
   its = handed_out (record { class = class; order = order })
 
@@ -109,7 +103,7 @@ module _ (cs us : List Cell) (apart : TokensApart cs) (name asker class : ℕ) (
   both_tell n m k e f = grind (arith, nat_tests, tells n k e, tells m k f, past_told cs m k, past_told cs n k)
 
   token_apart : TokensApart vs
-  token_apart = record { waits = λ n m k e f. both_wait n m k (waits_as_before n k e) (waits_as_before m k f); told = both_tell }
+  token_apart = record { waits = λ n m k e f. grind (arith, nat_tests, past_waits); told = both_tell }
 
 -- whatever is at work asks for the new order, or nothing does
 module _ (cs : List Cell) (o : Object) (r : Option Request) (order : ℕ) (promises : (k : ℕ) → awaited r ≡ Some k → k ≡ order) where
@@ -124,12 +118,9 @@ module _ (cs : List Cell) (o : Object) (r : Option Request) (order : ℕ) (promi
     requested_there cs o.name n r,
   )
 
-promises_it : (new : ℕ) (r : Option Request) (k : ℕ) → awaited (on_request (promised new) r) ≡ Some k → k ≡ new
-promises_it new x k e = grind (arith, nat_tests, same_Some)
-
 pub handed_apart : (name : ℕ) (home : Home) (owner : Place) (cs : List Cell) → TokensApart cs → TokensApart (handed_cells name home owner cs)
 handed_apart name (Inside o from) owner cs apart =
     let r = on_request (promised (next_token cs)) (requested cs o.name) in
     token_apart cs (set_request o.name r cs) apart name o.name (home_class (Inside o from)) owner (service_asked cs o.name r)
-    (asks_anew cs o r (next_token cs) (promises_it (next_token cs) (requested cs o.name)))
+    (asks_anew cs o r (next_token cs) (grind (arith, nat_tests, same_Some)))
 handed_apart name x owner cs apart = grind (arith, nat_tests, token_apart cs cs apart name name)

@@ -21,9 +21,6 @@ use Rattle.aom_semantics.specs.Places.{Cell, Elsewhere, In_service, Place, Root,
 use Rattle.aom_semantics.specs.State.{Of_server, Accepts, Serves, Dispatch, Frame, Item, Of_main, Of_object, Seat, State, Static, next, set_word}
 use Rattle.aom_safety.specs.WellTyped.{AllUndo, Awaits, Caught, Fits, Good, Keeps, Now, Stack}
 
-same_entries : (g : Gives) (c : ℕ) (sh : Shape) → (caught g c sh).entries ≡ sh.entries
-same_entries x c sh = grind arith
-
 -- null or 0 where the result would be, and the code
 told_fitted :
     (p : Image) (t : Typing) (cs : List Cell) (fr : Frame) (sh : Shape) (ls : List Layer) (code : ℤ) (g : Gives) (c : ℕ) →
@@ -60,7 +57,7 @@ module _ (p : Image) (t : Typing) (s : State) (code : ℤ) (items : List Item) w
       grind (arith, nat_tests, Fitted p t s.cells, told_fitted p t s.cells fr sh ls code gv c f below.0.1 below.0.2) in
       let leads : Leads t fr'.method (suc fr'.place) (caught gv c sh) = grind (arith, nat_tests, told_same) in
       let e = settle p t s.cells (next fr') (caught gv c sh) ls (stepped p t s.cells fr' (caught gv c sh) ls g) leads in
-      record { layers = Method (next fr') e.0 ∷ ls; tasks = refl; items = grind (arith, nat_tests, same_entries); undos = undos; good = e.1 }
+      record { layers = Method (next fr') e.0 ∷ ls; tasks = refl; items = grind (arith, nat_tests); undos = undos; good = e.1 }
     where
       fits : (r : Place) → Fits p (seen s.cells) (held s.cells r) (claim p (declared p s.cells) (Method fr sh ∷ ls) r)
       fits r = grind arith

@@ -53,10 +53,6 @@ module _ (p : Image) (t : Typing) (wired : IsWired p) (typed : IsTyped p t) (s :
       it : (c : ℕ) × (x.object.thing ≡ An_object_of c) × IsAnswerer p c m
       it = found p wired x.object.thing m e
 
-      word : (i : ℕ) → WordFits (at None (Some code ∷ []) i) (at Unset (map argument_kind (Takes_word ∷ [])) i)
-      word zero = tt
-      word (suc i) = tt
-
       empty : (i : ℕ) → Fits p (seen s.cells) None (at Unset (map argument_kind (Takes_word ∷ [])) i)
       empty zero = tt
       empty (suc i) = tt
@@ -89,7 +85,7 @@ module _ (p : Image) (t : Typing) (wired : IsWired p) (typed : IsTyped p t) (s :
         there = it.2.there;
         holder = houses_role p wired.family x.object.thing it.0 m it.1 it.2.family (ap (λ r. holder_by r (Some it.2.family.class)) it.2.role);
         plain = ap is_cancel it.2.role;
-        words = λ i. subst (λ xs. WordFits (at None (Some code ∷ []) i) (at Unset (map argument_kind xs) i)) (sym it.2.arguments) (word i);
+        words = λ i. subst (λ xs. WordFits (at None (Some code ∷ []) i) (at Unset (map argument_kind xs) i)) (sym it.2.arguments) (grind arith);
         free = λ i. subst (λ xs. Fits p (seen s.cells) None (at Unset (map argument_kind xs) i)) (sym it.2.arguments) (empty i);
         fields = λ f. ap (λ r. at Perhaps (entry_fields r) f) it.2.role ∙ at_alike 8 Perhaps f;
       }

@@ -1,26 +1,23 @@
 -- The boot state is well typed.
 use Rattle.std.proofs.lemmas.Bool.Decides.{nat_tests}
-use Rattle.std.proofs.Common.{List, None, Option, Some, [], ap, refl, subst, true, ℕ, ◌∷◌, ◌≡◌, arith}
+use Rattle.std.proofs.Common.{List, None, Option, Some, [], ap, refl, subst, ℕ, ◌∷◌, ◌≡◌, arith}
 use Rattle.std.specs.Prelude.{IsSome}
 use Rattle.aom_classes.specs.Roles.{main_of}
 use Rattle.aom_image.specs.Image.{Image}
 use Rattle.aom_image.specs.Views.{arguments_of, gives_of, method_role}
 use Rattle.aom_image.specs.declared.method.Gives.TheVariants.{Nothing}
 use Rattle.aom_image.specs.declared.method.Role.TheVariants.{Main}
-use Rattle.aom_image.specs.declared.method.Thing.{Thing}
-use Rattle.aom_shape.specs.Kinds.{filled, is_empty, register}
-use Rattle.aom_shape.specs.Order.{SaysNoMore, Weaker, WeakerFilling, alike_filling}
+use Rattle.aom_shape.specs.Kinds.{register}
+use Rattle.aom_shape.specs.Order.{SaysNoMore, Weaker}
 use Rattle.aom_shape.specs.Shape.{Shape}
 use Rattle.aom_rules.specs.Typing.{IsTyped, Typing, shape_at}
 use Rattle.aom_shape.specs.Arguments.{entry_shape}
-use Rattle.aom_shape.specs.declared.kind.Filling.{Filling}
-use Rattle.aom_shape.specs.declared.kind.Filling.TheVariants.{Full}
 use Rattle.aom_shape.specs.declared.kind.Kind.TheVariants.{Unset}
 use Rattle.aom_safety.proofs.Destroying.{entry_registers, unset_only}
 use Rattle.aom_safety.proofs.Housing.{counts_same, houses_same}
 use Rattle.aom_safety.specs.Claims.{Dispatching, Layer, Mark, Method, claim, declared}
 use Rattle.aom_safety.specs.Laws.{IsWired}
-use Rattle.aom_semantics.specs.Places.{Place, Sight, seen}
+use Rattle.aom_semantics.specs.Places.{Place, seen}
 use Rattle.aom_semantics.specs.State.{A_mark, AtRoot, Frame, Of_main, State, frame_of}
 use Rattle.aom_safety.specs.WellTyped.{Fits, Good, WellTyped}
 use Rattle.aom_semantics.specs.World.{boot_state, main_tasks}
@@ -30,10 +27,6 @@ abbrev begins : ℕ → Frame
 begins m = frame_of m AtRoot 1
 
 -- main's root is null as it begins
-root_null : (p : Image) (h : Sight) (x : Option Thing) (y z : Filling) → WeakerFilling y z → is_empty z ≡ true → Fits p h None (filled x y)
-root_null p h (Some x) Full z alike_filling e = cc
-root_null p h _ _ z w e = tt
-
 module _ (p : Image) (m : ℕ) (after : Shape) (w : SaysNoMore after (entry_shape p m)) (role : method_role p m ≡ Some Main) (arguments : arguments_of p m ≡ []) where
   unset : (i : ℕ) → register after i ≡ Unset
   unset i = unset_only (subst (λ k. Weaker (register after i) k) (entry_registers p m arguments i) (w.registers i))
@@ -42,7 +35,7 @@ module _ (p : Image) (m : ℕ) (after : Shape) (w : SaysNoMore after (entry_shap
   layers = Method (begins m) after ∷ Mark Nothing ∷ Dispatching Of_main [] ∷ []
 
   fits : (r : Place) → Fits p (seen []) None (claim p (declared p []) layers r)
-  fits x = grind (arith, nat_tests, unset, root_null p, plain_claim)
+  fits x = grind (arith, nat_tests, unset, plain_claim)
 
   pub good : (t : Typing) → shape_at t m 0 ≡ Some after → gives_of p m ≡ Nothing → Good p t [] layers
   good t stands gives = record { stack = grind (arith, nat_tests, unset, houses_same p, counts_same p AtRoot); fits = fits; suits = λ o lives. cc; tidy = tt }

@@ -1,7 +1,6 @@
 -- The laws of a call and of a trap: what is asked of them holds, and the method that begins and the one that waits for it are well typed.
 use Rattle.std.proofs.lemmas.Bool.Decides.{nat_tests}
-use Rattle.std.proofs.Common.{[], Bool, IsTrue, List, None, Option, Some, ap, arith, false, inl, length, refl, subst, suc, sym, true, ℕ, ◌<◌, ◌∙◌, ◌∷◌, ◌≡◌}
-use Rattle.std.specs.Prelude.{not}
+use Rattle.std.proofs.Common.{[], IsTrue, List, None, Option, Some, ap, arith, false, inl, length, refl, subst, suc, sym, true, ℕ, ◌<◌, ◌∙◌, ◌∷◌, ◌≡◌}
 use Rattle.aom_image.specs.Image.{Image}
 use Rattle.aom_image.specs.Views.{arguments_of, gives_of, has, instr_at, is_quiet, method_class, method_role}
 use Rattle.aom_instructions.specs.declared.instr.Instr.TheVariants.{Call, Trap}
@@ -24,7 +23,7 @@ use Rattle.aom_safety.specs.Laws.{IsCalled, IsWired}
 use Rattle.aom_semantics.specs.Moves.{does}
 use Rattle.aom_semantics.specs.Places.{Cell, Object, Place}
 use Rattle.aom_semantics.specs.State.{Choice, Frame, Home, Inside, State, home_holder}
-use Rattle.aom_safety.specs.WellTyped.{Awaits, Caught, EndsWell, IsApart, IsBelow, IsHoused, Returns, Stands}
+use Rattle.aom_safety.specs.WellTyped.{Awaits, Caught, EndsWell, IsApart, IsHoused, Returns, Stands}
 use Rattle.aom_safety.proofs.Callees.{none_owns_each, only_then}
 use Rattle.aom_safety.specs.Requests.{rests_in, thing_kind, works_at}
 use Rattle.aom_roles.specs.Shapes.{kind_of}
@@ -39,9 +38,6 @@ use Rattle.aom_roles.specs.Roles.{is_cancel, is_construct}
 called_unissued : (target : Target) (class : Option ℕ) (ended : ℕ) (sh : Shape) → unissued sh.states ≡ true → unissued ended ≡ true → unissued (while_called target class ended sh).states ≡ true
 called_unissued x class ended sh u e = grind arith
 
-called_delivery : (target : Target) (class : Option ℕ) (ended : ℕ) (sh : Shape) → (while_called target class ended sh).delivery ≡ sh.delivery
-called_delivery x class ended sh = grind arith
-
 -- under a trap it rests
 rests_under : (p : Image) (m : ℕ) (fr : Frame) (sh : Shape) (home : Home) → ((o : Object) (from : Place) → home ≡ Inside o from → thing_kind p o.thing
     ≡ kind_of p (method_class p m)) → ((o : Object) (from : Place) → home ≡ Inside o from → works_at o.name fr.home ≡ true → sh.states ≡ resting p
@@ -53,9 +49,6 @@ ends_well :
     (p : Image) (m k : ℕ) (fr : Frame) (sh : Shape) (home : Home) → is_cancel (method_role p k) ≡ false → IsTrue (has (after_of p m) (after_of p k)) →
     ((o : Object) (from : Place) → home ≡ Inside o from → works_at o.name fr.home ≡ true → sh.states ≡ after_of p m) → EndsWell p k home fr sh
 ends_well p m k fr sh x plain after e = grind arith
-
-not_then : (b : Bool) → not b ≡ true → b ≡ false
-not_then x e = grind arith
 
 module _ (p : Image) (t : Typing) (wired : IsWired p) (typed : IsTyped p t) (c : Choice) (s : State) (fr : Frame) (sh : Shape) (ls : List Layer) (at_hand : At p t s fr sh ls) where
   pub law_call : (target : Target) (m first x : ℕ) → instr_at p fr.method fr.place ≡ Some (Call target m first x) → Law p t c s fr sh ls at_hand (Call target m first x)
@@ -75,7 +68,7 @@ module _ (p : Image) (t : Typing) (wired : IsWired p) (typed : IsTyped p t) (c :
       let home = target_home p fr (tasks_of ls) s target (method_class p m) in
       let runs = runs_for p wired m view (home_holder home) called_so a.1.holder answered.1 in
       let stands : Stands p t (Returns k home) fr sh' = (
-        grind (arith, nat_tests, only_then, none_owns_each sh'.registers, none_owns_at, called_unissued target, called_delivery target, here_is),
+        grind (arith, nat_tests, only_then, none_owns_each sh'.registers, none_owns_at, called_unissued target, here_is),
         rw runs.gives (rw at_x (awaited p t wired typed c s fr sh ls at_hand m first depth height deep called_so passed (gives_of p m) x sh' a.1.owning more.1.1.1.0)),
         grind (arith, nat_tests),
         grind (arith, nat_tests, ends_well, cancels_not),
@@ -100,11 +93,8 @@ module _ (p : Image) (t : Typing) (wired : IsWired p) (typed : IsTyped p t) (c :
       height = length s.items
 
 -- over a trap's mark
-below_mark : (from : Place) (gv : Gives) (ls : List Layer) → IsBelow from ls → IsBelow from (Mark gv ∷ ls)
-below_mark x gv ls b = grind arith
-
 housed_mark : (p : Image) (cs : List Cell) (home : Home) (gv : Gives) (ls : List Layer) → IsHoused p cs ls home → IsHoused p cs (Mark gv ∷ ls) home
-housed_mark p _ x gv ls h = grind (arith, nat_tests, below_mark, mark_claims p)
+housed_mark p _ x gv ls h = grind (arith, nat_tests, mark_claims p)
 
 apart_mark : (p : Image) (view : Option ℕ) (k : ℕ) (home : Home) (gv : Gives) (fr : Frame) (sh : Shape) (ls : List Layer) → IsApart p view k home
     (Method fr sh ∷ ls) → ((o : Object) (from : Place) → home ≡ Inside o from → works_at o.name fr.home ≡ true → IsTrue (has sh.states (rests_in p o))) →
@@ -136,7 +126,7 @@ module _ (p : Image) (t : Typing) (wired : IsWired p) (typed : IsTyped p t) (c :
         subst (λ y. is_unowning (register sh' (suc y)) ≡ true) (sym at_x) (a.1.owning (suc x) ∙ more.1.1.1.0),
         subst (λ y. Awaits gv y sh') (sym at_x) (awaited p t wired typed c s fr sh ls at_hand m first depth height deep called_so passed gv x sh' a.1.owning more.1.1.0),
         subst (λ y. Leads t fr.method (suc fr.place) (caught gv y sh')) (sym at_x) leads.0,
-        not_then (is_quiet p fr.method) n.0,
+        grind arith,
       ) in
       let high = same_high p t wired typed c s fr sh ls at_hand m first depth height deep called_so passed home sh' a.1 in
       let below = caller p t wired typed c s fr sh ls at_hand m first depth height deep called_so passed home sh' (Caught gv) a.1 stands in

@@ -1,6 +1,6 @@
 -- The beginning of a leave, the entry that it deals with, and its arrival, by the layers of a well-typed state.
 use Rattle.std.proofs.lemmas.Bool.Decides.{nat_tests}
-use Rattle.std.proofs.Common.{[], Bool, List, None, Option, Some, ap, arith, cond, false, length, pos, refl, subst, suc, sym, true, ℕ, ℤ, ◌∙◌, ◌∷◌, ◌≡◌, ◌≢◌}
+use Rattle.std.proofs.Common.{[], List, None, Option, Some, ap, arith, cond, false, length, pos, refl, subst, suc, sym, true, ℕ, ℤ, ◌∙◌, ◌∷◌, ◌≡◌, ◌≢◌}
 use Rattle.std.proofs.lemmas.Bool.{eq-eqb, ne_eqb}
 use Rattle.std.specs.Prelude.{is_some, ◌++◌}
 use Rattle.aom_image.specs.Image.{Image}
@@ -25,13 +25,12 @@ use Rattle.aom_safety.proofs.Straight.{claim_register, fits_unowning}
 use Rattle.aom_semantics.specs.Calls.{called, result_register}
 use Rattle.aom_safety.specs.Claims.{Dispatching, Form, Layer, Mark, Mark_form, Method, Unwinding, declared, forms, items_of, objects, tasks_of}
 use Rattle.aom_semantics.specs.Cleanup.{arrival, arrived, code_told, destroyed, has_trap, operation_frame, to_trap, unwound}
-use Rattle.aom_semantics.specs.Destruction.{begun_by}
 use Rattle.aom_safety.specs.Laws.{IsWired}
-use Rattle.aom_safety.specs.Leaves.{AreEntries, AreMethods, Arrives, ArrivesAt, Begins, HasMoved, HasNoResult}
-use Rattle.aom_safety.specs.Leaves.{HasPushed, Hears, IsBegun, IsDestroyed, IsLeaving, IsOver, LeavesWith}
+use Rattle.aom_safety.specs.Leaves.{AreEntries, AreMethods, Arrives, ArrivesAt, Begins, HasMoved}
+use Rattle.aom_safety.specs.Leaves.{HasPushed, Hears, IsBegun, IsLeaving, IsOver, LeavesWith}
 use Rattle.aom_semantics.specs.Moves.{announcement, counted, does, needs, step, written_task}
 use Rattle.aom_semantics.specs.Places.{Cell, Entry, Going, Object, Place, Register, held, moved, named, same_place, seen}
-use Rattle.aom_semantics.specs.State.{Destroy, Closing, A_mark, An_object, An_operation, Choice, Dispatch, Dispatched, Frame}
+use Rattle.aom_semantics.specs.State.{A_mark, An_object, An_operation, Choice, Dispatch, Dispatched, Frame}
 use Rattle.aom_semantics.specs.State.{Goes, Item, Main_left, Run, State, Task, Trapped, Unwind, next, set_word, word}
 use Rattle.aom_safety.specs.WellTyped.{AllUndo, Awaits, EndsDispatch, Fits, Good, Leaves, Now, Stack, WellTyped}
 use Rattle.aom_semantics.specs.Effects.{Leaves, Update, applied}
@@ -157,9 +156,6 @@ begins p t wired typed c s u w unused fr ts i code at there h e =
 none_on_its_way : (p : Image) (t : Typing) (s : State) → WellTyped p t s → (ts : List Task) → s.tasks ≡ ts → held s.cells (Going (length ts)) ≡ None
 none_on_its_way p t s w ts at = grind (arith, nat_tests, fits_unowning p, claim_going_above p s.cells w.layers)
 
-destroyed_over : (p : Image) (x : Bool) (d : Option ℕ) (o : Object) (height : ℕ) (under : List Task) → IsDestroyed x d o under (cond x (Closing ∷ Destroy ∷ under) (begun_by p d o height under))
-destroyed_over p x d o height under = grind arith
-
 module _ (p : Image) (t : Typing) (wired : IsWired p) (s u : State) (w : WellTyped p t s) (code : ℤ) (below : List Task) (at_hand : s.tasks ≡ Unwind code ∷ below) where
   -- what is made of the item on top, with these below it
   abbrev Dealt : Item → List Item → State → Type 0
@@ -174,7 +170,7 @@ module _ (p : Image) (t : Typing) (wired : IsWired p) (s u : State) (w : WellTyp
       rw o.1 (
         begins_over p wired o.0 (length rest) code below (Unwind code ∷ below) (refl, refl),
         refl,
-        (o.0, has_moved s.cells (Entry (length rest)) g o.0 o.1 free refl, grind (arith, nat_tests, destroyed_over, below)),
+        (o.0, has_moved s.cells (Entry (length rest)) g o.0 o.1 free refl, grind (arith, nat_tests, below)),
       )
 
   of_item : AllUndo p s.items → (i : Item) (rest es : List Item) → s.items ≡ i ∷ rest → AreEntries (i ∷ es) → unwound p code below (counted p s) (i ∷ rest) ≡ Goes u → Dealt i rest u
@@ -225,18 +221,13 @@ module _ (c : ℕ) (code : ℤ) (fr : Frame) where
   told_first : (w : Option ℤ) → word (set_word (set_word fr c w) (suc c) (Some code)) c ≡ w
   told_first w = other_word (set_word fr c w) (suc c) c (Some code) next_register ∙ own_word fr c w
 
-  told_result :
-      (g : Gives) (cs : List Cell) (depth : ℕ) (sh : Shape) → Awaits g c sh → (is_unowning (register sh c) ≡ true → held cs (Register depth c) ≡ None) →
-      HasNoResult g cs depth c fr (next (code_told g c code fr))
-  told_result x cs depth sh a free = grind (arith, nat_tests, other_word, next_register, told_first)
-
   pub told_frame : (g : Gives) → record (next (code_told g c code fr)) { words = fr.words } ≡ next fr
   told_frame x = grind arith
 
   hears :
       (g : Gives) (cs : List Cell) (depth : ℕ) (sh : Shape) → Awaits g c sh → is_unowning (register sh (suc c)) ≡ true →
       ((r : ℕ) → is_unowning (register sh r) ≡ true → held cs (Register depth r) ≡ None) → Hears code g c cs depth fr (next (code_told g c code fr))
-  hears g cs depth sh a unowning free = search (arith, nat_tests, told_code g, told_result g cs depth sh a (free c), others, told_others g, told_frame g)
+  hears g cs depth sh a unowning free = search (arith, nat_tests, told_code g, other_word, next_register, told_first, others, told_others g, told_frame g)
 
 module _ (p : Image) (t : Typing) (s u : State) (code : ℤ) (items : List Item) where
   -- where it arrives, and what stays

@@ -1,8 +1,8 @@
 -- How the claims change with the abstract state of the top method, and how they go on to hold.
 use Rattle.std.proofs.lemmas.Bool.Decides.{nat_tests}
 use Rattle.std.proofs.Common.{[], Bool, List, None, Option, Some, ap, arith, cond, false, length}
-use Rattle.std.proofs.Common.{refl, subst, true, zero, ℕ, ℤ, ◌&&◌, ◌<◌, ◌==◌, ◌∙◌, ◌∷◌, ◌≡◌, ◌≤◌}
-use Rattle.std.proofs.lemmas.Bool.{cases_Bool, eq-eqb, eqb-true, ne_eqb}
+use Rattle.std.proofs.Common.{refl, subst, true, zero, ℕ, ℤ, ◌<◌, ◌==◌, ◌∙◌, ◌∷◌, ◌≡◌, ◌≤◌}
+use Rattle.std.proofs.lemmas.Bool.{cases_Bool, eqb-true, ne_eqb}
 use Rattle.std.specs.Prelude.{is_some}
 use Rattle.aom_image.specs.Image.{Image}
 use Rattle.aom_image.specs.declared.method.Gives.{Gives}
@@ -21,12 +21,12 @@ use Rattle.aom_shape.specs.declared.kind.Kind.{Kind}
 use Rattle.aom_shape.specs.declared.kind.Kind.TheVariants.{Null, Own, Unset}
 use Rattle.aom_safety.proofs.Services.{service_moved, attended_kept, sessions_kept}
 use Rattle.aom_safety.proofs.Seats.{NoFieldHere, NoSeatHere, first_kept, sits_kept}
-use Rattle.aom_semantics.proofs.Maps.{at-put_at, held_moved, named_moved, requested_moved, same_place-true, same_place_refl, transfer}
+use Rattle.aom_semantics.proofs.Maps.{at-put_at, held_moved, named_moved, requested_moved, same_place-true, transfer}
 use Rattle.aom_safety.specs.Claims.{is_of_root, Dispatching, Dying, Form, Layer, Mark, Method, Unwinding, claim, declared, entries_of, entry_claim, home_claim}
-use Rattle.aom_safety.specs.Claims.{items_of, layer_claim, objects, own_field, root_claim, tasks_of, Ending, by_close, by_stage, delivered, serves}
+use Rattle.aom_safety.specs.Claims.{items_of, layer_claim, objects, own_field, root_claim, tasks_of, Ending, delivered, serves}
 use Rattle.aom_semantics.specs.Places.{Service, Cell, Elsewhere, Entry, Field, Going, Object, Place, Register, Root}
 use Rattle.aom_semantics.specs.Places.{Sight, changed, held, moved, named, same_place, Session, In_service}
-use Rattle.aom_semantics.specs.State.{AtRoot, Dispatch, Frame, Home, Inside, Seat, Static, field_place, home_holder, Of_server, Parts, Serves, Service_left}
+use Rattle.aom_semantics.specs.State.{AtRoot, Dispatch, Frame, Home, Inside, Seat, Static, field_place, home_holder}
 use Rattle.aom_safety.specs.WellTyped.{view_holder, InView, Back, Caught, Fits, Gone, HasAge, Holds, IsBelow, IsHoused, IsNoFieldOf}
 use Rattle.aom_safety.specs.WellTyped.{Leaves, NoneFrom, NoneIn, Returns, Stack, Unclaimed, WordFits, by_field, Now}
 
@@ -56,24 +56,13 @@ own_at :
     own_field (thing f) (at Perhaps (put_at Perhaps xs a x) f) below ≡ cond (a == f) v (own_field (thing f) (at Perhaps xs f) below)
 own_at thing xs a x v below f some same = grind (arith, nat_tests, at-put_at Perhaps xs a f x, eqb-true a f, own_there (thing a) x below some)
 
-claim-set_member : (p : Image) (d : Place → Kind) (fr : Frame) (o : Object) (from : Place) (sh : Shape) (ls : List Layer) (a : ℕ) (x : Filling) (v : Kind)
-    (r : Place) → fr.home ≡ Inside o from → is_some (field_thing p (holder_of p fr.method) a) ≡ true → filled (field_thing p (holder_of p fr.method) a) x ≡ v →
-    claim p d (Method fr (set_field sh a x) ∷ ls) r ≡ changed (claim p d (Method fr sh ∷ ls)) (Field o.name a) v r
-claim-set_member p d fr o from sh ls a x v y e some same = grind (arith, nat_tests, own_at)
-
-claim-set_root : (p : Image) (d : Place → Kind) (fr : Frame) (sh : Shape) (ls : List Layer) (x : Filling) (v : Kind) (r : Place) → fr.home ≡ AtRoot →
-    filled (field_thing p Program 0) x ≡ v → claim p d (Method fr (set_field sh 0 x) ∷ ls) r ≡ changed (claim p d (Method fr sh ∷ ls)) (Elsewhere Root) v r
-claim-set_root p d fr sh ls x v (Elsewhere Root) e same =
-    ap (λ h. root_claim p h (set_field sh 0 x) (claim p d ls (Elsewhere Root))) e ∙ filled_at (λ f. field_thing p Program f) sh.fields 0 x v 0 same
-claim-set_root p d fr sh ls x v y e same = grind arith
-
 -- a field of the top method is claimed anew
 pub claim-set_field :
     (p : Image) (d : Place → Kind) (fr : Frame) (home : Home) (sh : Shape) (ls : List Layer) (a : ℕ) (x : Filling) (v : Kind) (r : Place) → fr.home ≡ home →
     field_thing p (home_holder home) a ≡ field_thing p (holder_of p fr.method) a → is_some (field_thing p (home_holder home) a) ≡ true → filled (field_thing p
     (home_holder home) a) x ≡ v → claim p d (Method fr (set_field sh a x) ∷ ls) r ≡ changed (claim p d (Method fr sh ∷ ls)) (field_place home a) v r
-claim-set_field p d fr AtRoot sh ls zero x v r e own some same = claim-set_root p d fr sh ls x v r e same
-claim-set_field p d fr (Inside o from) sh ls a x v r e own some same = grind (arith, nat_tests, claim-set_member p d fr o from sh ls a x v r e)
+claim-set_field p d fr AtRoot sh ls zero x v r e own some same = grind (arith, nat_tests, filled_at)
+claim-set_field p d fr (Inside o from) sh ls a x v r e own some same = grind (arith, nat_tests, own_at)
 claim-set_field p d fr _ sh ls _ x v r e own some same = cc
 
 -- one more entry, and one less
@@ -203,9 +192,6 @@ Outside (Field n f) ls = NoneIn n ls
 Outside (Elsewhere w) ls = NoneFrom (Elsewhere w) ls
 Outside (Going k) ls = length (tasks_of ls) ≤ k
 
-length_items : (l : Layer) (ls : List Layer) → length (items_of ls) ≤ length (items_of (l ∷ ls))
-length_items x ls = grind (arith, nat_tests, length_objects)
-
 none_in_less : (n : ℕ) (l : Layer) (ls : List Layer) → NoneIn n (l ∷ ls) → NoneIn n ls
 none_in_less n x ls h = grind arith
 
@@ -213,18 +199,15 @@ none_from_less : (q : Place) (l : Layer) (ls : List Layer) → NoneFrom q (l ∷
 none_from_less q x ls h = grind arith
 
 pub outside_less : (q : Place) (l : Layer) (ls : List Layer) → Outside q (l ∷ ls) → Outside q ls
-outside_less x l ls h = grind (arith, nat_tests, length_items l ls, none_in_less, none_from_less)
+outside_less x l ls h = grind (arith, nat_tests, length_objects, none_in_less, none_from_less)
 
 -- then no seat is there
 pub no_seat_outside : (q : Place) (d : Dispatch) (seats : List Seat) (ls : List Layer) → Outside q (Dispatching d seats ∷ ls) → NoSeatHere q seats
 no_seat_outside x d seats ls h = grind arith
 
 -- no place is both
-outside_below : (q : Place) (ls : List Layer) → Outside q ls → NoFieldHere q q → IsBelow q ls → ⊥
-outside_below x ls h n b = grind (arith, nat_tests, eq-eqb, same_place_refl)
-
 pub outside_differs : (q from : Place) (ls : List Layer) → Outside q ls → NoFieldHere q from → IsBelow from ls → same_place q from ≡ false
-outside_differs q from ls h n b = grind (arith, nat_tests, cases_Bool, same_place-true q from, outside_below q ls h, NoFieldHere q)
+outside_differs q from ls h n b = grind (arith, nat_tests, cases_Bool, same_place-true q from, NoFieldHere q)
 
 pub no_field_here : (q : Place) (fr : Frame) (o : Object) (from : Place) (sh : Shape) (ls : List Layer) → fr.home ≡ Inside o from → Outside q (Method fr sh ∷ ls) → NoFieldHere q from
 no_field_here x fr o from sh ls e h = grind arith
@@ -301,20 +284,6 @@ home_rel R same p k (Inside o from) sh n f x y h = go (o.name == n)
     go true = own_rel R same (field_thing p k f) (field sh f) x y h
     go false = h
 
-root_rel : (R : Kind → Kind → Type 0) → ((k : Kind) → R k k) → (p : Image) (home : Home) (sh : Shape) (x y : Kind) → R x y → R (root_claim p home sh x) (root_claim p home sh y)
-root_rel R same p Static sh x y h = h
-root_rel R same p AtRoot sh x y h = same _
-root_rel R same p (Inside o from) sh x y h = h
-
-close_rel : (R : Kind → Kind → Type 0) → ((k : Kind) → R k k) → (d : Dispatch) (s c : ℕ) (x y : Kind) → R x y → R (by_close d s c x) (by_close d s c y)
-close_rel R same (Of_server z client Parts) s c x y h = cond_rel R same ((z.object.name == s) && (client == c)) Null x y h
-close_rel R same _ s c x y h = h
-
-stage_rel : (R : Kind → Kind → Type 0) → ((k : Kind) → R k k) → (d : Dispatch) (x y : Kind) → R x y → R (by_stage d x) (by_stage d y)
-stage_rel R same (Of_server z client (Serves o)) x y h = same _
-stage_rel R same (Of_server z client (Service_left code)) x y h = same _
-stage_rel R same _ x y h = h
-
 pub layer_rel :
     (R : Kind → Kind → Type 0) → ((k : Kind) → R k k) → (p : Image) (l : Layer) (depth : ℕ) (items : List Form) (r : Place) (x y : Kind) → R x y →
     R (layer_claim p l depth items r x) (layer_claim p l depth items r y)
@@ -323,14 +292,14 @@ layer_rel R same p l depth items (Entry k) x y h = entry_rel R same (entries_of 
 layer_rel R same p (Method fr sh) depth items (Field n f) x y h = home_rel R same p (holder_of p fr.method) fr.home sh n f x y h
 layer_rel R same p (Dying o) depth items (Field n f) x y h = cond_rel R same (o.name == n) Null x y h
 layer_rel R same p (Ending o left) depth items (Field n f) x y h = cond_rel R same (o.name == n) _ x y h
-layer_rel R same p (Method fr sh) depth items (Elsewhere Root) x y h = root_rel R same p fr.home sh x y h
+layer_rel R same p (Method fr sh) depth items (Elsewhere Root) x y h = grind arith
 layer_rel R same p (Dispatching d seats) depth items (Elsewhere Root) x y h = cond_rel R same (is_of_root d) Null x y h
 layer_rel R same p (Method fr sh) depth items (Elsewhere (Session s c)) x y h = h
 layer_rel R same p (Dying o) depth items (Elsewhere (Session s c)) x y h = cond_rel R same (o.name == s) Null x y h
 layer_rel R same p (Ending o left) depth items (Elsewhere (Session s c)) x y h = cond_rel R same (o.name == s) _ x y h
-layer_rel R same p (Dispatching d seats) depth items (Elsewhere (Session s c)) x y h = close_rel R same d s c x y h
+layer_rel R same p (Dispatching d seats) depth items (Elsewhere (Session s c)) x y h = grind (arith, nat_tests, cond_rel)
 layer_rel R same p (Method fr sh) depth items (Elsewhere In_service) x y h = cond_rel R same (serves p fr.method) (delivered sh.delivery) x y h
-layer_rel R same p (Dispatching d seats) depth items (Elsewhere In_service) x y h = stage_rel R same d x y h
+layer_rel R same p (Dispatching d seats) depth items (Elsewhere In_service) x y h = grind arith
 layer_rel R same p (Dying o) depth items (Going k) x y h = cond_rel R same (depth == k) (Own o.thing Ready) x y h
 layer_rel R same p (Mark gv) depth items (Elsewhere Root) x y h = h
 layer_rel R same p (Unwinding code es) depth items (Elsewhere Root) x y h = h
@@ -340,14 +309,11 @@ pub claim_rel : (R : Kind → Kind → Type 0) → ((k : Kind) → R k k) → (p
 claim_rel R same p d d' [] r h = h
 claim_rel R same p d d' (l ∷ ls) r h = layer_rel R same p l _ _ r _ _ (claim_rel R same p d d' ls r h)
 
-perhaps_ready : (t : Option Thing) → is_ready_kind (filled t Perhaps) ≡ true
-perhaps_ready x = grind arith
-
 full_ready : (b : Bool) (t : Option Thing) → is_ready_kind (cond b (filled t Full) Null) ≡ true
 full_ready x t = grind arith
 
 pub declared_ready : (p : Image) (cs : List Cell) (r : Place) → is_ready_kind (declared p cs r) ≡ true
-declared_ready p cs x = grind (arith, nat_tests, perhaps_ready, full_ready)
+declared_ready p cs x = grind (arith, nat_tests, full_ready)
 
 -- declared fields are ready, so that a claim which is ready with nothing declared is ready
 pub claim_ready : (p : Image) (cs : List Cell) (ls : List Layer) (r : Place) → is_ready_kind (claim p (λ x. Null) ls r) ≡ true → is_ready_kind (claim p (declared p cs) ls r) ≡ true

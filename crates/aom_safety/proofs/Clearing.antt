@@ -11,7 +11,6 @@ use Rattle.aom_image.specs.Views.{is_quiet, method_class}
 use Rattle.aom_instructions.specs.declared.instr.Instr.{Instr}
 use Rattle.aom_instructions.specs.declared.instr.Instr.TheVariants.{Call}
 use Rattle.aom_instructions.specs.declared.instr.Target.{Target}
-use Rattle.aom_image.specs.declared.method.Gives.{Gives}
 use Rattle.aom_roles.specs.Tests.{AllTrue}
 use Rattle.aom_roles.specs.Families.{parent_by}
 use Rattle.aom_shape.specs.Kinds.{no_entry}
@@ -27,29 +26,23 @@ use Rattle.aom_safety.proofs.Finishing.{all_parts}
 use Rattle.aom_safety.proofs.Items.{length_forms}
 use Rattle.aom_safety.proofs.Moving.{steps_are_moves}
 use Rattle.aom_safety.proofs.Preserving.{receives}
-use Rattle.aom_semantics.specs.Calls.{returned}
 use Rattle.aom_safety.specs.Claims.{Form, Layer, Method, forms, items_of, objects, tasks_of}
 use Rattle.aom_semantics.specs.Cleanup.{has_trap}
 use Rattle.aom_classes.specs.Roles.{role_of}
-use Rattle.aom_semantics.specs.Destruction.{class_destructor, line_on, destructed, parting, begun, begun_by}
+use Rattle.aom_semantics.specs.Destruction.{class_destructor, line_on, destructed, begun, begun_by}
 use Rattle.aom_semantics.specs.Effects.{Effect, Update, applied, items_after}
 use Rattle.aom_safety.specs.Laws.{IsWired}
 use Rattle.aom_safety.specs.Leaves.{IsLeaving, IsOver}
 use Rattle.aom_semantics.specs.Moves.{counted, step}
 use Rattle.aom_semantics.specs.Places.{Cell, Object}
-use Rattle.aom_semantics.specs.State.{Static, Inside, AtRoot, Home, Seat, Choice, Frame, Goes, Item, Run, State, Task, Unwind, resumed}
+use Rattle.aom_semantics.specs.State.{Static, Inside, AtRoot, Home, Choice, Frame, Goes, Item, Run, State, Task, Unwind}
 use Rattle.aom_safety.specs.Steps.{Empties, Acts, Arrives, Clears, Comes_out, Ends, Fits, FitsUpdate, Move, Rests, Undoes, Vanishes}
 use Rattle.aom_safety.specs.WellTyped.{Good, WellTyped}
-use Rattle.aom_semantics.specs.Enlisted.{ended_cells}
 
 -- a leave that is begun over it finds no trap
 no_trap : (p : Image) (height : ℕ) (code : ℤ) (below ts : List Task) → IsOver p height code below ts → has_trap ts ≡ true → ⊥
 no_trap p height code below (Run fr ∷ ts) o e = no_trap p height code below ts o.2 e
 no_trap p height code below x o e = grind arith
-
--- what waited goes on
-resumes_over : (p : Image) (height : ℕ) (code : ℤ) (below ts : List Task) → IsOver p height code below ts → IsOver p height code below (resumed ts)
-resumes_over p height code below x o = grind arith
 
 -- a destruction begins over it
 destructs_over : (p : Image) → IsWired p → (o : Object) (height : ℕ) (code : ℤ) (below ts : List Task) → IsOver p height code below ts → IsOver p height code below (destructed p o height ts)
@@ -95,9 +88,6 @@ module _ (p : Image) (wired : IsWired p) (c : Choice) (fr : Frame) (sh : Shape) 
   no_entry_there : not (no_entry sh.entries) ≡ true → ⊥
   no_entry_there e = true≢false (sym e ∙ ap (λ es. not (no_entry es)) bare)
 
-  return_kept : (g : Gives) (a : ℕ) (under : List Task) → IsOver p (length s.items) code below under → Kept (returned p fr ts (record s { cells = ended_cells p fr s.cells }) g a under)
-  return_kept g a x w = grind (arith, nat_tests, receives p fr ts, line_over p wired fr.method fr.home)
-
   -- neither pushed nor taken
   same_items : (i : Instr) (u : Update) → Ruled i → FitsUpdate ts s.items i u → items_after u s.items ≡ s.items
   same_items i x r f = grind (arith, nat_tests, no_trap p, no_entry_there)
@@ -107,7 +97,7 @@ module _ (p : Image) (wired : IsWired p) (c : Choice) (fr : Frame) (sh : Shape) 
   call_quiet target m first x r = grind (arith, nat_tests, all_parts, only_then)
 
   acts_kept : (i : Instr) (e : Effect) → Ruled i → Fits p c fr ts s i e → Kept (applied p fr ts s e)
-  acts_kept i x r f = grind (arith, nat_tests, same_items, body_quiet, call_quiet, cancel_quiet, return_kept, no_trap, begins_over, no_entry_there)
+  acts_kept i x r f = grind (arith, nat_tests, same_items, body_quiet, call_quiet, cancel_quiet, receives, line_over, no_trap, begins_over, no_entry_there)
 
 module _ (p : Image) (t : Typing) (wired : IsWired p) (typed : IsTyped p t) (c : Choice) (s u : State) (w : WellTyped p t s) (code : ℤ) (below : List Task)
     (over : IsOver p (length s.items) code below s.tasks) (other : s.tasks ≡ Unwind code ∷ below → ⊥) where
@@ -121,9 +111,6 @@ module _ (p : Image) (t : Typing) (wired : IsWired p) (typed : IsTyped p t) (c :
   at_leave x ts at = let o = subst O at over in other (at ∙ ap (λ y. Unwind y ∷ ts) o.0 ∙ ap (λ l. Unwind code ∷ l) o.1)
 
   -- a server that goes over it has its sessions go first
-  empties : (o : Object) (x : Option Seat) (ts : List Task) → IsOver p (length s.items) code below ts → Stays (parting p o x ts (counted p s))
-  empties o x ts h = grind (arith, nat_tests, destructs_over, begins_over)
-
   kept : Move p c s u → Stays u
   kept (Rests still e) = subst Stays (sym e) (over, refl)
   kept (Acts fr ts i e at there met fits same) =
@@ -132,8 +119,8 @@ module _ (p : Image) (t : Typing) (wired : IsWired p) (typed : IsTyped p t) (c :
       let x = typed.each fr.method fr.place stands.0 stands.1 in
       let is : x.instr ≡ i = same_Some x.instr i (sym x.stands ∙ there) in
       subst Stays (sym same) (acts_kept p wired c fr stands.0 ts (counted p s) at code below h stands.2 i e (rw is at x.needs) fits)
-  kept (Vanishes ts o at there owns same) = subst Stays (sym same) (resumes_over p (length s.items) code below ts (subst O at over), refl)
-  kept (Empties ts o at there same) = grind (arith, nat_tests, empties)
+  kept (Vanishes ts o at there owns same) = subst Stays (sym same) (grind arith, refl)
+  kept (Empties ts o at there same) = grind (arith, nat_tests, destructs_over, begins_over)
   kept (Clears x ts items o at top there same) = absurd (at_leave x ts at)
   kept (Undoes x ts items m y at top same) = absurd (at_leave x ts at)
   kept (Arrives x fr ts items at top same) = absurd (at_leave x _ at)

@@ -3,10 +3,7 @@ use Rattle.std.proofs.lemmas.Bool.Decides.{nat_tests}
 use Rattle.aom_safety.proofs.Asking.{error_enters}
 use Rattle.std.proofs.Common.{[], ℕ, Bool, List, None, Option, Some, ap, arith, false, length, refl, subst, sym, true, ◌∷◌, ◌≡◌, ℤ, ⊎_elim}
 use Rattle.aom_image.specs.Image.{Image}
-use Rattle.aom_image.specs.declared.method.Thing.{Thing}
-use Rattle.aom_shape.specs.Kinds.{filled}
 use Rattle.aom_rules.specs.Typing.{IsTyped, Typing}
-use Rattle.aom_shape.specs.declared.kind.Filling.TheVariants.{Perhaps}
 use Rattle.aom_shape.specs.declared.kind.Kind.TheVariants.{Null}
 use Rattle.aom_safety.proofs.Destroying.{no_going, goes_well}
 use Rattle.aom_safety.proofs.Straight.{fits_unowning}
@@ -49,11 +46,8 @@ module _ (p : Image) (t : Typing) (s : State) where
     good = subst (λ cs. Good p t cs []) (sym cells) (record { stack = refl; fits = fits d plain good; suits = good.suits; tidy = good.tidy });
   }
     where
-      nothing : (x : Option Thing) → Fits p (seen s.cells) None (filled x Perhaps)
-      nothing x = grind arith
-
       fits : (d : Dispatch) → serves_none d ≡ true → Good p t s.cells (Dispatching d seats ∷ []) → (r : Place) → Fits p (seen s.cells) (held s.cells r) (declared p s.cells r)
-      fits x y z r = grind (arith, nat_tests, root_gone p t s seats, nothing, none_parts d plain, none_served d plain Null)
+      fits x y z r = grind (arith, nat_tests, root_gone p t s seats, none_parts d plain, none_served d plain Null)
 
   -- the root goes
   uproots : IsWired p → IsTyped p t → (d : Dispatch) (seats : List Seat) → serves_none d ≡ true → is_of_root d ≡ false →

@@ -2,13 +2,12 @@
 use Rattle.std.proofs.lemmas.Bool.Decides.{nat_tests}
 use Rattle.std.specs.Prelude.{◌⊎◌}
 use Rattle.aom_safety.proofs.Guarded.{guarded_goes}
-use Rattle.std.proofs.Common.{Bool, List, Option, ap, arith, cond, false, refl, true, ℕ, ◌+◌, ◌≤◌, ◌∙◌, ◌≡◌, ℤ}
+use Rattle.std.proofs.Common.{Bool, List, Option, ap, arith, cond, false, refl, true, ℕ, ◌+◌, ◌≤◌, ◌∙◌, ◌≡◌}
 use Rattle.aom_image.specs.Image.{Image}
 use Rattle.aom_safety.proofs.Moving.{steps_are_moves}
 use Rattle.aom_safety.proofs.Resting.{move_rest, IsEnd, Takes}
 use Rattle.aom_safety.specs.Counting.{DispatchesAreCounted, StepsAreCounted, ends_object, in_range, restarts, starts, steps_of, taken}
-use Rattle.aom_semantics.specs.Effects.{Course, coursed}
-use Rattle.aom_semantics.specs.Moves.{answered, counted, dispatch_ends, handled, is_counted, main_ends, object_ends, step}
+use Rattle.aom_semantics.specs.Moves.{counted, dispatch_ends, handled, main_ends, object_ends, step}
 use Rattle.aom_semantics.specs.Places.{Elsewhere, Object, Root, held}
 use Rattle.aom_semantics.specs.State.{Choice, Dispatch, Goes, Counters, State, Task, raised}
 use Rattle.aom_semantics.specs.World.{Heard, Environment, Reaches, Turning, begins, boot_state, moves, turn, turned, turning, turns}
@@ -18,20 +17,14 @@ use Rattle.aom_transcript.specs.declared.line.Line.{Line}
 abbrev Counts : Bool → Counters → Counters → Type 0
 Counts ends r u = (u.steps ≡ cond ends 0 r.steps) × (u.dispatches ≡ cond ends (raised r.dispatches) r.dispatches)
 
-course_counts : (x : Course) (r : Counters) → Counts false r (coursed x r)
-course_counts x r = grind arith
-
 main_counts : (p : Image) (b : Bool) (o : Option Object) (s : State) → Counts false s.rest (main_ends p b o s).rest
 main_counts p x o s = grind arith
 
 object_counts : (p : Image) (s : State) → Counts true s.rest (object_ends p s).rest
 object_counts p s = main_counts p s.rest.stopped (held s.cells (Elsewhere Root)) (handled s)
 
-answer_counts : (p : Image) (answer : ℤ) (s : State) → Counts true s.rest (answered p answer s).rest
-answer_counts p answer s = grind (arith, nat_tests, object_counts p s)
-
 end_counts : (p : Image) (d : Dispatch) (s : State) → Counts (ends_object p d) s.rest (dispatch_ends p d s).rest
-end_counts p x s = grind (arith, nat_tests, main_counts p s.rest.stopped, object_counts p s, answer_counts p)
+end_counts p x s = grind (arith, nat_tests, main_counts p s.rest.stopped, object_counts p s)
 
 -- a move counts, and nothing else does
 move_counts : (p : Image) (c : Choice) (s u : State) → step p c s ≡ Goes u → Counts (restarts p s.tasks) (counted p s).rest u.rest
@@ -42,7 +35,6 @@ move_counts p c s u e = grind (
   steps_are_moves p c s u e,
   Takes p s u ⊎ IsEnd p s u,
   IsEnd p s u,
-  course_counts,
   guarded_goes,
   end_counts p,
 )
@@ -50,20 +42,14 @@ move_counts p c s u e = grind (
 pub move_steps : (p : Image) (c : Choice) (s u : State) → step p c s ≡ Goes u → u.rest.steps ≡ cond (restarts p s.tasks) 0 (counted p s).rest.steps
 move_steps p c s u e = (move_counts p c s u e).0
 
-counted_steps : (ts : List Task) (n : ℕ) → n ≡ in_range n → cond (is_counted ts) (raised n) n ≡ in_range (n + steps_of ts)
-counted_steps x n e = grind arith
-
 -- the next count is that of all that is taken
-one_more : (n k : ℕ) → k ≤ 1 → in_range (in_range n + k) ≡ in_range (n + k)
-one_more n k le = omega (arith, le)
-
 at_most_one : (ts : List Task) → steps_of ts ≤ 1
 at_most_one x = grind arith
 
 moves_count :
     (p : Image) (c : Choice) (s u : State) → s.rest.steps ≡ in_range s.rest.steps → step p c s ≡ Goes u →
     u.rest.steps ≡ cond (restarts p s.tasks) 0 (in_range (s.rest.steps + steps_of s.tasks))
-moves_count p c s u within e = move_steps p c s u e ∙ ap (λ n. cond (restarts p s.tasks) 0 n) (counted_steps s.tasks s.rest.steps within)
+moves_count p c s u within e = move_steps p c s u e ∙ ap (λ n. cond (restarts p s.tasks) 0 n) (grind arith)
 
 -- a turn counts anew where it dispatches an object
 turn_count : (p : Image) (outside : Environment) (heard : Heard) (s u : State) → turn p outside heard s ≡ Goes u → u.rest.steps ≡ cond (starts (turning outside heard s)) 0 s.rest.steps
@@ -85,7 +71,7 @@ anew x n = grind arith
 runs_count : (p : Image) (outside : Environment) {lines : List Line} {s : State} (reached : Reaches p outside (boot_state p) lines s) → s.rest.steps ≡ in_range (taken reached)
 runs_count p outside begins = refl
 runs_count p outside (moves {s = s} {u = u} c reached busy opened goes) =
-    grind (arith, nat_tests, runs_count p outside reached, moves_count p c s u, one_more, at_most_one s.tasks, anew)
+    grind (arith, nat_tests, runs_count p outside reached, moves_count p c s u, at_most_one s.tasks, anew)
 runs_count p outside (turns {s = s} {u = u} heard reached between well goes) =
     grind (arith, nat_tests, turn_count p outside heard s u goes, runs_count p outside reached, anew)
 

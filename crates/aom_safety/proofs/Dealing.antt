@@ -87,12 +87,6 @@ module _ (p : Image) (t : Typing) (wired : IsWired p) (typed : IsTyped p t) (s :
     begins_with : (i : ℕ) → register (entry_shape p m) i ≡ at Unset (Word ∷ []) i
     begins_with i = ap (λ xs. register (record (entry_shape p m) { registers = map argument_kind xs }) i) undo.arguments
 
-    none_yet : (i : ℕ) → Fits p (seen s.cells) None (at Unset (Word ∷ []) i)
-    none_yet x = grind arith
-
-    its_word : (i : ℕ) → WordFits (at None (Some w ∷ []) i) (at Unset (Word ∷ []) i)
-    its_word x = grind arith
-
     -- the entry's claim was none
     fits_below : (r : Place) → Fits p (seen s.cells) (held s.cells r) (claim p (declared p s.cells) below r)
     fits_below r = grind (arith, nat_tests, less r)
@@ -105,7 +99,7 @@ module _ (p : Image) (t : Typing) (wired : IsWired p) (typed : IsTyped p t) (s :
         go : (b : Bool) → (length (tasks_of below) == f) ≡ b → Fits p (seen s.cells) (held s.cells (Register f i)) (cond b (register after i) (claim p (declared p s.cells) below (Register f i)))
         go true h =
             let above = rw (claim_register_above p s.cells below f i (omega (arith, eqb-true _ _ h))) at (fits_below (Register f i)) in
-            rw (fits_unowning p (seen s.cells) _ Null refl above) (fits_weaker p (seen s.cells) None (says.registers i) (rw (begins_with i) (none_yet i)))
+            rw (fits_unowning p (seen s.cells) _ Null refl above) (fits_weaker p (seen s.cells) None (says.registers i) (rw (begins_with i) (grind arith)))
         go false h = fits_below (Register f i)
     runs_fitting height after says r = grind (arith, nat_tests, plain_claim, fits_below (Elsewhere In_service), fits_below r)
 
@@ -128,7 +122,7 @@ module _ (p : Image) (t : Typing) (wired : IsWired p) (typed : IsTyped p t) (s :
             stack = (
               leads.1,
               record {
-                words = λ i. word_fits_weaker (word fr i) (says.registers i) (subst (λ k. WordFits (word fr i) k) (sym (begins_with i)) (its_word i));
+                words = λ i. word_fits_weaker (word fr i) (says.registers i) (subst (λ k. WordFits (word fr i) k) (sym (begins_with i)) (grind arith));
                 holder = houses_same p _ _ (sym holder);
                 view = counts_same p Static _ (sym holder);
                 height = sym (length_forms items) ∙ ap length same;

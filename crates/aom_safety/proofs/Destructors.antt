@@ -23,7 +23,7 @@ use Rattle.aom_shape.specs.Kinds.{all_empty, field, filled, is_empty, no_entry, 
 use Rattle.aom_rules.specs.Calls.{empty_past, fields_done, is_destruct, result_moved}
 use Rattle.aom_image.specs.declared.method.Role.{Role}
 use Rattle.aom_roles.specs.Tests.{AllTrue}
-use Rattle.aom_roles.specs.Roles.{is_service, is_cancel}
+use Rattle.aom_roles.specs.Roles.{is_cancel}
 use Rattle.aom_shape.specs.Shape.{Shape}
 use Rattle.aom_roles.specs.Tables.{at}
 use Rattle.aom_roles.specs.Things.{holder_by, Member, field_thing, holder_of}
@@ -71,9 +71,6 @@ none_from (t ∷ ts) (suc f) e = let le = none_from ts f e in omega (arith, le)
 destructs_only : (r : Option Role) → is_destruct r ≡ true → is_cancel r ≡ false
 destructs_only x e = grind arith
 
-destructs_plainly : (r : Option Role) → is_destruct r ≡ true → is_service r ≡ false
-destructs_plainly x e = grind arith
-
 -- what may rest as its destructor ends rests
 last_rests : (k : Option ClassKind) (r : Option Request) → Suits k (resting_in (last_of k)) r → Suits k (resting_in (states_of k)) r
 unfolding last_of states_of
@@ -82,9 +79,6 @@ last_rests k r s = grind arith
 -- an empty field owns nothing, and what owns nothing fits
 empty_none : (p : Image) (h : Sight) (x : Option Object) (y : Thing) (z : Filling) → is_empty z ≡ true → Fits p h x (filled (Some y) z) → x ≡ None
 empty_none p h x y z e f = grind (arith, nat_tests, fits_unowning p h x Null)
-
-none_fits : (p : Image) (h : Sight) (y : Option Thing) → Fits p h None (filled y Perhaps)
-none_fits p h x = grind arith
 
 module _ (p : Image) (t : Typing) (c : Choice) (s : State) (fr : Frame) (sh : Shape) (o : Object) (ls : List Layer) (at_hand : At p t s fr sh (Dying o ∷ ls)) where
   abbrev cs : List Cell
@@ -140,7 +134,7 @@ module _ (p : Image) (t : Typing) (c : Choice) (s : State) (fr : Frame) (sh : Sh
 
     -- and all are as they are declared
     all_fit : (f : ℕ) → Fits p h (held cs (Field o.name f)) (filled (field_thing p (thing_holder o.thing) f) Perhaps)
-    all_fit f = grind (arith, nat_tests, own_fits f, fits_unowning p, none_fits p, perhaps_fits p)
+    all_fit f = grind (arith, nat_tests, own_fits f, fits_unowning p, perhaps_fits p)
 
     -- of all other places what stands below claims what is so
     abbrev IsBeside : Place → Type 0
@@ -160,7 +154,7 @@ module _ (p : Image) (t : Typing) (c : Choice) (s : State) (fr : Frame) (sh : Sh
     beside (Entry k) u = grind (arith, nat_tests, no_entries sh.entries entries)
     beside (Field m f) other = grind (arith, nat_tests, home)
     beside (Elsewhere Root) u = grind (arith, nat_tests, home)
-    beside (Elsewhere In_service) u = grind (arith, nat_tests, plain_claim, destructs_plainly, destructs)
+    beside (Elsewhere In_service) u = grind (arith, nat_tests, plain_claim, destructs)
     beside (Elsewhere w) u = at_hand.good.fits (Elsewhere w)
     beside (Going k) u = at_hand.good.fits (Going k)
 

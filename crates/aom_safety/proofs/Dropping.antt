@@ -119,12 +119,9 @@ module _ (gone : Place → Bool) where
   pub fewer_requested : (cs : List Cell) → Tidy cs → (n : ℕ) → requested cs n ≡ None → requested (dropped cs) n ≡ None
   fewer_requested cs t n e = ⊎_elim (λ s. s.request ∙ e) (λ w. requested_unnamed (dropped cs) n w.none) (each_name cs t n)
 
-  fewer_named : (cs : List Cell) → Tidy cs → (n : ℕ) → named cs n ≡ None → named (dropped cs) n ≡ None
-  fewer_named cs t n e = ⊎_elim (λ s. s.name ∙ e) (λ w. w.none) (each_name cs t n)
-
   pub tidy_dropped : (cs : List Cell) → Tidy cs → Tidy (dropped cs)
   tidy_dropped [] t = tt
-  tidy_dropped (c ∷ cs) t = grind (arith, nat_tests, tidy_dropped cs t.2, fewer_held cs c.owner t.0, fewer_named cs t.2 c.object.name t.1)
+  tidy_dropped (c ∷ cs) t = grind (arith, nat_tests, tidy_dropped cs t.2, fewer_held cs c.owner t.0, each_name)
 
   -- where these are messages
   module _ (p : Image) (cs : List Cell) (tidy : Tidy cs) (messages : (r : Place) (x : Object) → gone r ≡ true → held cs r ≡ Some x → x.thing ≡ Message) where

@@ -1,13 +1,13 @@
 -- Right over the going of a server: the sessions with it go one after another, and then its destructor begins.
 use Rattle.std.proofs.lemmas.Bool.Decides.{nat_tests}
 use Rattle.std.proofs.Common.{[], Bool, List, None, Option, Some, ap, arith, cond, false, inl, inr, length, refl, subst, sym, true, ℕ, ◌==◌, ◌∙◌, ◌∷◌, ◌≡◌}
-use Rattle.std.proofs.lemmas.Bool.{cases_Bool, eq-eqb, eqb-true}
-use Rattle.std.specs.Prelude.{filter, ◌||◌}
+use Rattle.std.proofs.lemmas.Bool.{cases_Bool, eqb-true}
+use Rattle.std.specs.Prelude.{filter}
 use Rattle.aom_image.specs.Image.{Image}
 use Rattle.aom_rules.specs.Typing.{IsTyped, Typing}
 use Rattle.aom_shape.specs.Kinds.{filled}
 use Rattle.aom_roles.specs.Things.{field_thing}
-use Rattle.aom_shape.specs.declared.kind.Filling.TheVariants.{Full, Perhaps}
+use Rattle.aom_shape.specs.declared.kind.Filling.TheVariants.{Perhaps}
 use Rattle.aom_shape.specs.declared.kind.Kind.TheVariants.{Null}
 use Rattle.aom_safety.proofs.Destroying.{server_last, Bare, Untouched, destruct, no_going, untouched, goes_well}
 use Rattle.aom_safety.proofs.Items.{length_forms}
@@ -21,7 +21,7 @@ use Rattle.aom_semantics.specs.Destruction.{closing, first_session, parting, sea
 use Rattle.aom_safety.specs.Laws.{IsWired}
 use Rattle.aom_semantics.specs.Places.{requested, Cell, Elsewhere, Field, Going, Object, Place, Session, changed, held, named, seen, service_of}
 use Rattle.aom_safety.specs.Requests.{Suits, resting_in, states_claim, thing_kind, AllSuit}
-use Rattle.aom_semantics.specs.Servers.{is_among, is_other, session_thing}
+use Rattle.aom_semantics.specs.Servers.{is_among, is_other}
 use Rattle.aom_semantics.specs.State.{Home, Seat, State, thing_holder}
 use Rattle.aom_safety.specs.WellTyped.{AllSit, AllUndo, Back, Fits, Gone, Good, IsHoused, Keeps, NoSeatAt}
 use Rattle.aom_safety.specs.WellTyped.{NoneFrom, NotFrom, SomeIn, SomeSits, Stack, WellTyped}
@@ -34,16 +34,10 @@ none_first : (cs : List Cell) (n : ℕ) (ss : List ℕ) → first_session cs n s
 none_first cs n [] e c among = cc
 none_first cs n (d ∷ ss) e c among = go (held cs (Elsewhere (Session n d))) refl e (λ e h. none_first cs n ss e c h)
   where
-    here :
-        (b : Bool) → (d == c) ≡ b → (b || is_among c ss) ≡ true → held cs (Elsewhere (Session n d)) ≡ None → first_session cs n ss ≡ None →
-        (first_session cs n ss ≡ None → is_among c ss ≡ true → held cs (Elsewhere (Session n c)) ≡ None) → held cs (Elsewhere (Session n c)) ≡ None
-    here true same h there rest later = ap (λ k. held cs (Elsewhere (Session n k))) (sym (eqb-true d c same)) ∙ there
-    here false other h there rest later = later rest h
-
     go :
         (o : Option Object) → held cs (Elsewhere (Session n d)) ≡ o → seat_or o (Elsewhere (Session n d)) (first_session cs n ss) ≡ None →
         (first_session cs n ss ≡ None → is_among c ss ≡ true → held cs (Elsewhere (Session n c)) ≡ None) → held cs (Elsewhere (Session n c)) ≡ None
-    go o there e later = grind (arith, here)
+    go o there e later = grind arith
 
 pub record Found (cs : List Cell) (n : ℕ) (x : Seat) : Type 0 where
   pub client : ℕ
@@ -78,9 +72,6 @@ none_from p t cs n c (Dispatching d seats ∷ ls) back s none = (at_seats seats 
     at_seats [] h none = tt
     at_seats (x ∷ xs) h none = (grind (arith, nat_tests, same_place-true (Elsewhere (Session n c)) x.place, cases_Bool), at_seats xs h.1 (λ h. none (inr h)))
 
-among_less : (k c : ℕ) (ss : List ℕ) → is_among k (filter (is_other c) ss) ≡ true → is_among k ss ≡ true
-among_less k c ss e = grind (arith, nat_tests, eqb-true c k, among_parted c ss, among_others k c ss)
-
 module _ (p : Image) (t : Typing) (wired : IsWired p) (typed : IsTyped p t) (s : State) (o : Object) (left : List ℕ) (ls : List Layer)
     (good : Good p t s.cells (Ending o left ∷ Dying o ∷ ls)) (items : forms s.items ≡ items_of ls) (undos : AllUndo p s.items) where
   abbrev cs : List Cell
@@ -100,10 +91,6 @@ module _ (p : Image) (t : Typing) (wired : IsWired p) (typed : IsTyped p t) (s :
 
   own : Untouched p (λ f. filled (field_thing p (thing_holder o.thing) f) Perhaps) o.name ls
   own = untouched p t cs (Going (length (tasks_of ls))) o good.tidy there (λ f. filled (field_thing p (thing_holder o.thing) f) Perhaps) ls Gone (omega arith) good.stack.3.2
-
-  -- what is claimed of a session with it
-  session_fits : (c : ℕ) → Fits p (seen cs) (held cs (Elsewhere (Session o.name c))) (cond (is_among c left) (filled (session_thing p (Some o)) Full) Null)
-  session_fits c = grind (arith, nat_tests, eq-eqb o.name)
 
   -- with none left its destructor begins
   module _ (none : (c : ℕ) → held cs (Elsewhere (Session o.name c)) ≡ None) where
@@ -152,7 +139,7 @@ module _ (p : Image) (t : Typing) (wired : IsWired p) (typed : IsTyped p t) (s :
     claims x = grind (arith, nat_tests, eqb-true c, among_parted c left, among_others)
 
     stack_over : Stack p t cs Gone over
-    stack_over = search (arith, nat_tests, lives, among_less)
+    stack_over = search (arith, nat_tests, lives, eqb-true, among_parted, among_others)
 
     outside : NoneFrom q ls
     outside = none_from p t cs o.name c ls Gone good.stack.3.2 own.some
@@ -170,7 +157,7 @@ module _ (p : Image) (t : Typing) (wired : IsWired p) (typed : IsTyped p t) (s :
         (parting p o (Some (record { object = so; place = q })) (tasks_of ls) s) (length s.items) high refl refl items undos
 
   closing_well : (x : Option Seat) → first_session cs o.name (service_of cs o.name).sessions ≡ x → WellTyped p t (parting p o x (tasks_of ls) s)
-  closing_well None e = grind (arith, nat_tests, last_gone, session_fits, none_first, fits_unowning p)
+  closing_well None e = grind (arith, nat_tests, last_gone, none_first, fits_unowning p)
   closing_well (Some x) e =
       let f = found_first cs o.name (service_of cs o.name).sessions x e in
       subst (λ (y : Seat). WellTyped p t (parting p o (Some y) (tasks_of ls) s)) (ap (λ q. record { object = x.object; place = q }) (sym f.place)) (grind (arith, nat_tests, session_gone))

@@ -1,6 +1,6 @@
 -- A method enters over its dispatch, on the object that is dispatched.
 use Rattle.std.proofs.lemmas.Bool.Decides.{nat_tests}
-use Rattle.std.proofs.Common.{inr, Bool, List, None, Option, Some, [], ap, cond, false, length, suc, refl, subst, sym, true, ℕ, ℤ, ◌==◌, ◌∙◌, ◌∷◌, ◌≡◌, arith}
+use Rattle.std.proofs.Common.{inr, Bool, List, None, Option, Some, [], ap, cond, false, length, refl, subst, sym, true, ℕ, ℤ, ◌==◌, ◌∙◌, ◌∷◌, ◌≡◌, arith}
 use Rattle.std.proofs.lemmas.Bool.{eqb-true, true≢false}
 use Rattle.std.specs.Prelude.{IsSome}
 use Rattle.aom_image.specs.Image.{Image}
@@ -26,11 +26,11 @@ use Rattle.aom_safety.proofs.Destroying.{perhaps_only}
 use Rattle.aom_safety.proofs.Straight.{fits_unowning}
 use Rattle.aom_safety.proofs.Suiting.{known_plain, same_object, suits_less}
 use Rattle.aom_safety.proofs.Housing.{houses_counts}
-use Rattle.aom_safety.specs.Claims.{Dying, own_field, Layer, Method, claim, declared, declared_field, forms, items_of, tasks_of, delivered, serves}
+use Rattle.aom_safety.specs.Claims.{own_field, Layer, Method, claim, declared, forms, items_of, tasks_of, delivered, serves}
 use Rattle.aom_semantics.specs.Places.{In_service, Cell, Elsewhere, Entry, Field, Going, Object, Place, Register, Root, Tidy, held, named, requested, seen}
 use Rattle.aom_safety.specs.Requests.{AllSuit, Joins, Known, Suits, known_at, resting_in, rests_in, states_claim, thing_kind}
 use Rattle.aom_semantics.specs.State.{thing_view, Frame, Inside, Run, Seat, State, frame_of, thing_holder}
-use Rattle.aom_safety.specs.WellTyped.{IsWhole, IsServed, AllSit, AllUndo, Fits, Good, Holds, Houses, IsApart, IsBelow, IsNoFieldOf}
+use Rattle.aom_safety.specs.WellTyped.{IsServed, AllSit, AllUndo, Fits, Good, Holds, Houses, IsApart, IsBelow, IsNoFieldOf}
 use Rattle.aom_safety.specs.WellTyped.{NoSeatIn, NoneIn, Returns, SitsIn, SomeIn, SomeSits, Stack, WellTyped, WordFits, past_going}
 
 -- what it takes: over these layers nothing is claimed but the message that is served, and the method begins with its object as it is
@@ -67,10 +67,6 @@ no_fields cs n [] none s = tt
 no_fields cs n (x ∷ xs) none s = (no_field n x.place xs (λ h. none (inr h)) s.0.2, no_fields cs n xs (λ h. none (inr h)) s.1)
 
 -- what stands over no cell that goes
-whole_past : (p : Image) (view : Option ℕ) (m : ℕ) (ls : List Layer) → past_going ls ≡ ls → IsWhole p view m ls
-whole_past p view m (Dying o ∷ ls) e = let longer : length ls ≡ suc (length ls) = ap length e in absurd (omega arith)
-whole_past p view m _ e = tt
-
 module _ (p : Image) (t : Typing) (typed : IsTyped p t) (cs : List Cell) (x : Seat) (above : List Seat) (over : List Layer) (m : ℕ) (ws : List (Option ℤ)) (e : Entering p t cs x above over m ws) where
   abbrev o : Object
   o = x.object
@@ -88,7 +84,7 @@ module _ (p : Image) (t : Typing) (typed : IsTyped p t) (cs : List Cell) (x : Se
   apart = (
     own_place,
     e.none_in x.object.name (own_place, no_fields cs x.object.name above e.sits.0.3 e.sits.1),
-    grind (arith, nat_tests, whole_past p),
+    grind (arith, nat_tests),
     e.joins,
   )
     where
@@ -111,9 +107,6 @@ module _ (p : Image) (t : Typing) (typed : IsTyped p t) (cs : List Cell) (x : Se
   fits height after w (Entry k) = grind (arith, nat_tests, base (Entry k))
   fits height after w (Field n f) = go (x.object.name == n) refl (field_thing p (holder_of p m) f) refl
     where
-      declared_fits : Fits p (seen cs) (held cs (Field x.object.name f)) (filled (field_thing p (thing_holder x.object.thing) f) Perhaps)
-      declared_fits = subst (λ y. Fits p (seen cs) (held cs (Field x.object.name f)) (declared_field p y f)) e.sits.0.1 (e.fits (Field x.object.name f))
-
       unfilled : field after f ≡ Perhaps
       unfilled = perhaps_only (subst (λ y. WeakerFilling (field after f) y) (e.fields f) (w.fields f))
 
@@ -122,7 +115,7 @@ module _ (p : Image) (t : Typing) (typed : IsTyped p t) (cs : List Cell) (x : Se
       go true same (Some z) is =
           subst (λ k. Fits p (seen cs) (held cs (Field k f)) (filled (Some z) (field after f))) (eqb-true x.object.name n same)
           (subst (λ y. Fits p (seen cs) (held cs (Field x.object.name f)) (filled y (field after f))) (e.holder.fields f z is)
-          (subst (λ y. Fits p (seen cs) (held cs (Field x.object.name f)) (filled (field_thing p (thing_holder x.object.thing) f) y)) (sym unfilled) declared_fits))
+          (subst (λ y. Fits p (seen cs) (held cs (Field x.object.name f)) (filled (field_thing p (thing_holder x.object.thing) f) y)) (sym unfilled) (grind arith)))
       go true same None is = base (Field n f)
       go false other own is = base (Field n f)
   fits height after w (Elsewhere Root) = base (Elsewhere Root)

@@ -193,9 +193,6 @@ module _ (p : Image) (t : Typing) (c : Choice) (s : State) (fr : Frame) (sh : Sh
   pub same_items : no_entry sh.entries ≡ true → forms s.items ≡ items_of ls
   same_items e = at_hand.items ∙ ap (λ es. objects es (items_of ls)) (no_entries sh.entries e)
 
-  same_height : no_entry sh.entries ≡ true → (length s.items == fr.height) ≡ true
-  same_height e = eq-eqb _ _ (sym (length_forms s.items) ∙ ap length (same_items e) ∙ sym at_hand.good.stack.1.height)
-
   -- the object that is left is owned by the last entry
   pub left_held : (x : ℕ) → leaves_one p x sh.entries ≡ true → Fits p (seen s.cells) (held s.cells (Entry (length (items_of ls)))) (Own (An_object_of x) Ready)
   left_held x e = taken (held s.cells (Entry (length (items_of ls)))) (rw claims at (at_hand.good.fits (Entry (length (items_of ls)))))
@@ -232,7 +229,7 @@ module _ (p : Image) (t : Typing) (c : Choice) (s : State) (fr : Frame) (sh : Sh
 
   -- the cleanup stack is level
   level : (g : Gives) → entries_done p g sh.entries ≡ true → is_level p fr (tasks_of ls) s g ≡ true
-  level x e = grind (arith, nat_tests, one_left, same_height)
+  level x e = grind (arith, nat_tests, one_left, eq-eqb, length_forms, same_items)
 
 module _ (p : Image) (t : Typing) (c : Choice) (s : State) (fr : Frame) (sh : Shape) (ls : List Layer) (at_hand : At p t s fr sh ls) (a : ℕ) (r : Returnable p fr sh a) where
   spared : (g : Gives) → none_owns (result_moved p fr.method fr.place sh g a).registers ≡ true → (i : ℕ) → spares (result_source g a) i ≡ false → held s.cells (top ls i) ≡ None

@@ -19,7 +19,7 @@ use Rattle.aom_classes.specs.Jumps.{jump_of}
 use Rattle.aom_classes.specs.Loops.{loop_in}
 use Rattle.aom_safety.proofs.Finishing.{all_parts}
 use Rattle.aom_semantics.specs.Calls.{below_top, needs_entering}
-use Rattle.aom_semantics.specs.Cleanup.{has_trap, leave_needs, no_memory, top_is_whole, top_place, tops_entry, tops_object, tops_operation}
+use Rattle.aom_semantics.specs.Cleanup.{has_trap, leave_needs, no_memory, top_is_whole, top_place, tops_entry, tops_operation}
 use Rattle.aom_semantics.specs.Effects.{The_message, Calls, Cancels, Carried, Destroys, Destroys_last, Effect, Goes_on, In_field, In_register}
 use Rattle.aom_semantics.specs.Effects.{Leaves, Handed, Made, Operates, Popped, Pushed, Pushed_operation, Same, Sets_trap, Spot, Update, cancels_if}
 use Rattle.aom_semantics.specs.Effects.{deals, deletes, effect, hands_unless, jumps_if, jumps_unless, makes_unless, round, sets}
@@ -27,7 +27,7 @@ use Rattle.aom_semantics.specs.Enlisted.{cancel_method, in_phase, is_active, is_
 use Rattle.aom_safety.specs.Leaves.{LeavesWith}
 use Rattle.aom_semantics.specs.Moves.{needs}
 use Rattle.aom_semantics.specs.Places.{Cell, Object, Request, held}
-use Rattle.aom_semantics.specs.State.{An_object, An_operation, Choice, Frame, Item, Need, Run, State, Task, counter, field_place, word}
+use Rattle.aom_semantics.specs.State.{An_operation, Choice, Frame, Item, Need, Run, State, Task, counter, field_place, word}
 use Rattle.aom_safety.specs.Steps.{Fits, IsStraight}
 use Rattle.aom_semantics.specs.Tokens.{is_crowded}
 use Rattle.aom_semantics.specs.Words.{here, read, word_or_zero}
@@ -37,9 +37,6 @@ read_word : (o : Option ℤ) → is_some o ≡ true → o ≡ Some (word_or_zero
 read_word x e = grind arith
 
 -- the last item, by what is asked of it
-object_on_top : (items : List Item) → tops_object items ≡ true → items ≡ An_object ∷ below_top items
-object_on_top x e = grind arith
-
 operation_on_top : (items : List Item) → tops_operation items ≡ true → (m : ℕ) × (w : ℤ) × (items ≡ An_operation m w ∷ below_top items)
 operation_on_top (An_operation m w ∷ items) e = (m, w, refl)
 operation_on_top _ e = cc
@@ -130,7 +127,7 @@ module _ (p : Image) (c : Choice) (fr : Frame) (ts : List Task) (s : State) wher
   fits (NewOrLeave a x) n = grind (arith, nat_tests, either, may_leave)
   fits (Push a) n = grind (arith, nat_tests, either)
   fits (PushOperation a m) n = grind (arith, nat_tests, either)
-  fits (Pop a) n = ((refl, (refl, object_on_top s.items n.1.1.0)), λ l f. f.operands.a)
+  fits (Pop a) n = ((refl, (refl, grind arith)), λ l f. f.operands.a)
   fits PopOperation n = let o = operation_on_top s.items n.1.0 in ((refl, (refl, o.0, o.1, o.2)), λ l f. tt)
   fits PopDelete n = dealing s.items (held s.cells (top_place s.items)) refl refl n.0 n.1.0
   fits (Leave a) n = ((n.1.0, read_word (word fr a) n.0, tt), λ l f. tt)

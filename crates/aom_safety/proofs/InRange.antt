@@ -2,43 +2,37 @@
 use Rattle.std.proofs.lemmas.Bool.Decides.{nat_tests}
 use Rattle.aom_semantics.specs.World.{heard_one, taken_from, Heard, Environment, turn}
 use Rattle.aom_safety.proofs.Turned.{obeys, handles, accepts, attends, parts, completes, keeps_all, kills, picks, turns_so}
-use Rattle.std.proofs.Common.{Bool, List, Option, [], arith, cond, false, length, subst, suc, true, ℕ, ℤ, ◌+◌, ◌∷◌, ◌≡◌, ◌≤◌, sym}
+use Rattle.std.proofs.Common.{Bool, List, Option, [], arith, cond, length, subst, suc, ℕ, ℤ, ◌+◌, ◌∷◌, ◌≡◌, ◌≤◌, sym}
 use Rattle.aom_image.specs.Image.{Image}
 use Rattle.aom_instructions.specs.Operands.{IsRegister}
-use Rattle.aom_image.specs.Views.{instr_at}
 use Rattle.aom_image.specs.declared.method.Argument.{Argument}
 use Rattle.aom_image.specs.declared.method.Argument.TheVariants.{Own as Takes_own, Word as Takes_word}
 use Rattle.aom_image.specs.declared.method.Gives.{Gives}
-use Rattle.aom_safety.proofs.Fitting.{EffectFits, SpotFits, UpdateFits, fits}
+use Rattle.aom_safety.proofs.Fitting.{EffectFits, UpdateFits, fits}
 use Rattle.aom_safety.proofs.Moving.{steps_are_moves}
 use Rattle.aom_safety.specs.Steps.{Acts, Arrives, Clears, Comes_out, Empties, Ends, Move, Rests, Undoes, Vanishes}
 use Rattle.aom_safety.proofs.Guarded.{acts_at}
-use Rattle.aom_semantics.specs.Calls.{passed_cells, result_cells, result_register, returned}
-use Rattle.aom_semantics.specs.Destruction.{parting}
+use Rattle.aom_semantics.specs.Calls.{passed_cells, result_cells, returned}
 use Rattle.aom_semantics.specs.Tokens.{all_redeemed, redeemed_by}
-use Rattle.aom_semantics.specs.Effects.{Effect, Spot, Update, applied, cells_after, spot_place}
-use Rattle.aom_semantics.specs.Enlisted.{ended_cells, rerequested}
+use Rattle.aom_semantics.specs.Effects.{Effect, Update, applied, cells_after}
+use Rattle.aom_semantics.specs.Enlisted.{rerequested}
 use Rattle.aom_safety.specs.Laws.{IsWired, RegistersKeep}
-use Rattle.aom_semantics.specs.Moves.{counted, dispatch_ends, main_ends, step, answered, handled, object_ends}
+use Rattle.aom_semantics.specs.Moves.{counted, dispatch_ends, main_ends, step, handled, object_ends}
 use Rattle.aom_semantics.specs.Places.{Service, set_service, Session, In_service, Queued, Cell, Elsewhere, Entry, Going, Object, Place}
-use Rattle.aom_semantics.specs.Places.{Request, Root, held, moved, same_place, set_request, set_word_field, without, set_session}
+use Rattle.aom_semantics.specs.Places.{Request, Root, held, moved, set_request, set_word_field, without, set_session}
 use Rattle.aom_safety.specs.Registers.{AllInRange, IsInRange}
-use Rattle.aom_semantics.specs.State.{Seat, Choice, Dispatch, Frame, Goes, Home, State, Task, field_place}
+use Rattle.aom_semantics.specs.State.{Choice, Dispatch, Frame, Goes, Home, State, Task, field_place}
 use Rattle.aom_semantics.specs.Words.{stored}
 use Rattle.aom_semantics.specs.Natives.{all_bereaved, resessioned}
 use Rattle.aom_semantics.specs.Servers.{withdrawn, without_queue, is_queue_of, all_unslotted}
-use Rattle.aom_semantics.specs.Clients.{each_unslotted, commanded, Listed, connecting, sending, leaving, told}
+use Rattle.aom_semantics.specs.Clients.{each_unslotted, commanded, sending, leaving}
 use Rattle.aom_clients.specs.declared.client.Client.{Client}
 use Rattle.aom_clients.specs.declared.refusal.Refusal.{Refusal}
 use Rattle.aom_transcript.specs.declared.event.Command.{Command}
 
 move_in_range : (p q : Place) (cs : List Cell) → IsInRange q → AllInRange cs → AllInRange (moved p q cs)
 move_in_range p q [] fits all = tt
-move_in_range p q (c ∷ cs) fits all = (go (same_place c.owner p), move_in_range p q cs fits all.1)
-  where
-    go : (b : Bool) → IsInRange (cond b q c.owner)
-    go true = fits
-    go false = all.0
+move_in_range p q (c ∷ cs) fits all = (grind (arith, nat_tests, fits), move_in_range p q cs fits all.1)
 
 end_in_range : (p : Place) (cs : List Cell) → AllInRange cs → AllInRange (without p cs)
 end_in_range p [] all = tt
@@ -95,13 +89,7 @@ field_in_range : (home : Home) (f : ℕ) → IsInRange (field_place home f)
 field_in_range x f = grind arith
 
 -- the result of a call comes to a register that the call names
-result_in_range : (p : Image) → IsWired p → (m place : ℕ) → IsRegister (result_register (instr_at p m place))
-result_in_range p wired m place = grind (arith, nat_tests, fits)
-
 module _ (p : Image) (wired : IsWired p) (fr : Frame) (ts : List Task) (s : State) (all : AllInRange s.cells) where
-  spot_in_range : (spot : Spot) → SpotFits p spot → IsInRange (spot_place p fr ts s spot)
-  spot_in_range x fits = grind (arith, nat_tests, fits, field_in_range fr.home)
-
   store_in_range : (home : Home) (w : ℕ) (v : ℤ) → AllInRange (stored s.cells home w v)
   store_in_range x w v = grind (arith, nat_tests, write_in_range)
 
@@ -112,8 +100,7 @@ module _ (p : Image) (wired : IsWired p) (fr : Frame) (ts : List Task) (s : Stat
   session_in_range x session = grind (arith, nat_tests, opens_in_range)
 
   update_in_range : (u : Update) → UpdateFits p u → AllInRange (cells_after p fr ts s u)
-  update_in_range x fits =
-      grind (arith, nat_tests, move_in_range, spot_in_range, fits, store_in_range, request_in_range, session_in_range, end_in_range, redeems_in_range)
+  update_in_range x fits = grind (arith, nat_tests, move_in_range, fits, store_in_range, request_in_range, session_in_range, end_in_range, redeems_in_range)
 
   pass_in_range : (depth : ℕ) (xs : List Argument) (first to : ℕ) (cs : List Cell) → to + length xs ≤ 16 → AllInRange cs → AllInRange (passed_cells p fr ts s depth xs first to cs)
   pass_in_range depth [] first to cs few all = all
@@ -124,48 +111,32 @@ module _ (p : Image) (wired : IsWired p) (fr : Frame) (ts : List Task) (s : Stat
   bring_in_range x a y below fits = grind (arith, nat_tests, move_in_range, fits)
 
   return_in_range : (g : Gives) (a : ℕ) (below : List Task) → AllInRange (returned p fr ts s g a below).cells
-  return_in_range g a x = grind (arith, nat_tests, bring_in_range, result_in_range, serve_in_range, move_in_range)
-
-  -- the request of what a method worked on counts for none
-  ended_in_range : AllInRange (ended_cells p fr s.cells)
-  ended_in_range = grind (arith, nat_tests, request_in_range fr.home)
+  return_in_range g a x = grind (arith, nat_tests, bring_in_range, serve_in_range, move_in_range)
 
 module _ (p : Image) (wired : IsWired p) (fr : Frame) (ts : List Task) (s : State) (all : AllInRange s.cells) where
   apply_in_range : (e : Effect) → EffectFits p e → AllInRange (applied p fr ts s e).cells
-  apply_in_range x fits = grind (arith, nat_tests, update_in_range, fits, pass_in_range, request_in_range, return_in_range, ended_in_range, move_in_range)
+  apply_in_range x fits = grind (arith, nat_tests, update_in_range, fits, pass_in_range, request_in_range, return_in_range, move_in_range)
 
 -- a session goes before its server
-parting_in_range : (p : Image) (o : Object) (x : Option Seat) (below : List Task) (s : State) → AllInRange s.cells → AllInRange (parting p o x below s).cells
-parting_in_range p o x below s all = grind (arith, nat_tests, move_in_range)
-
 close_in_range : (p : Image) (s : State) (b : Bool) (root : Option Object) → AllInRange s.cells → AllInRange (main_ends p b root s).cells
 close_in_range p s x root all = grind (arith, nat_tests, move_in_range (Elsewhere Root) (Going 1) s.cells)
 
 object_in_range : (p : Image) (s : State) → AllInRange s.cells → AllInRange (object_ends p s).cells
 object_in_range p s all = close_in_range p (handled s) s.rest.stopped (held s.cells (Elsewhere Root)) all
 
-answer_in_range : (p : Image) (answer : ℤ) (s : State) → AllInRange s.cells → AllInRange (answered p answer s).cells
-answer_in_range p answer s all = grind (arith, nat_tests, object_in_range p s all)
-
 dispatch_in_range : (p : Image) (d : Dispatch) (s : State) → AllInRange s.cells → AllInRange (dispatch_ends p d s).cells
-dispatch_in_range p x s all = grind (arith, nat_tests, close_in_range, object_in_range, answer_in_range, end_in_range, serve_in_range)
+dispatch_in_range p x s all = grind (arith, nat_tests, close_in_range, object_in_range, end_in_range, serve_in_range)
 
 -- what clients do
 module _ (p : Image) (client : ℕ) (s : State) (all : AllInRange s.cells) where
-  connects_in_range : (refused : Option Refusal) (server : Option Listed) (slots : ℕ) → AllInRange (connecting p client s refused server slots).cells
-  connects_in_range x server slots = grind (arith, nat_tests, serve_in_range)
-
   sends_in_range : (refused : Option Refusal) (c : Client) (name : ℕ) (words : List ℤ) → AllInRange (sending p client s refused c name words).cells
   sends_in_range x y name words = grind (arith, nat_tests, serve_in_range)
 
-  tells_in_range : (c : Client) (cs : List Cell) → AllInRange cs → AllInRange (told p client s c cs)
-  tells_in_range x cs y = grind (arith, nat_tests, serve_in_range)
-
   leaves_in_range : (to : Option Client) → AllInRange (leaving p client s to).cells
-  leaves_in_range x = grind (arith, nat_tests, tells_in_range, withdrawn_in_range client s.cells all)
+  leaves_in_range x = grind (arith, nat_tests, serve_in_range, withdrawn_in_range client s.cells all)
 
   commands_in_range : (command : Command) (name : ℕ) → AllInRange (commanded p client s command name).cells
-  commands_in_range x name = grind (arith, nat_tests, connects_in_range, sends_in_range, leaves_in_range)
+  commands_in_range x name = grind (arith, nat_tests, serve_in_range, sends_in_range, leaves_in_range)
 
 moves : (p : Image) → IsWired p → (c : Choice) (s u : State) → AllInRange s.cells → step p c s ≡ Goes u → AllInRange u.cells
 moves p wired c s u all e = of (steps_are_moves p c s u e)
@@ -180,7 +151,7 @@ moves p wired c s u all e = of (steps_are_moves p c s u e)
         along _ (sym a.1) (grind (arith, nat_tests, apply_in_range, fits))
     of (Vanishes ts o at there none same) =
         along _ same (grind (arith, nat_tests, each_unslotted_in_range, end_in_range, dequeued_in_range))
-    of (Empties ts o at there same) = along _ same (grind (arith, nat_tests, parting_in_range))
+    of (Empties ts o at there same) = along _ same (grind (arith, nat_tests, move_in_range))
     of (Clears code ts items o at top there same) = along _ same (move_in_range (Entry (length items)) (Going (suc (length ts))) s.cells tt all)
     of (Ends d ts at same) = along _ same (dispatch_in_range p d (counted p s) all)
     -- the others change no cell

@@ -4,7 +4,7 @@ use Rattle.std.proofs.Common.{List, [], ap, arith, cond, false, length, refl, su
 use Rattle.std.proofs.lemmas.Bool.{eq-eqb, eqb-true, ne_eqb}
 use Rattle.std.specs.Prelude.{is_some}
 use Rattle.aom_image.specs.Image.{Image}
-use Rattle.aom_shape.specs.Entries.{readied_at, readied_entry}
+use Rattle.aom_shape.specs.Entries.{readied_at}
 use Rattle.aom_shape.specs.Kinds.{entry_kind, is_unowning, readied}
 use Rattle.aom_roles.specs.Tables.{at}
 use Rattle.aom_shape.specs.declared.kind.Entry.{Entry as Pushed}
@@ -71,14 +71,11 @@ entry_claimed [] below k rest lt = absurd (omega arith)
 entry_claimed (x ∷ es) below zero rest lt = grind (arith, nat_tests, eq-eqb)
 entry_claimed (x ∷ es) below (suc k) rest lt = grind (arith, nat_tests, length_each es below, ne_eqb, entry_claimed es below k rest)
 
-readied_kind : (e : Pushed) → entry_kind (readied_entry e) ≡ readied (entry_kind e)
-readied_kind x = grind arith
-
 -- that entry alone is claimed anew
 pub readied_claim : (es : List Pushed) (below : List Form) (k j : ℕ) (rest : Kind) → k < length es → entry_claim (readied_at es k) below j rest ≡ cond
     ((length (objects es below) - suc k) == j) (readied (entry_kind (at Pushed_operation es k))) (entry_claim es below j rest)
 readied_claim [] below k j rest lt = absurd (omega arith)
-readied_claim (x ∷ es) below zero j rest lt = grind (arith, nat_tests, readied_kind x)
+readied_claim (x ∷ es) below zero j rest lt = grind (arith, nat_tests)
 readied_claim (x ∷ es) below (suc k) j rest lt =
     grind (arith, nat_tests, readied_items es k below, readied_claim es below k j rest, length_each es below, eqb-true)
 

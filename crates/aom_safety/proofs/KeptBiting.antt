@@ -11,7 +11,7 @@ use Rattle.aom_roles.specs.Families.{descends_in, parent_in}
 use Rattle.aom_safety.proofs.Seated.{seats_none}
 use Rattle.aom_safety.proofs.Sources.{has_sender, sources_at}
 use Rattle.aom_semantics.specs.Cases.Building.{a_cell, keeper, leaf, pair}
-use Rattle.aom_safety.specs.Apart.{Fit, KeptNeedsFail, a_token, by_client, opened, sent, serves, waits}
+use Rattle.aom_safety.specs.Apart.{Fit, KeptNeedsFail, opened, serves, waits}
 use Rattle.aom_semantics.specs.Cases.Moves.{an_image}
 use Rattle.aom_semantics.specs.Cases.Servers.{a_session}
 use Rattle.aom_semantics.specs.Clients.{client_at}
@@ -19,10 +19,10 @@ use Rattle.aom_semantics.specs.Enlisted.{thing_kind}
 use Rattle.aom_safety.specs.Kept.{HasSources, QueueFits, is_message_of, sources_of}
 use Rattle.aom_semantics.specs.Clients.{most_of}
 use Rattle.aom_semantics.specs.Places.{Cell, Connect_of, Elsewhere, In_service, Message_of, Object, Place, Queued}
-use Rattle.aom_semantics.specs.Places.{Root, Service, held, named, requested, same_place, service_of, unserved}
+use Rattle.aom_semantics.specs.Places.{Service, held, named, requested, same_place, service_of, unserved}
 use Rattle.aom_semantics.specs.Servers.{has_session, is_from, is_server, seats_taken}
 use Rattle.std.specs.List.{list_any}
-use Rattle.std.specs.Prelude.{is_some, ◌&&◌, ◌||◌}
+use Rattle.std.specs.Prelude.{is_some}
 use Rattle.aom_roles.specs.Things.{is_object}
 
 -- ---- the state in which they say the same
@@ -51,17 +51,11 @@ unserved_at : (n : ℕ) → (5 == n) ≡ false → (7 == n) ≡ false → (2 == 
 unserved_at n e f g = grind (arith, nat_tests)
 
 -- one number is another, where both tests say so
-both : (a b x y : ℕ) → (((a == x) && (b == y)) || false) ≡ true → (a ≡ x) × (b ≡ y)
-both a b x y e = grind (arith, eqb-true)
-
-one : (x : ℕ) → ((0 == x) || false) ≡ true → 0 ≡ x
-one x e = grind (arith, eqb-true)
-
 is_listed : (n c : ℕ) → server_of (client_at opened c) ≡ Some n → has_session (service_of cells n) c ≡ true
 is_listed n x e = grind arith
 
 has_its_own : (n c : ℕ) → has_session (service_of cells n) c ≡ true → server_of (client_at opened c) ≡ Some n
-has_its_own n c h = grind (arith, nat_tests, by_name, one, unserved_at)
+has_its_own n c h = grind (arith, nat_tests, by_name, unserved_at)
 
 its_server : (o : Object) → named cells 5 ≡ Some o → is_server an_image o.thing ≡ true
 unfolding class_at kind_in kind_of sessions_in sessions_of descends_in parent_in
@@ -80,16 +74,13 @@ stands_there : (n m : ℕ) (o : Object) → held cells (Elsewhere (Queued n m)) 
 stands_there n m o e = grind (arith, eqb-true)
 
 sent_so : (n c m : ℕ) → list_any (is_message_of c m) (service_of cells n).queue ≡ true → is_from c (service_of cells m).sender ≡ true
-sent_so n c m h = grind (arith, nat_tests, by_name, both, unserved_at)
+sent_so n c m h = grind (arith, nat_tests, by_name, unserved_at)
 
 seats_so : (o : Object) → named cells o.name ≡ Some o → seats_taken (service_of cells o.name) ≤ most_of (thing_kind an_image o.thing)
 unfolding class_at kind_in kind_of descends_in parent_in
 seats_so o there = by_name (λ n. named cells n ≡ Some o → seats_taken (service_of cells n) ≤ most_of (thing_kind an_image o.thing))
     (λ h. let same : record { name = 5; thing = keeper } ≡ o = cc in subst (λ (y : Object). 1 ≤ most_of (thing_kind an_image y.thing)) same (omega arith))
     (λ h. omega arith) (λ h. omega arith) (λ n e f g h. omega (arith, ap seats_taken (unserved_at n e f g))) o.name there
-
-unnamed_at : (n : ℕ) → (5 == n) ≡ false → (7 == n) ≡ false → (2 == n) ≡ false → named cells n ≡ None
-unnamed_at n e f g = search (arith, nat_tests)
 
 abbrev Counts : ℕ → Object → Type 0
 Counts n o = n ≡ cond (is_object o.thing) 0 1
@@ -99,21 +90,7 @@ has_sources o there = by_name (λ n. named cells n ≡ Some o → sources_at cel
     (λ h. let same : record { name = 5; thing = keeper } ≡ o = cc in subst (Counts 0) same refl)
     (λ h. let same : record { name = 7; thing = Message } ≡ o = cc in subst (Counts 1) same refl)
     (λ h. let same : record { name = 2; thing = leaf } ≡ o = cc in subst (Counts 0) same refl)
-    (λ n e f g h. let clash : None ≡ Some o = sym (unnamed_at n e f g) ∙ h in cc) o.name there
-
-they_fit : Fit opened cells
-they_fit = record {
-  queues = grind (arith, nat_tests, by_name, unserved_at);
-  sessions = has_its_own;
-  listed = is_listed;
-  servers = none_else;
-  enlisted = none_unlisted;
-  names = stands_there;
-  senders = sent_so;
-  sources = has_sources;
-  served = λ o h. cc;
-  seats = seats_so;
-}
+    (λ n e f g h. let clash : None ≡ Some o = sym (grind arith) ∙ h in cc) o.name there
 
 -- ---- one message in all, of which servers have nothing
 
@@ -133,15 +110,6 @@ module _ (v : Service) (owner : Place) (queue : v.queue ≡ []) (sessions : v.se
   none_of_it : (b : Bool) → (cond b v unserved).sessions ≡ []
   none_of_it x = grind arith
 
-  no_seat : (b : Bool) (n : ℕ) → seats_taken (cond b v unserved) ≤ n
-  no_seat b n = let none = seats_none (cond b v unserved) (at_it b) (none_of_it b) in omega (arith, none)
-
-  its_source : (o : Object) (b : Bool) → cond b (Some (record { name = 7; thing = Message })) None ≡ Some o → sources_of (cond b v unserved) ≡ cond (is_object o.thing) 0 1
-  its_source o x h = grind arith
-
-  its_sender : (o : Object) (b : Bool) → same_place owner (Elsewhere In_service) ≡ b → cond b (Some (record { name = 7; thing = Message })) None ≡ Some o → has_sender its o.name ≡ true
-  its_sender o x e h = grind (arith, nat_tests, has_sender)
-
   it_fits : Fit [] its
   it_fits = record {
     queues = λ n. subst (λ q. QueueFits [] n q) (sym (at_it (7 == n))) tt;
@@ -151,25 +119,17 @@ module _ (v : Service) (owner : Place) (queue : v.queue ≡ []) (sessions : v.se
     enlisted = λ o h e. (at_it (7 == o.name), none_of_it (7 == o.name));
     names = λ n m o h. let clash : None ≡ Some o = sym (ap (λ b. cond b (Some (record { name = 7; thing = Message })) None) (unqueued n m)) ∙ h in cc;
     senders = λ n c m h. let clash : false ≡ true = ap (λ q. list_any (is_message_of c m) q) (sym (at_it (7 == n))) ∙ h in cc;
-    sources = λ o h. its_source o (7 == o.name) h;
-    served = λ o h. its_sender o (same_place owner (Elsewhere In_service)) refl h;
-    seats = λ o h. no_seat (7 == o.name) (most_of (thing_kind an_image o.thing));
+    sources = λ o h. grind arith;
+    served = λ o h. grind (arith, nat_tests, has_sender);
+    seats = λ o h. grind (arith, nat_tests, seats_none, at_it, none_of_it);
   }
-
--- a message that is served, of a client that is at no server
-served_fits : Fit [] (sent Message (by_client 0) (Elsewhere In_service) ∷ [])
-served_fits = it_fits (record unserved { sender = by_client 0 }) (Elsewhere In_service) refl refl refl (λ n m. refl) (λ e. refl)
-
--- and a token, wherever else
-token_fits : Fit [] (a_token None Message (Elsewhere Root) ∷ [])
-token_fits = it_fits (record unserved { token = Some (record { class = 2; order = 0 }) }) (Elsewhere Root) refl refl refl (λ n m. refl) (λ e. cc)
 
 -- ---- and those in which they do not
 
 pub kept_needs_fail : KeptNeedsFail
 unfolding class_at kind_in kind_of sessions_in sessions_of descends_in parent_in
 kept_needs_fail = record {
-  kept = they_fit;
+  kept = grind (arith, nat_tests, by_name, unserved_at, has_its_own, is_listed, none_else, none_unlisted, stands_there, sent_so, has_sources);
   twice_connected = λ fit. let clash : true ≡ false = (fit.queues 5).0.1 in cc;
   twice_closed = λ fit. let clash : true ≡ false = (fit.queues 5).0.1 in cc;
   twice_sent = λ fit. let clash : true ≡ false = (fit.queues 5).0.1 in cc;
@@ -185,11 +145,11 @@ kept_needs_fail = record {
   unlisted_sessions = λ fit. let clash : 0 ∷ [] ≡ [] = (fit.enlisted (record { name = 5; thing = keeper }) refl refl).1 in cc;
   misplaced = λ fit. let clash : 7 ≡ 8 = fit.names 5 8 (record { name = 7; thing = Message }) refl in omega arith;
   sent_by_another = λ fit. let clash : false ≡ true = fit.senders 5 0 7 refl in cc;
-  serves_sent = served_fits;
+  serves_sent = grind (arith, nat_tests, it_fits);
   unsent = λ fit. let clash : 0 ≡ 1 = fit.sources (record { name = 7; thing = Message }) refl in cc;
   sent_no_message = λ fit. let clash : 1 ≡ 0 = fit.sources (record { name = 7; thing = pair }) refl in cc;
   serves_no_message = λ fit. let clash : false ≡ true = fit.served (record { name = 7; thing = pair }) refl in cc;
-  has_token = token_fits;
+  has_token = grind (arith, nat_tests, it_fits);
   token_is_sent = λ fit. let clash : 2 ≡ 1 = fit.sources (record { name = 7; thing = Message }) refl in cc;
   token_no_message = λ fit. let clash : 1 ≡ 0 = fit.sources (record { name = 7; thing = pair }) refl in cc;
   serves_token = λ fit. let clash : false ≡ true = fit.served (record { name = 7; thing = Message }) refl in cc;

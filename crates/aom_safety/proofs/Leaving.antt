@@ -19,14 +19,14 @@ use Rattle.aom_safety.proofs.Straight.{At, Fitted, Law, claim_register, fits_uno
 use Rattle.aom_safety.proofs.Words.{has_word}
 use Rattle.aom_semantics.specs.Calls.{none_owns_but}
 use Rattle.aom_safety.specs.Claims.{Dispatching, Dying, Form, Layer, Mark, Method, Unwinding, claim, declared, entry_claim, entry_form}
-use Rattle.aom_safety.specs.Claims.{forms, home_claim, items_of, objects, root_claim, tasks_of, Ending, delivered, serves}
+use Rattle.aom_safety.specs.Claims.{forms, items_of, objects, tasks_of, Ending, delivered, serves}
 use Rattle.aom_safety.proofs.Attending.{served_claim}
 use Rattle.aom_shape.specs.Kinds.{is_here}
 use Rattle.aom_shape.specs.declared.kind.Delivery.{Delivery}
 use Rattle.aom_shape.specs.declared.kind.Delivery.TheVariants.{Here}
 use Rattle.aom_semantics.specs.Cleanup.{above_trap_is_free, has_trap, is_negative, leave_needs, to_trap}
 use Rattle.aom_semantics.specs.Places.{In_service, Cell, Elsewhere, Entry, Field, Object, Place, Register, Request, Root, Sight, held, named, requested, seen}
-use Rattle.aom_semantics.specs.State.{home_holder, AtRoot, Choice, Dispatch, Frame, Home, Inside, Run, State, Static, Unwind, next}
+use Rattle.aom_semantics.specs.State.{home_holder, Choice, Dispatch, Frame, Home, Run, State, Unwind, next}
 use Rattle.aom_safety.specs.WellTyped.{CountsAs, HasMessage, Houses, AllUndo, EndsDispatch, Fits, IsApart}
 use Rattle.aom_safety.specs.WellTyped.{IsHoused, Leaves, Returns, Stack, WellTyped, past_going}
 use Rattle.aom_semantics.specs.Effects.{Leaves, Same, applied, updates}
@@ -98,22 +98,12 @@ ended_by_leave p cs fr sh ls code houses counts housed apart at_top n here serve
     bare : Shape
     bare = record sh { entries = [] }
 
-    same_fields : (home : Home) (m f : ℕ) (k : Kind) → home_claim p (holder_of p fr.method) home sh m f k ≡ home_claim p (holder_of p fr.method) home (record sh { entries = [] }) m f k
-    same_fields Static m f k = refl
-    same_fields AtRoot m f k = refl
-    same_fields (Inside x from) m f k = refl
-
-    same_root : (home : Home) (k : Kind) → root_claim p home sh k ≡ root_claim p home (record sh { entries = [] }) k
-    same_root Static k = refl
-    same_root AtRoot k = refl
-    same_root (Inside x from) k = refl
-
     go : (r : Place) → Fits p h o (claim p (declared p cs) (Method fr sh ∷ ls) r) → Fits p h o (claim p (declared p cs) (Unwinding code sh.entries ∷ ls) r)
     go (Register f i) fits = ended p cs fr bare ls houses counts housed apart at_top refl n message (Register f i) h o fits
     go (Entry k) fits = fits
-    go (Field m f) fits = ended p cs fr bare ls houses counts housed apart at_top refl n message (Field m f) h o (grind (arith, nat_tests, same_fields))
+    go (Field m f) fits = ended p cs fr bare ls houses counts housed apart at_top refl n message (Field m f) h o (grind (arith, nat_tests))
     go (Elsewhere Root) fits =
-        ended p cs fr bare ls houses counts housed apart at_top refl n message (Elsewhere Root) h o (grind (arith, nat_tests, same_root))
+        ended p cs fr bare ls houses counts housed apart at_top refl n message (Elsewhere Root) h o (grind (arith, nat_tests))
     go (Elsewhere In_service) fits = ended p cs fr bare ls houses counts housed apart at_top refl n message (Elsewhere In_service) h o fits
     go _ fits = fits
 
@@ -183,11 +173,6 @@ module _ (p : Image) (t : Typing) (wired : IsWired p) (cs : List Cell) (x : Obje
   none_cancels _ m home loud s = absurd (first_of (assumption tt, cc))
 
   -- what a method that may leave works on is not being cancelled
-  known_leaving : (fr : Frame) (states : ℕ) (ls : List Layer) → leaves p fr.method ≡ true → Stack p t cs (Returns fr.method fr.home) ls → known_at p fr states (states_claim p x ls) ≡ resting_in states
-  known_leaving fr states ls may s =
-      let loud = wired.quiets fr.method may in
-      known_plain p fr states (states_claim p x ls) (loud_cancels fr.method loud) ∙ ap (λ (b : Bool). record { states = states; cancelled = b }) (none_cancels ls fr.method fr.home loud s)
-
   module _ (lives : named cs x.name ≡ Some x) where
     rested_left :
         (ls : List Layer) (m : ℕ) (home : Home) → leaves p m ≡ true → Stack p t cs (Returns m home) ls → Joins p x ls → Suits k (resting_in (rests_in p x)) r →
@@ -207,7 +192,7 @@ module _ (p : Image) (t : Typing) (wired : IsWired p) (cs : List Cell) (x : Obje
         works_at x.name fr.home ≡ true → Suits k (known_at p fr sh.states (states_claim p x ls)) r → Suits k (states_claim p x (from_trap ls)) r
     works_left fr sh ls may u housed apart s w h =
         rested_left ls fr.method fr.home may s (on_it p cs ls x fr.view fr.method fr.home lives w housed apart)
-        (suits_rests k sh.states r u (subst (λ n. Suits k n r) (known_leaving fr sh.states ls may s) h))
+        (suits_rests k sh.states r u (subst (λ n. Suits k n r) (grind (arith, nat_tests, known_plain, loud_cancels, none_cancels)) h))
 
     suits_left : (ls : List Layer) (m : ℕ) (home : Home) → leaves p m ≡ true → Stack p t cs (Returns m home) ls → Suits k (states_claim p x ls) r → Suits k (states_claim p x (from_trap ls)) r
     suits_left (Method fr sh ∷ ls) m home e s h = go (works_at x.name fr.home) refl h (λ h. suits_left ls fr.method fr.home (s.0.0 e).0 s.4 h)

@@ -1,7 +1,7 @@
 -- A method that stands in a loop's body has rounds left: each instruction and each return keeps that.
 use Rattle.std.proofs.lemmas.Bool.Decides.{nat_tests}
 use Rattle.aom_semantics.specs.Destruction.{destructor_frame}
-use Rattle.std.proofs.Common.{List, None, Some, ap, arith, cond, false, inl, inr, length, subst, suc}
+use Rattle.std.proofs.Common.{None, Some, ap, arith, cond, false, inl, inr, length, subst, suc}
 use Rattle.std.proofs.Common.{sym, true, ℕ, ⊎_elim, ◌-◌, ◌<◌, ◌==◌, ◌∙◌, ◌∷◌, ◌≡◌, ◌≢◌, ◌≤◌}
 use Rattle.std.proofs.lemmas.Bool.{cases_Bool, cases_lt, eq-eqb, eqb-true, ne_eqb}
 use Rattle.aom_image.specs.Image.{Image}
@@ -13,13 +13,13 @@ use Rattle.aom_classes.specs.Bodies.{Body, IsIn, IsLooped}
 use Rattle.aom_classes.specs.Jumps.{jump_of}
 use Rattle.aom_classes.specs.Loops.{loop_in}
 use Rattle.aom_semantics.proofs.Maps.{at-put_at}
-use Rattle.aom_safety.proofs.Preserving.{Acting, Kept, keeps, turn_keeps_it}
+use Rattle.aom_safety.proofs.Preserving.{Kept, keeps, turn_keeps_it}
 use Rattle.aom_semantics.specs.Calls.{entered}
 use Rattle.aom_semantics.specs.Cleanup.{operation_frame}
 use Rattle.aom_safety.specs.Loops.{LoopsKeep, RoundsAt, RoundsLeft, rounds_left}
 use Rattle.aom_semantics.specs.Moves.{counted, step, error_frame}
-use Rattle.aom_semantics.specs.State.{A_mark, Choice, Frame, Goes, State, Task, counter, frame_as, frame_of, set_counter}
-use Rattle.aom_safety.specs.Steps.{IsStraight, Sets}
+use Rattle.aom_semantics.specs.State.{A_mark, Choice, Frame, Goes, State, counter, frame_as, frame_of, set_counter}
+use Rattle.aom_safety.specs.Steps.{IsStraight}
 use Rattle.aom_semantics.specs.World.{boot_state}
 
 -- a method at its first place stands in no body
@@ -111,14 +111,11 @@ module _ (p : Image) (looped_so : IsLooped p) (fr : Frame) (rounds : RoundsAt p 
             (subst (λ x. 0 < x) (sym is) (omega arith), subst (λ x. x ≤ n) (sym is) (omega arith))
 
 module _ (p : Image) (looped_so : IsLooped p) (c : Choice) (s : State) where
-  sets : (fr : Frame) (ts : List Task) (i : Instr) → Acting p c (rounds_left p) s fr ts i → (d n : ℕ) → Sets i d n → RoundsAt p (set_counter fr d n) (suc fr.place)
-  sets fr ts i a d n x = grind (arith, nat_tests, begins_rounds p looped_so fr a.runs d n, ends_rounds p looped_so fr a.runs d)
-
   kept : Kept p c (rounds_left p) s
   kept = record {
     goes_on = λ fr ts i a f words. goes_on p looped_so fr i a.there a.runs f;
     jumps = λ fr ts i a to f. goes_to p looped_so fr i a.there a.runs to f;
-    counts = λ fr ts i a d n f. sets fr ts i a d n f;
+    counts = λ fr ts i a d n f. grind (arith, nat_tests, begins_rounds, ends_rounds);
     repeats = λ fr ts d to k a f. next_round p looped_so fr a.runs d to a.there k f;
     waits = λ fr ts i a f words. goes_on p looped_so fr i a.there a.runs f;
     resumes = λ fr ts w words. w;

@@ -9,7 +9,7 @@ use Rattle.aom_safety.proofs.ClientsGone.{goes_with, gone_so}
 use Rattle.aom_safety.proofs.ClientsReturn.{without_so}
 use Rattle.aom_semantics.proofs.Maps.{requested_moved, requested_unnamed}
 use Rattle.aom_safety.proofs.Services.{requested_served, service_asked, service_bereaved, service_here, service_moved, service_there, service_unnamed}
-use Rattle.aom_safety.proofs.Sifted.{cell_of, cell_of_sifted, kept, request_in, requested_cell, service_cell, service_in, sifted, withdrawn_so}
+use Rattle.aom_safety.proofs.Sifted.{cell_of, cell_of_sifted, request_in, requested_cell, service_cell, service_in, sifted, withdrawn_so}
 use Rattle.aom_safety.proofs.Storing.{requested_here, requested_there}
 use Rattle.aom_safety.proofs.Unslotting.{service_unslotted}
 use Rattle.aom_semantics.specs.Clients.{each_unslotted}
@@ -63,15 +63,12 @@ comes_stored cs _ w v = comes_itself cs
 -- it waits for nothing new
 pub comes_asked : (cs : List Cell) (n : ℕ) (r : Option Request) → ((k : ℕ) → awaited r ≡ Some k → awaited (requested cs n) ≡ Some k) → NoneComes cs (set_request n r cs)
 comes_asked cs n r fewer = record {
-  waits = λ m k e. go m k (n == m) refl e;
+  waits = λ m k e. grind (arith, nat_tests, eqb-true, here, requested_there);
   told = λ m k e. ap (λ (v : Service). order_in v.token) (sym (service_asked cs n r m)) ∙ e;
 }
   where
     here : (o : Option Object) → named cs n ≡ o → (k : ℕ) → awaited (requested (set_request n r cs) n) ≡ Some k → awaited (requested cs n) ≡ Some k
     here x free k e = grind (arith, nat_tests, requested_unnamed, named_kept (asking n r) cs n, asking n r, requested_here cs n r)
-
-    go : (m k : ℕ) (b : Bool) → (n == m) ≡ b → awaited (requested (set_request n r cs) m) ≡ Some k → awaited (requested cs m) ≡ Some k
-    go m k x same e = grind (arith, nat_tests, eqb-true, here, requested_there)
 
 pub comes_requested : (cs : List Cell) (home : Home) (r : Option Request) → ((k : ℕ) → awaited r ≡ Some k → awaited (own_request cs home) ≡ Some k) → NoneComes cs (rerequested cs home r)
 comes_requested cs x r fewer = grind (arith, nat_tests, comes_itself cs, comes_asked cs)
@@ -89,27 +86,18 @@ comes_served cs n v same = record { waits = λ m k e. sym (ap awaited (requested
 -- ---- a cell is made that is no token and waits for none
 
 pub comes_more : (c : Cell) (cs : List Cell) → c.request ≡ None → c.service.token ≡ None → NoneComes cs (c ∷ cs)
-comes_more c cs asks serves = record { waits = λ n k e. wait n k (c.object.name == n) e; told = λ n k e. tell n k (c.object.name == n) e }
+comes_more c cs asks serves = record { waits = λ n k e. grind arith; told = λ n k e. tell n k (c.object.name == n) e }
   where
-    wait : (n k : ℕ) (b : Bool) → awaited (cond b c.request (requested cs n)) ≡ Some k → awaited (requested cs n) ≡ Some k
-    wait n k x e = grind arith
-
     tell : (n k : ℕ) (b : Bool) → order_in (cond b c.service (service_of cs n)).token ≡ Some k → order_in (service_of cs n).token ≡ Some k
     tell n k x e = grind arith
 
 -- ---- cells go
 
 module _ (drops : Cell → Bool) (f : Cell → Service) (keeps : (c : Cell) → (f c).token ≡ c.service.token) where
-  waits_kept : (x : Option Cell) (k : ℕ) → awaited (request_in (kept drops f x)) ≡ Some k → awaited (request_in x) ≡ Some k
-  waits_kept x k e = grind (arith, nat_tests, request_in)
-
-  told_kept : (x : Option Cell) (k : ℕ) → order_in (service_in (kept drops f x)).token ≡ Some k → order_in (service_in x).token ≡ Some k
-  told_kept x k e = grind (arith, nat_tests, service_in)
-
   pub comes_sifted : (cs : List Cell) → Tidy cs → NoneComes cs (sifted drops f cs)
   comes_sifted cs tidy = record {
-    waits = grind (arith, nat_tests, requested_cell, waits_kept, cell_of, sifted, request_in, cell_of_sifted);
-    told = grind (arith, nat_tests, service_cell, told_kept, cell_of, sifted, service_in, cell_of_sifted);
+    waits = grind (arith, nat_tests, requested_cell, cell_of, sifted, request_in, cell_of_sifted);
+    told = grind (arith, nat_tests, service_cell, cell_of, sifted, service_in, cell_of_sifted);
   }
 
 pub comes_without : (cs : List Cell) → Tidy cs → (g : Place) → NoneComes cs (without g cs)

@@ -71,10 +71,6 @@ leads_there p m d named n z leads = go (method_at p z) refl n leads
     itself true same none e = let clash : Some d ≡ None = sym named ∙ ap (method_at p) (sym (eqb-true z m same)) ∙ none in cc
     itself false same none e = cc
 
-    above_none : (n : ℕ) → leads_in p n None m ≡ true → ⊥
-    above_none zero h = cc
-    above_none (suc n) h = cc
-
     either : (a b : Bool) → (b ≡ true → ⊥) → (a || b) ≡ true → a ≡ true
     either true b never h = refl
     either false b never h = absurd (never h)
@@ -83,7 +79,7 @@ leads_there p m d named n z leads = go (method_at p z) refl n leads
     go (Some e) at n leads = (e, at)
     go None at zero leads = absurd (itself (z == m) refl at leads)
     go None at (suc n) leads =
-        absurd (grind (arith, nat_tests, itself, either, above_none))
+        absurd (grind (arith, nat_tests, itself, either))
 
 -- what overrides a method is a plain one
 overrides_plainly : (p : Image) → AllStandIn p → (m k : ℕ) (d e : Method) → method_at p m ≡ Some e → method_at p k ≡ Some d → overrides p k m ≡ true → d.role ≡ Do

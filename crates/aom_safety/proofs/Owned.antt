@@ -5,7 +5,7 @@ use Rattle.aom_image.specs.Image.{Image}
 use Rattle.aom_image.specs.declared.method.Thing.{Thing}
 use Rattle.aom_image.specs.declared.method.Thing.TheVariants.{Object as An_object_of}
 use Rattle.aom_rules.specs.Typing.{Typing}
-use Rattle.aom_shape.specs.Kinds.{entry_kind, filled}
+use Rattle.aom_shape.specs.Kinds.{filled}
 use Rattle.aom_roles.specs.Things.{Program, field_thing, stands_for, is_object}
 use Rattle.aom_shape.specs.Shape.{Shape}
 use Rattle.aom_shape.specs.declared.kind.Entry.{Entry as Pushed}
@@ -13,13 +13,12 @@ use Rattle.aom_shape.specs.declared.kind.Filling.{Filling}
 use Rattle.aom_shape.specs.declared.kind.Filling.TheVariants.{Full, Perhaps}
 use Rattle.aom_shape.specs.declared.kind.Kind.{Kind}
 use Rattle.aom_shape.specs.declared.kind.Kind.TheVariants.{Maybe, Own}
-use Rattle.aom_safety.specs.Claims.{Dispatching, Dying, Ending, Form, Layer, Mark, Method, Unwinding, by_close}
+use Rattle.aom_safety.specs.Claims.{Dispatching, Dying, Ending, Form, Layer, Mark, Method, Unwinding}
 use Rattle.aom_safety.specs.Claims.{by_session, claim, declared, entry_claim, items_of, root_claim}
 use Rattle.aom_semantics.specs.Objects.{is_no_message}
-use Rattle.aom_safety.proofs.Things.{stands_object}
 use Rattle.aom_semantics.specs.Places.{Cell, Elsewhere, Entry, Object, Place, Root, Session, Sight, held, seen}
-use Rattle.aom_semantics.specs.Servers.{of_class, session_thing}
-use Rattle.aom_semantics.specs.State.{Dispatch, Home, State}
+use Rattle.aom_semantics.specs.Servers.{session_thing}
+use Rattle.aom_semantics.specs.State.{Home, State}
 use Rattle.aom_safety.specs.WellTyped.{Fits, WellTyped}
 
 -- what stands for a thing of a class is an object
@@ -34,12 +33,9 @@ module _ (p : Image) (h : Sight) (o : Object) where
   either : (b : Bool) (k l : Kind) → IsOne k → IsOne l → IsOne (cond b k l)
   either x k l one other = grind arith
 
-  by_entry : (x : Pushed) → IsOne (entry_kind x)
-  by_entry x fits = grind (arith, nat_tests, object_for p o.thing)
-
   among_entries : (es : List Pushed) (items : List Form) (k : ℕ) (below : Kind) → IsOne below → IsOne (entry_claim es items k below)
   among_entries [] items k below one = one
-  among_entries (x ∷ es) items k below one = grind (arith, nat_tests, either, by_entry, among_entries es items k below one)
+  among_entries (x ∷ es) items k below one = grind (arith, nat_tests, either, among_entries es items k below one)
 
   claimed_entry : (cs : List Cell) (ls : List Layer) (k : ℕ) → IsOne (claim p (declared p cs) ls (Entry k))
   claimed_entry cs [] k = λ fits. absurd fits
@@ -86,25 +82,16 @@ NoMessage _ = Unit {0}
 plain_cond : (b : Bool) (j k : Kind) → NoMessage j → NoMessage k → NoMessage (cond b j k)
 plain_cond x j k a b = grind arith
 
-plain_class : (class : Option ℕ) → NoMessage (filled (of_class class) Full)
-plain_class x = grind arith
-
 plain_session : (p : Image) (o : Option Object) → NoMessage (filled (session_thing p o) Full)
-plain_session p x = grind (arith, nat_tests, plain_class)
-
-plain_object : (p : Image) (h : Sight) (o : Object) (k : Kind) → NoMessage k → Fits p h (Some o) k → is_object o.thing ≡ true
-plain_object p h o x plain f = grind (arith, nat_tests, stands_object p o.thing)
+plain_session p x = grind (arith, nat_tests)
 
 module _ (p : Image) (n c : ℕ) where
-  plain_close : (d : Dispatch) (k : Kind) → NoMessage k → NoMessage (by_close d n c k)
-  plain_close x k plain = grind (arith, nat_tests, plain_cond)
-
   plain_layer : (l : Layer) (k : Kind) → NoMessage k → NoMessage (by_session p l n c k)
-  plain_layer x k plain = grind (arith, nat_tests, plain_cond, plain_session p, plain_close)
+  plain_layer x k plain = grind (arith, nat_tests, plain_cond, plain_session p)
 
   plain_claim : (d : Place → Kind) (ls : List Layer) → NoMessage (d (Elsewhere (Session n c))) → NoMessage (claim p d ls (Elsewhere (Session n c)))
   plain_claim d [] plain = plain
   plain_claim d (l ∷ ls) plain = plain_layer l (claim p d ls (Elsewhere (Session n c))) (plain_claim d ls plain)
 
   pub session_object : (t : Typing) (s : State) → WellTyped p t s → (o : Object) → held s.cells (Elsewhere (Session n c)) ≡ Some o → is_object o.thing ≡ true
-  session_object t s w o e = grind (arith, nat_tests, plain_object p, plain_claim, plain_cond, plain_session p)
+  session_object t s w o e = grind (arith, nat_tests, plain_claim, plain_cond, plain_session p)

@@ -25,7 +25,7 @@ use Rattle.aom_safety.proofs.Items.{length_forms}
 use Rattle.aom_semantics.proofs.Maps.{found, of_name, same_place-true, same_place_refl}
 use Rattle.aom_safety.proofs.Housing.{stands_session}
 use Rattle.aom_safety.proofs.Things.{serving_class, stands_message}
-use Rattle.aom_safety.specs.Claims.{own_field, Dispatching, Dying, Ending, Layer, Mark, Mark_form, Method, Object_form, Unwinding, by_close, by_stage, claim}
+use Rattle.aom_safety.specs.Claims.{own_field, Dispatching, Dying, Ending, Layer, Mark, Mark_form, Method, Object_form, Unwinding, claim}
 use Rattle.aom_safety.specs.Claims.{delivered, serves, declared, entry_claim, form, forms, home_claim, is_of_root, items_of, objects, task_of, tasks_of}
 use Rattle.aom_safety.specs.Laws.{EndsEmpty, EndsOwned, IsWired}
 use Rattle.aom_semantics.specs.Owned.{AllOwned, Ends, HasRegisters, HasService, IsObjects, Lives, NoneGoes, Owned}
@@ -34,7 +34,7 @@ use Rattle.aom_semantics.specs.Places.{Cell, Elsewhere, Entry, Field, Going, Obj
 use Rattle.aom_semantics.specs.Places.{Tidy, held, named, seen, service_of, Session, In_service, Queued}
 use Rattle.aom_safety.specs.Registers.{AllInRange, IsInRange}
 use Rattle.aom_semantics.specs.Servers.{has_message, has_session, message_thing, session_thing}
-use Rattle.aom_semantics.specs.State.{home_holder, AtRoot, Dispatch, Dispatched, Home, Inside, Item, State, Static, thing_holder}
+use Rattle.aom_semantics.specs.State.{home_holder, AtRoot, Home, Inside, Item, State, Static, thing_holder}
 use Rattle.aom_safety.specs.WellTyped.{Back, Caught, Fits, Gone, Houses, IsHoused, IsServed, Leaves, Now, Returns, Stack, WellTyped}
 
 -- what a kind of an owning place says of the thing
@@ -117,9 +117,6 @@ declared_session_of : (p : Image) (cs : List Cell) (n c : ℕ) (x : Thing) → H
 declared_session_of p cs n c x h = grind (arith, nat_tests, found, filled_where, some_given)
 
 -- where a close is served its session is claimed no more
-by_close_below : (d : Dispatch) (n c : ℕ) (k : Kind) (x : Thing) → HasThing (by_close d n c k) x → HasThing k x
-by_close_below x n c k y h = grind (arith, nat_tests, below_null)
-
 pub session_thing_of :
     (p : Image) (t : Typing) (cs : List Cell) (ls : List Layer) (back : Back) (n c : ℕ) (x : Thing) → Stack p t cs back ls →
     HasThing (claim p (declared p cs) ls (Elsewhere (Session n c))) x → IsSessionAt p cs n c x
@@ -127,7 +124,7 @@ session_thing_of p t cs [] back n c x s h = declared_session_of p cs n c x h
 session_thing_of p t cs (Method fr sh ∷ ls) back n c x s h = session_thing_of p t cs ls (Returns fr.method fr.home) n c x s.4 h
 session_thing_of p t cs (Mark gv ∷ ls) back n c x s h = session_thing_of p t cs ls (Caught gv) n c x s.1 h
 session_thing_of p t cs (Unwinding code es ∷ ls) back n c x s h = session_thing_of p t cs ls Leaves n c x s.1 h
-session_thing_of p t cs (Dispatching d seats ∷ ls) back n c x s h = grind (arith, nat_tests, declared_session_of p cs n c x, by_close_below d n c)
+session_thing_of p t cs (Dispatching d seats ∷ ls) back n c x s h = grind (arith, nat_tests, declared_session_of p cs n c x, below_null)
 session_thing_of p t cs (Dying o ∷ ls) back n c x s h = grind (arith, nat_tests, session_thing_of p t cs ls Gone n c x s.2, below_null (o.name == n))
 session_thing_of p t cs (Ending o left ∷ ls) back n c x s h =
     grind (arith, nat_tests, session_thing_of p t cs ls Now n c x s.3, eqb-true o.name n, found, filled_where)
@@ -144,9 +141,6 @@ queued_thing_of p cs (l ∷ ls) n m x h = queued_thing_of p cs ls n m x h
 served_below : (ls : List Layer) → IsServed ls → HasService (tasks_of ls)
 served_below ls h = grind arith
 
-by_stage_serves : (d : Dispatch) (ls : List Layer) (k : Kind) (x : Thing) → (HasThing k x → ⊥) → HasThing (by_stage d k) x → HasService (Dispatched d ∷ tasks_of ls)
-by_stage_serves x ls k y none h = grind arith
-
 pub service_lives : (p : Image) (t : Typing) (cs : List Cell) (ls : List Layer) (back : Back) (x : Thing) →
     Stack p t cs back ls → HasThing (claim p (declared p cs) ls (Elsewhere In_service)) x → HasService (tasks_of ls)
 service_lives p t cs [] back x s h = absurd h
@@ -161,7 +155,7 @@ service_lives p t cs (Mark gv ∷ ls) back x s h = service_lives p t cs ls (Caug
 service_lives p t cs (Dying o ∷ ls) back x s h = service_lives p t cs ls Gone x s.2 h
 service_lives p t cs (Ending o left ∷ ls) back x s h = service_lives p t cs ls Now x s.3 h
 service_lives p t cs (Unwinding code es ∷ ls) back x s h = service_lives p t cs ls Leaves x s.1 h
-service_lives p t cs (Dispatching d seats ∷ ls) back x s h = grind (arith, nat_tests, by_stage_serves d ls)
+service_lives p t cs (Dispatching d seats ∷ ls) back x s h = grind (arith, nat_tests)
 
 -- ---- the places that are claimed to own live
 
@@ -252,12 +246,9 @@ pub lower_rank : (p : Image) (wired : IsWired p) (x y z : Thing) (f : ℕ) → f
 lower_rank p wired x y z f e stands = grind arith
 
 -- only classes that are there declare fields
-declaring_class : (p : Image) (x y : Thing) (f : ℕ) → field_thing p (thing_holder x) f ≡ Some y → (c : ℕ) × (x ≡ An_object_of c)
-declaring_class p x y f e = grind arith
-
 pub declaring : (p : Image) (wired : IsWired p) (x y : Thing) (f : ℕ) → field_thing p (thing_holder x) f ≡ Some y → rank p wired x ≤ length p.classes
 unfolding class_at fields_in
-declaring p wired x y f e = grind (arith, nat_tests, declaring_class p x y f e, some_given, slice_get_within p.classes)
+declaring p wired x y f e = grind (arith, nat_tests, some_given, slice_get_within p.classes)
 
 -- what is at a server stands lower than it, and its class is there
 module _ (p : Image) (wired : IsWired p) where

@@ -2,7 +2,7 @@
 use Rattle.std.proofs.lemmas.Bool.Decides.{nat_tests}
 use Rattle.std.proofs.Common.{arith, Bool, List, Some, [], ap, false, refl, true, ℕ, ℤ, ◌==◌, ◌∙◌, ◌∷◌, ◌≡◌}
 use Rattle.std.proofs.lemmas.Bool.{eqb-true}
-use Rattle.std.specs.Prelude.{filter, is_some}
+use Rattle.std.specs.Prelude.{filter}
 use Rattle.aom_image.specs.Image.{Image}
 use Rattle.aom_image.specs.declared.method.Thing.TheVariants.{Message}
 use Rattle.aom_rules.specs.Typing.{Typing}
@@ -14,7 +14,7 @@ use Rattle.aom_safety.proofs.Dropping.{place_dropped, stack_dropped, suits_dropp
 use Rattle.aom_semantics.proofs.Maps.{same_place-true}
 use Rattle.aom_safety.proofs.Services.{held_served, named_served, requested_served, service_here, service_there, sits_lives, tidy_served}
 use Rattle.aom_safety.proofs.Things.{stands_message}
-use Rattle.aom_safety.specs.Claims.{Dispatching, by_close, by_stage, claim, declared}
+use Rattle.aom_safety.specs.Claims.{Dispatching, by_stage, claim, declared}
 use Rattle.aom_semantics.specs.Moves.{dispatch_ends, needs_end, stage_ends}
 use Rattle.aom_semantics.specs.Places.{Cell, Elsewhere, In_service, Object, Place, Service, Session, held, same_place, seen, service_of, set_service, without}
 use Rattle.aom_semantics.specs.Servers.{is_among, is_other, parted}
@@ -37,9 +37,6 @@ claims_none (Accept_left code) = true
 claims_none _ = false
 
 module _ (p : Image) (t : Typing) (s : State) (x : Seat) (client : ℕ) (seats : List Seat) where
-  none_parts : (stage : Stage) → claims_none stage ≡ true → (n c : ℕ) (k : Kind) → by_close (Of_server x client stage) n c k ≡ k
-  none_parts stage e n c k = grind arith
-
   none_served : (stage : Stage) → claims_none stage ≡ true → (k : Kind) → by_stage (Of_server x client stage) k ≡ k
   none_served stage e k = grind arith
 
@@ -49,7 +46,7 @@ module _ (p : Image) (t : Typing) (s : State) (x : Seat) (client : ℕ) (seats :
 
   -- the cells are as they were
   plain_good : (stage : Stage) → claims_none stage ≡ true → Good p t s.cells (Dispatching (Of_server x client stage) seats ∷ []) → Good p t s.cells (Dispatching (Of_object x) seats ∷ [])
-  plain_good stage plain good = search (arith, nat_tests, none_parts stage plain, none_served stage plain Null)
+  plain_good stage plain good = search (arith, nat_tests, none_served stage plain Null)
 
   -- the message of a service that was left is completed
   module _ (code : ℤ) (good : Good p t s.cells (Dispatching (Of_server x client (Service_left code)) seats ∷ [])) where
@@ -85,9 +82,6 @@ module _ (p : Image) (t : Typing) (s : State) (x : Seat) (client : ℕ) (seats :
     completed_good : Good p t (without (Elsewhere In_service) s.cells) (Dispatching (Of_object x) seats ∷ [])
     completed_good = grind (arith, nat_tests, place_dropped (Elsewhere In_service) s.cells, left_good)
 
-    is_there : is_some (held s.cells (Elsewhere In_service)) ≡ true
-    is_there = grind (arith, nat_tests)
-
   -- after a close the client has no session with it
   module _ (good : Good p t s.cells (Dispatching (Of_server x client Parts) seats ∷ [])) where
     abbrev n : ℕ
@@ -111,13 +105,10 @@ module _ (p : Image) (t : Typing) (s : State) (x : Seat) (client : ℕ) (seats :
     sits_then [] h = tt
     sits_then (y ∷ ys) h = ((held_served s.cells n v y.place ∙ h.0.0, named_served s.cells n v y.object.name ∙ h.0.1, h.0.2, h.0.3), sits_then ys h.1)
 
-    object_claims : (r : Place) → claim p (declared p cs) (Dispatching (Of_object x) seats ∷ []) r ≡ declared p cs r
-    object_claims y = grind arith
-
     parted_good : Good p t cs (Dispatching (Of_object x) seats ∷ [])
     parted_good = record {
       stack = grind (arith, nat_tests, sits_then, requested_served);
-      fits = grind (arith, nat_tests, object_claims, declared_then, held_served s.cells, fits_age p, requested_served s.cells);
+      fits = grind (arith, nat_tests, declared_then, held_served s.cells, fits_age p, requested_served s.cells);
       suits = grind (arith, nat_tests, requested_served s.cells, named_served s.cells);
       tidy = tidy_served s.cells n v good.tidy;
     }
@@ -128,6 +119,6 @@ module _ (p : Image) (t : Typing) (s : State) (x : Seat) (client : ℕ) (seats :
       Keeps p t (guarded (needs_end (Of_server x client stage) s.cells) (dispatch_ends p (Of_server x client stage) s))
   stage_keeps Accepted items good = served_well (stage_ends x client Accepted s) refl items (plain_good Accepted refl good)
   stage_keeps (Accept_left code) items good = served_well (stage_ends x client (Accept_left code) s) refl items (plain_good (Accept_left code) refl good)
-  stage_keeps (Service_left code) items good = grind (arith, nat_tests, is_there code good, served_well, completed_good code good)
+  stage_keeps (Service_left code) items good = grind (arith, nat_tests, served_well, completed_good code good)
   stage_keeps Parts items good = served_well (stage_ends x client Parts s) refl items (parted_good good)
   stage_keeps _ items good = absurd (assumption tt)

@@ -4,11 +4,10 @@ use Rattle.std.proofs.Common.{Bool, List, None, Option, Some, [], ap, arith, con
 use Rattle.std.proofs.Common.{length, refl, subst, sym, true, ℕ, ℤ, ◌&&◌, ◌<◌, ◌==◌, ◌∙◌, ◌∷◌, ◌≡◌}
 use Rattle.std.proofs.lemmas.Bool.{eq-eqb, eqb-true, true≢false, and_parts}
 use Rattle.std.specs.List.{list_any}
-use Rattle.std.specs.Prelude.{is_some, map, replicate, ◌||◌}
+use Rattle.std.specs.Prelude.{is_some, map, ◌||◌}
 use Rattle.aom_image.specs.Image.{Image}
 use Rattle.aom_image.specs.Views.{method_class}
 use Rattle.aom_image.specs.declared.class.ClassKind.{ClassKind}
-use Rattle.aom_image.specs.declared.method.Argument.TheVariants.{Word as Takes_word}
 use Rattle.aom_image.specs.declared.method.Gives.TheVariants.{Nothing, Own as An_own}
 use Rattle.aom_image.specs.declared.method.Role.TheVariants.{Accept as Accepts_role, Service as Attends_role}
 use Rattle.aom_image.specs.declared.method.Thing.{Thing}
@@ -52,7 +51,7 @@ use Rattle.aom_safety.specs.Requests.{Known, Suits, resting_in, rests_in, thing_
 use Rattle.aom_semantics.specs.Servers.{has_message, has_session, is_message, is_server, of_class, session_class}
 use Rattle.aom_semantics.specs.Servers.{message_thing, reserved, rest_of, session_thing, taken_first}
 use Rattle.aom_semantics.specs.State.{A_mark, Accepts, Inside, Of_server, Serves, Seat, State, frame_of, thing_holder}
-use Rattle.aom_safety.specs.WellTyped.{AllSit, Fits, Good, Keeps, SitsIn, SomeSits, WellTyped, WordFits}
+use Rattle.aom_safety.specs.WellTyped.{AllSit, Fits, Good, Keeps, SitsIn, SomeSits, WellTyped}
 use Rattle.aom_semantics.specs.World.{accepting, attended, message_words, serving, taken_from}
 
 -- what is ready fits whatever is asked for
@@ -130,9 +129,6 @@ module _ (p : Image) (t : Typing) (wired : IsWired p) (typed : IsTyped p t) (s :
   pub suits_now : (y : Object) → named cs y.name ≡ Some y → Suits (thing_kind p y.thing) (resting_in (rests_in p y)) (requested cs y.name)
   suits_now y there = rw (requested_now y.name) (good.suits y (sym (named_now y.name) ∙ there))
 
-  own_now : Suits (thing_kind p x.object.thing) (resting_in idle) (requested cs n)
-  own_now = rw (requested_now n ∙ asked) (suits_serving (thing_kind p x.object.thing) r server (rw asked at (good.suits x.object lives)))
-
   -- ---- where the first is no message, all is declared as before
 
   module _ (e : Asked) (es : List Asked) (queue : (service_of s.cells n).queue ≡ e ∷ es) (plain_first : (k : ℕ) → is_message k e ≡ false) where
@@ -153,9 +149,6 @@ module _ (p : Image) (t : Typing) (wired : IsWired p) (typed : IsTyped p t) (s :
   -- ---- a connect
 
   module _ (client : ℕ) (es : List Asked) (queue : (service_of s.cells n).queue ≡ Connect_of client ∷ es) where
-    no_session : has_session (service_of cs n) client ≡ false
-    no_session = grind (arith, nat_tests, sessions_now, connecting_only)
-
     its_method : (m : ℕ) × (part_of p Accepts_role x.object.thing ≡ Some m) × IsAcceptor p its_class.0 m its_class.1
     its_method =
         let m = wired.acceptor its_class.0 its_class.1 its_class.3 in
@@ -188,9 +181,9 @@ module _ (p : Image) (t : Typing) (wired : IsWired p) (typed : IsTyped p t) (s :
       some_in = λ m h. inl (inr h);
       joins = tt;
       past = refl;
-      stack = ((it.gives, tt, ap is_cancel it.role), grind (arith, nat_tests, session, sits_now, requested_now, no_session));
+      stack = ((it.gives, tt, ap is_cancel it.role), grind (arith, nat_tests, session, sits_now, requested_now, sessions_now, connecting_only));
       fits = λ q. rw (plain_message (declared p cs) q) (fits_now (Connect_of client) es queue (λ k. refl) q);
-      own = rw it.begins own_now;
+      own = rw it.begins (grind (arith, nat_tests, requested_now, suits_serving));
       others = λ z there other. suits_now z there;
       tidy = tidy_now;
       sits = sits_now;
@@ -362,15 +355,6 @@ module _ (p : Image) (t : Typing) (wired : IsWired p) (typed : IsTyped p t) (s :
     abbrev served_over : List Layer
     served_over = Mark Nothing ∷ Dispatching (Of_server x client (Serves z)) (x ∷ above) ∷ []
 
-    served_claims : (d : Place → Kind) (q : Place) → claim p d (Mark Nothing ∷ Dispatching (Of_server x client (Serves z)) (x ∷ above) ∷ []) q ≡ with_message true d q
-    served_claims d y = grind arith
-
-    five_words : (a b c d e : ℤ) (i : ℕ) → WordFits (at None (Some a ∷ Some b ∷ Some c ∷ Some d ∷ Some e ∷ []) i) (at Unset (map argument_kind (replicate 5 Takes_word)) i)
-    five_words a b c d e y = grind arith
-
-    no_owner : (i : ℕ) → Fits p (seen served) None (at Unset (map argument_kind (replicate 5 Takes_word)) i)
-    no_owner y = grind arith
-
     serves_it : serves p its_service.0 ≡ true
     serves_it = ap is_service service.role
 
@@ -379,7 +363,7 @@ module _ (p : Image) (t : Typing) (wired : IsWired p) (typed : IsTyped p t) (s :
       served = true;
       message = serves_it;
       right_over = (λ e. tt, λ h. serves_it);
-      claims = served_claims;
+      claims = grind arith;
       states = λ y. refl;
       none_in = λ i h. (h.1, tt);
       some_in = λ i h. inl h;
@@ -396,8 +380,8 @@ module _ (p : Image) (t : Typing) (wired : IsWired p) (typed : IsTyped p t) (s :
       there = service.there;
       holder = houses_same p _ _ (ap thing_holder z_thing ∙ sym (grind (arith, nat_tests)));
       plain = ap is_cancel service.role;
-      words = grind (arith, nat_tests, five_words);
-      free = λ i. subst (λ xs. Fits p (seen served) None (at Unset (map argument_kind xs) i)) (sym service.arguments) (no_owner i);
+      words = grind (arith, nat_tests);
+      free = λ i. subst (λ xs. Fits p (seen served) None (at Unset (map argument_kind xs) i)) (sym service.arguments) (grind arith);
       fields = λ f. ap (λ y. at Perhaps (entry_fields y) f) service.role ∙ at_alike 8 Perhaps f;
     }
       where

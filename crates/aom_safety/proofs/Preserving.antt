@@ -16,14 +16,14 @@ use Rattle.aom_safety.proofs.Moving.{steps_are_moves}
 use Rattle.aom_semantics.specs.Calls.{below_top, entered, received, returned}
 use Rattle.aom_semantics.specs.Cleanup.{code_told, has_trap, operation_frame, to_trap}
 use Rattle.aom_classes.specs.Roles.{role_of}
-use Rattle.aom_semantics.specs.Destruction.{destructor_frame, line_on, destructed, parting, begun}
+use Rattle.aom_semantics.specs.Destruction.{destructor_frame, destructed, begun}
 use Rattle.aom_semantics.specs.Effects.{Cancels, Counts, Destroys, Destroys_last, Effect, Goes_on, Jumps}
 use Rattle.aom_semantics.specs.Effects.{Leaves, Operates, Repeats, Returns, applied, with_words}
-use Rattle.aom_semantics.specs.Moves.{answered, asking, counted, dispatch_ends, error_frame, handled, main_ends, needs, object_ends, step}
+use Rattle.aom_semantics.specs.Moves.{answered, counted, dispatch_ends, error_frame, handled, main_ends, needs, object_ends, step}
 use Rattle.aom_semantics.specs.Places.{Elsewhere, Object, Root, held}
 use Rattle.aom_semantics.specs.State.{Home, Of_server, Accepts, Serves, Parts, A_mark, An_operation, Choice, Destroy, Dispatch}
 use Rattle.aom_semantics.specs.State.{Dispatched, Frame, Goes, Inside, Item, Asks, Of_object, Run, Seat, State, Task, Trapped}
-use Rattle.aom_semantics.specs.State.{Unwind, counter, frame_as, frame_of, next, resumed, set_counter, to_place}
+use Rattle.aom_semantics.specs.State.{Unwind, counter, frame_as, frame_of, next, set_counter, to_place}
 use Rattle.aom_safety.specs.Steps.{Empties, Acts, Arrives, Clears, Comes_out, Ends, Fits, IsStraight, Move, Rests, Sets, Undoes, Vanishes}
 use Rattle.aom_safety.specs.Tasks.{Below, Holds, TaskLaw}
 use Rattle.aom_semantics.specs.World.{heard_one, Heard, Environment, turn}
@@ -74,25 +74,12 @@ module _ (p : Image) (l : TaskLaw) (destructs : (o : Object) (x m height : ℕ) 
   destructed_holds o height ts b = grind (arith, nat_tests, destroyed, destructs)
 
   -- and the next of its line
-  line_holds : (m : ℕ) (home : Home) (height : ℕ) (ts : List Task) → Below l ts → Holds l (line_on p m home height ts)
-  line_holds y z w u b = grind (arith, nat_tests, destructs)
-
   begun_holds : (o : Object) (height : ℕ) (ts : List Task) → Below l ts → Holds l (begun p o height ts)
   begun_holds o height ts b = grind (arith, nat_tests, destructed_holds o height ts b)
 
 module _ (p : Image) (c : Choice) (l : TaskLaw) (s : State) (k : Kept p c l s) where
   begins_over : (o : Object) (height : ℕ) (ts : List Task) → Below l ts → Holds l (begun p o height ts)
   begins_over o height ts b = begun_holds p l k.destructs o height ts b
-
-  -- a server that goes has a session go first, or its destructor begins
-  empties : (o : Object) (x : Option Seat) (ts : List Task) (v : State) → Below l ts → Holds l (parting p o x ts v).tasks
-  empties o x ts v b = grind (arith, nat_tests, destructed_holds, begins_over)
-
-  -- what waited goes on
-  resumes_all : (ts : List Task) → Below l ts → Holds l (resumed ts)
-  resumes_all (Run fr ∷ ts) b = (k.resumes fr ts b.0 fr.words, b.1)
-  resumes_all [] b = b
-  resumes_all (t ∷ ts) b = b
 
   -- a leave comes to its trap
   lands : (code : ℤ) (ts : List Task) → has_trap ts ≡ true → Below l ts → Holds l (Unwind code ∷ to_trap ts)
@@ -103,7 +90,7 @@ module _ (p : Image) (c : Choice) (l : TaskLaw) (s : State) (k : Kept p c l s) w
   resumes_with fr fr' ts e b = (subst (λ x. l.Runs (next x) ts) (sym e) (k.resumes fr ts b.0 fr'.words), b.1)
 
   returns : (fr : Frame) (ts : List Task) (v : State) (g : Gives) (a : ℕ) (below : List Task) → Holds l v.tasks → Below l below → Holds l (returned p fr ts v g a below).tasks
-  returns fr ts v g a x h b = grind (arith, nat_tests, resumes_with, receives, line_holds)
+  returns fr ts v g a x h b = grind (arith, nat_tests, resumes_with, receives)
 
   closes : (v : State) (b : Bool) (root : Option Object) → Holds l (main_ends p b root v).tasks
   closes v x root = grind (arith, nat_tests, begins_over)
@@ -114,16 +101,10 @@ module _ (p : Image) (c : Choice) (l : TaskLaw) (s : State) (k : Kept p c l s) w
   answers : (answer : ℤ) → Holds l (answered p answer (counted p s)).tasks
   answers answer = grind (arith, nat_tests, object_closes)
 
-  asks_it : (x : Seat) (code : ℤ) (m : Option ℕ) → part_of p Error x.object.thing ≡ m → Holds l (asking p m x code (counted p s)).tasks
-  asks_it x code y e = grind (arith, nat_tests, answers code)
-
   ends : (d : Dispatch) → Holds l (dispatch_ends p d (counted p s)).tasks
-  ends x = grind (arith, nat_tests, closes, object_closes, asks_it, answers)
+  ends x = grind (arith, nat_tests, closes, object_closes, answers)
 
   module _ (fr : Frame) (ts : List Task) (at_hand : s.tasks ≡ Run fr ∷ ts) (h : Holds l (Run fr ∷ ts)) where
-    acting : (i : Instr) → instr_at p fr.method fr.place ≡ Some i → AllTrue (needs p c fr ts (counted p s) i) → Acting p c l s fr ts i
-    acting i there met = record { tasks = at_hand; there = there; met = met; runs = h.0 }
-
     another : (i j : Instr) → i ≡ j → Acting p c l s fr ts i → Acting p c l s fr ts j
     another i j e a = subst (λ x. Acting p c l s fr ts x) e a
 
@@ -143,9 +124,9 @@ module _ (p : Image) (c : Choice) (l : TaskLaw) (s : State) (k : Kept p c l s) w
 
   kept : (u : State) → Holds l s.tasks → Move p c s u → Holds l u.tasks
   kept u h (Rests still e) = subst (λ v. Holds l v.tasks) (sym e) h
-  kept u h (Acts fr ts i e at there met fits same) = grind (arith, nat_tests, acts, acting, there, met)
-  kept u h (Vanishes ts o at there owns same) = subst (λ v. Holds l v.tasks) (sym same) (resumes_all ts (subst (λ ts. Holds l ts) at h))
-  kept u h (Empties ts o at there same) = grind (arith, nat_tests, empties o)
+  kept u h (Acts fr ts i e at there met fits same) = grind (arith, nat_tests, acts, there, met)
+  kept u h (Vanishes ts o at there owns same) = subst (λ v. Holds l v.tasks) (sym same) (grind arith)
+  kept u h (Empties ts o at there same) = grind (arith, nat_tests)
   kept u h (Clears code ts items o at top there same) = grind (arith, nat_tests, begins_over o)
   kept u h (Undoes code ts items m w at top same) = grind (arith, nat_tests)
   kept u h (Arrives code fr ts items at top same) = grind (arith, nat_tests, resumes_with fr, told)

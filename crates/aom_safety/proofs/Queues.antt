@@ -1,7 +1,7 @@
 -- What waits in a queue fits where clients and queues change: by its entries one after another.
 use Rattle.std.proofs.lemmas.Bool.Decides.{nat_tests}
-use Rattle.std.proofs.Common.{arith, Bool, List, [], ap, cond, false, refl, sym, true, ℕ, ◌==◌, ◌∙◌, ◌∷◌, ◌≡◌}
-use Rattle.std.proofs.lemmas.Bool.{eq-eqb, ne_eqb, true≢false, or_parts}
+use Rattle.std.proofs.Common.{arith, Bool, List, [], ap, cond, false, refl, true, ℕ, ◌==◌, ◌∙◌, ◌∷◌, ◌≡◌}
+use Rattle.std.proofs.lemmas.Bool.{eq-eqb, or_parts}
 use Rattle.std.proofs.lemmas.List.Folds.{list_any-append}
 use Rattle.std.specs.List.{list_any}
 use Rattle.std.specs.Prelude.{filter, ◌++◌}
@@ -42,12 +42,9 @@ pub none_stays : (test stays : Asked → Bool) (es : List Asked) → list_any te
 none_stays test stays [] none = refl
 none_stays test stays (e ∷ es) none = grind (arith, nat_tests, none_stays test stays es, or_parts (test e))
 
-eqb_swap : (a b : ℕ) → (a == b) ≡ false → (b == a) ≡ false
-eqb_swap a b e = ne_eqb b a (λ same. true≢false (sym (eq-eqb a b (sym same)) ∙ e))
-
 -- the same is asked in either order
 again_swap : (e f : Asked) → asked_again e f ≡ false → asked_again f e ≡ false
-again_swap x y h = grind (arith, nat_tests, eqb_swap)
+again_swap x y h = grind (arith, nat_tests)
 
 -- ---- where clients and queues change
 

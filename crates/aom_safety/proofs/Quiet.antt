@@ -2,7 +2,7 @@
 use Rattle.std.proofs.lemmas.Bool.Decides.{nat_tests}
 use Rattle.aom_roles.proofs.Descending.{itself}
 use Rattle.std.proofs.lemmas.Option.{same_Some}
-use Rattle.std.proofs.Common.{arith, List, Some, [], false, refl, subst, sym, true, ℕ, ℤ, ◌∙◌, ◌∷◌, ◌≡◌}
+use Rattle.std.proofs.Common.{arith, List, Some, [], false, refl, subst, sym, true, ℕ, ◌∙◌, ◌∷◌, ◌≡◌}
 use Rattle.std.proofs.lemmas.Bool.{true≢false, false_from_ne_true}
 use Rattle.aom_image.specs.Image.{Image}
 use Rattle.aom_image.specs.Views.{is_quiet}
@@ -25,8 +25,8 @@ use Rattle.aom_semantics.specs.Moves.{step}
 use Rattle.aom_semantics.specs.Owned.{NoneGoes}
 use Rattle.aom_semantics.specs.Places.{Cell}
 use Rattle.aom_safety.specs.Quiet.{CalmKeeps, CaughtOwned, IsCalm, calm, is_clearing}
-use Rattle.aom_semantics.specs.State.{An_operation, Choice, Dispatched, Frame, Goes, Item, Run, State, Task, Trapped}
-use Rattle.aom_safety.specs.WellTyped.{AllUndo, Good, WellTyped}
+use Rattle.aom_semantics.specs.State.{Choice, Dispatched, Frame, Goes, Run, State, Task, Trapped}
+use Rattle.aom_safety.specs.WellTyped.{Good, WellTyped}
 use Rattle.aom_semantics.specs.World.{boot_state}
 use Rattle.aom_safety.proofs.Layers.{method_layer}
 
@@ -53,9 +53,6 @@ module _ (p : Image) (t : Typing) (wired : IsWired p) (typed : IsTyped p t) (c :
   not_clearing : (fr : Frame) (ts : List Task) (target : Target) (m first x : ℕ) → Acting p c (calm p) s fr ts (Trap target m first x) → is_clearing ts ≡ false
   not_clearing fr ts target m first x a = grind (arith, nat_tests, false_from_ne_true, ruled fr ts (Trap target m first x) a)
 
-  undo_quiet : (m : ℕ) (x : ℤ) (items : List Item) → s.items ≡ An_operation m x ∷ items → is_quiet p m ≡ true
-  undo_quiet m x items e = (subst (λ is. AllUndo p is) e w.undos).0.quiet
-
   kept : Kept p c (calm p) s
   kept = record {
     goes_on = λ fr ts i a f words. a.runs;
@@ -69,7 +66,7 @@ module _ (p : Image) (t : Typing) (wired : IsWired p) (typed : IsTyped p t) (c :
     cancels = λ fr ts m a e clearing. cancel_quiet p wired fr m e;
     destructs = λ o x m height ts e clearing. (destroys_by p wired x x m (itself p x) e).quiet;
     asks = λ x m code height e clearing. absurd (true≢false (sym clearing));
-    undoes = λ m x items ts e clearing. undo_quiet m x items e;
+    undoes = λ m x items ts e clearing. grind arith;
     unwinds = λ code ts h. h;
   }
 

@@ -1,9 +1,7 @@
 -- A reply to a token completes the request that waits for it: all else of the cells is as it was, so what is claimed and what is known hold on.
 use Rattle.std.proofs.lemmas.Bool.Decides.{nat_tests}
-use Rattle.std.proofs.Common.{arith, List, None, Option, Some, [], ap, false, refl, true, ℕ, ℤ, ◌∙◌, ◌∷◌, ◌≡◌}
+use Rattle.std.proofs.Common.{arith, List, None, Option, Some, [], ap, refl, true, ℕ, ℤ, ◌∙◌, ◌∷◌, ◌≡◌}
 use Rattle.std.proofs.lemmas.Bool.{eq-eqb, ne_eqb}
-use Rattle.std.specs.Ordering.{int_eq}
-use Rattle.std.specs.Prelude.{is_some}
 use Rattle.aom_image.specs.Image.{Image}
 use Rattle.aom_image.specs.declared.class.ClassKind.{ClassKind}
 use Rattle.aom_rules.specs.Typing.{Typing}
@@ -11,7 +9,6 @@ use Rattle.aom_semantics.proofs.Altering.{Alters, read_so, requests}
 use Rattle.aom_safety.proofs.Storing.{Alike, alike_itself, altered_alike, fits_listed, stack_alike}
 use Rattle.aom_safety.proofs.Turned.{recorded_so}
 use Rattle.aom_safety.specs.Claims.{Layer}
-use Rattle.aom_semantics.specs.Enlisted.{completed_with, on_request, pending}
 use Rattle.aom_semantics.specs.Natives.{is_owed}
 use Rattle.aom_semantics.specs.Places.{Cell, Object, Request, Tidy, named, requested}
 use Rattle.aom_safety.specs.Requests.{Known, Suits}
@@ -31,18 +28,12 @@ pub requested_redeemed : (order : ℕ) (code : ℤ) (cs : List Cell) (n : ℕ) �
 requested_redeemed order code cs n = read_so (redeeming order code) requests n (redeemed_request order code) cs (λ c is here. refl) (λ none. refl)
 
 -- what is enlisted stays so, and nothing else is
-redeemed_listed : (order : ℕ) (code : ℤ) (r : Option Request) → is_some (redeemed_request order code r) ≡ is_some r
-redeemed_listed order code r = grind arith
-
 redeemed_none : (order : ℕ) (code : ℤ) (r : Option Request) → r ≡ None → redeemed_request order code r ≡ None
 redeemed_none order code r e = ap (redeemed_request order code) e
 
 -- what is known of a request is known of it once it is completed
-suits_settled : (code : ℤ) → int_eq code pending ≡ false → (k : Option ClassKind) (n : Known) (r : Option Request) → Suits k n r → Suits k n (on_request (completed_with code) r)
-suits_settled code settled k n r s = grind arith
-
 pub suits_redeemed : (order : ℕ) (code : ℤ) (k : Option ClassKind) (n : Known) (r : Option Request) → Suits k n r → Suits k n (redeemed_request order code r)
-suits_redeemed order code k n r s = grind (arith, nat_tests, suits_settled, recorded_so code)
+suits_redeemed order code k n r s = grind (arith, nat_tests, recorded_so code)
 
 -- what waits for a token is pending
 pub awaits_owed : (order : ℕ) (k : Option ClassKind) (n : Known) (r : Option Request) → Suits k n r → awaits order r ≡ true → is_owed r ≡ true
@@ -59,7 +50,7 @@ module _ (p : Image) (t : Typing) where
 
   all_redeemed_good : (order : ℕ) (code : ℤ) (cs : List Cell) (ls : List Layer) → Good p t cs ls → Good p t (all_redeemed order code cs) ls
   all_redeemed_good order code cs ls good = record {
-    stack = grind (arith, nat_tests, stack_alike p t cs, redeemed_alike order code cs, requested_redeemed order code cs, redeemed_listed order code);
+    stack = grind (arith, nat_tests, stack_alike p t cs, redeemed_alike order code cs, requested_redeemed order code cs);
     fits = λ r. fits_listed p t cs (all_redeemed order code cs) (redeemed_alike order code cs) ls r
         (λ x none. requested_redeemed order code cs x.name ∙ redeemed_none order code (requested cs x.name) none) (good.fits r);
     suits = grind (arith, nat_tests, requested_redeemed order code cs, suits_redeemed order code, redeemed_alike order code cs);

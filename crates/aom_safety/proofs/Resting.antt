@@ -1,17 +1,15 @@
 -- What a move does to what no place tells: it takes its course, and only the end of a dispatch changes it otherwise.
 use Rattle.std.proofs.lemmas.Bool.Decides.{nat_tests}
-use Rattle.std.proofs.Common.{arith, Option, List, ap, inl, inr, refl, ◌∷◌, ◌≡◌, ℕ}
+use Rattle.std.proofs.Common.{arith, List, ap, inl, inr, ◌∷◌, ◌≡◌, ℕ}
 use Rattle.std.specs.Prelude.{◌⊎◌}
 use Rattle.aom_image.specs.Image.{Image}
 use Rattle.aom_image.specs.declared.method.Gives.{Gives}
 use Rattle.aom_semantics.specs.Calls.{returned}
-use Rattle.aom_semantics.specs.Effects.{Course, Effect, Goes_its_way, Goes_on, applied, coursed}
+use Rattle.aom_semantics.specs.Effects.{Course, Goes_its_way, coursed}
 use Rattle.aom_semantics.specs.Moves.{counted, dispatch_ends}
-use Rattle.aom_semantics.specs.State.{Seat, Choice, Dispatch, Dispatched, Frame, Counters, State, Task}
+use Rattle.aom_semantics.specs.State.{Choice, Dispatch, Dispatched, Frame, Counters, State, Task}
 use Rattle.aom_safety.specs.Steps.{Empties, Acts, Arrives, Clears, Comes_out, Ends, Move, Rests, Undoes, Vanishes}
 use Rattle.aom_semantics.specs.Enlisted.{ended_cells}
-use Rattle.aom_semantics.specs.Destruction.{parting}
-use Rattle.aom_semantics.specs.Places.{Object}
 
 -- the rest after a move takes a course
 abbrev pub Takes : Image → State → State → Type 0
@@ -25,18 +23,11 @@ module _ (p : Image) (fr : Frame) (ts : List Task) (s : State) where
   returned_rest : (g : Gives) (a : ℕ) (below : List Task) → (returned p fr ts (record s { cells = ended_cells p fr s.cells }) g a below).rest ≡ s.rest
   returned_rest g a x = grind arith
 
-  applied_rest : (e : Effect) → (x : Course) × ((applied p fr ts s e).rest ≡ coursed x s.rest)
-  applied_rest (Goes_on ch) = (ch.course, refl)
-  applied_rest x = grind (arith, nat_tests, returned_rest)
-
-parting_rest : (p : Image) (o : Object) (x : Option Seat) (below : List Task) (s : State) → (parting p o x below s).rest ≡ s.rest
-parting_rest p o x below s = grind arith
-
 pub move_rest : (p : Image) (c : Choice) (s u : State) → Move p c s u → Takes p s u ⊎ IsEnd p s u
-move_rest p c s u (Acts fr ts i e at there met fits same) = grind (arith, nat_tests, applied_rest p fr ts)
+move_rest p c s u (Acts fr ts i e at there met fits same) = grind (arith, nat_tests)
 move_rest p c s u (Rests still same) = inl (Goes_its_way, ap (λ (x : State). x.rest) same)
 move_rest p c s u (Vanishes ts o at there owns same) = inl (Goes_its_way, ap (λ (x : State). x.rest) same)
-move_rest p c s u (Empties ts o at there same) = grind (arith, nat_tests, parting_rest p o)
+move_rest p c s u (Empties ts o at there same) = grind (arith, nat_tests)
 move_rest p c s u (Clears code ts items o at top there same) = inl (Goes_its_way, ap (λ (x : State). x.rest) same)
 move_rest p c s u (Undoes code ts items k w at top same) = inl (Goes_its_way, ap (λ (x : State). x.rest) same)
 move_rest p c s u (Arrives code fr ts items at top same) = inl (Goes_its_way, ap (λ (x : State). x.rest) same)

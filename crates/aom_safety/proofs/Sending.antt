@@ -20,7 +20,7 @@ use Rattle.aom_safety.proofs.Picking.{fits_ready}
 use Rattle.aom_safety.proofs.Services.{held_served, named_served, requested_served, service_here, service_unnamed, tidy_served}
 use Rattle.aom_safety.proofs.Straight.{fits_unowning}
 use Rattle.aom_safety.proofs.Things.{stands_itself}
-use Rattle.aom_safety.specs.Claims.{declared, declared_field}
+use Rattle.aom_safety.specs.Claims.{declared}
 use Rattle.aom_semantics.specs.Places.{Service, unserved, Cell, Elsewhere, Message_of, Object, Place, Queued}
 use Rattle.aom_semantics.specs.Places.{Session, Tidy, held, named, same_place, seen, service_of}
 use Rattle.aom_safety.specs.Requests.{AllSuit, Suits, resting_in, rests_in, thing_kind}
@@ -86,18 +86,8 @@ module _ (p : Image) (t : Typing) (cs : List Cell) (good : Good p t cs []) (o : 
   other_name = ne_eqb name o.name (λ same. let clash : Some o ≡ None = sym lives ∙ ap (λ k. named cs k) (sym same) ∙ free in cc)
 
   -- it waits now
-  waits : has_message (service_of then o.name) name ≡ true
-  waits = grind (arith, nat_tests, service_then o.name, other_name, service_here cs o.name, list_any-append, eq-eqb name name)
-
-  base : (q : Place) → Fits p (seen then) (held cs q) (declared p cs q)
-  base q = fits_ready p (seen cs) (seen then) (held cs q) (declared p cs q) (declared_ready p cs q) (good.fits q)
-
   there_still : (q : Place) → held then q ≡ held cs q → declared p then q ≡ declared p cs q → Fits p (seen then) (held then q) (declared p then q)
-  there_still q places kinds = grind (arith, nat_tests, base q)
-
-  -- the message has no fields
-  fields_then : (n f : ℕ) → declared_field p (named then n) f ≡ declared_field p (named cs n) f
-  fields_then n f = grind (arith, nat_tests, named_then n, eqb-true name n)
+  there_still q places kinds = grind (arith, nat_tests, fits_ready, declared_ready)
 
   -- what is told of what clients have at a server is as it was, since they have nothing at the message
   kind_then :
@@ -112,7 +102,7 @@ module _ (p : Image) (t : Typing) (cs : List Cell) (good : Good p t cs []) (o : 
   queue_kind n m other = kind_then (λ v. has_message v m) (λ y. message_thing p y) refl n (messages_then n m other)
 
   own_kind : declared p then (Elsewhere (Queued o.name name)) ≡ Own Message Ready
-  own_kind = grind (arith, nat_tests, waits, named_then o.name, other_name)
+  own_kind = grind (arith, nat_tests, service_then, service_here, list_any-append, eq-eqb, named_then o.name, other_name)
 
   fits : (q : Place) → Fits p (seen then) (held then q) (declared p then q)
   fits (Elsewhere (Queued n m)) = grind (
@@ -126,7 +116,7 @@ module _ (p : Image) (t : Typing) (cs : List Cell) (good : Good p t cs []) (o : 
     own_kind,
     stands_itself p Message,
   )
-  fits r = grind (arith, nat_tests, fields_then, session_kind, there_still r (held_then r), held_then r)
+  fits r = grind (arith, nat_tests, named_then, eqb-true, session_kind, there_still r (held_then r), held_then r)
 
   tidy : Tidy then
   tidy = (

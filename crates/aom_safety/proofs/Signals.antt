@@ -1,8 +1,8 @@
 -- Between dispatches and at a dispatch's end each object rests: what signals is ready.
 use Rattle.std.proofs.lemmas.Bool.Decides.{nat_tests}
-use Rattle.std.proofs.Common.{arith, List, Option, Some, [], ap, refl, subst, sym, true, ◌==◌, ◌∙◌, ◌∷◌, ◌≡◌}
-use Rattle.std.proofs.lemmas.Bool.{eq-eqb, ne_eqb, not-true}
-use Rattle.std.specs.Prelude.{is_some, ◌||◌}
+use Rattle.std.proofs.Common.{arith, List, Option, Some, [], ap, refl, subst, sym, true, ◌∙◌, ◌∷◌, ◌≡◌}
+use Rattle.std.proofs.lemmas.Bool.{ne_eqb, not-true}
+use Rattle.std.specs.Prelude.{is_some}
 use Rattle.aom_safety.specs.Claims.{Dispatching, Layer, forms, items_of, tasks_of}
 use Rattle.aom_image.proofs.Given.{nil_given}
 use Rattle.aom_image.specs.Image.{Image}
@@ -16,7 +16,7 @@ use Rattle.aom_semantics.specs.Places.{Cell, Object, Request, Tidy, named, reque
 use Rattle.aom_safety.specs.Requests.{AllSuit, Suits, resting_in}
 use Rattle.aom_semantics.specs.State.{Dispatch, Seat, State}
 use Rattle.aom_safety.specs.WellTyped.{Good, WellTyped}
-use Rattle.aom_semantics.specs.World.{AllSettled, Candidate, among_ready, first_ready, has_signal, is_settled, ready_count, signal_count, signals, stands_ready}
+use Rattle.aom_semantics.specs.World.{AllSettled, first_ready, has_signal, is_settled, ready_count, signal_count, signals, stands_ready}
 
 -- what rests is idle or waits
 rests_settled : (k : Option ClassKind) (r : Option Request) → Suits k (resting_in (states_of k)) r → is_settled r ≡ true
@@ -27,11 +27,8 @@ settled_cells : (cs : List Cell) → ((o : Object) → named cs o.name ≡ Some 
 settled_cells [] h tidy = tt
 settled_cells (c ∷ cs) h tidy = (here, settled_cells cs later tidy.2)
   where
-    own : (c.object.name == c.object.name) ≡ true
-    own = eq-eqb c.object.name c.object.name refl
-
     here : is_settled c.request ≡ true
-    here = grind (arith, nat_tests, own)
+    here = grind (arith, nat_tests)
 
     later : (o : Object) → named cs o.name ≡ Some o → is_settled (requested cs o.name) ≡ true
     later o e = grind (arith, nat_tests, ne_eqb c.object.name o.name)
@@ -40,12 +37,9 @@ settled_cells (c ∷ cs) h tidy = (here, settled_cells cs later tidy.2)
 signals_ready : (c : Cell) (r : Option Request) → is_settled r ≡ true → signals c r ≡ stands_ready c r
 signals_ready c x e = grind (arith, nat_tests, not-true)
 
-some_ready : (c : Cell) (r : Option Request) (others : Option Candidate) → is_some (among_ready c r others) ≡ (stands_ready c r || is_some others)
-some_ready c x others = grind arith
-
 same_signals : (cs : List Cell) → AllSettled cs → has_signal cs ≡ is_some (first_ready cs)
 same_signals [] s = refl
-same_signals (c ∷ cs) s = grind (arith, nat_tests, signals_ready c c.request s.0, same_signals cs s.1, some_ready c c.request)
+same_signals (c ∷ cs) s = grind (arith, nat_tests, signals_ready c c.request s.0, same_signals cs s.1)
 
 same_count : (cs : List Cell) → AllSettled cs → signal_count cs ≡ ready_count cs
 same_count [] s = refl

@@ -5,7 +5,7 @@ use Rattle.aom_safety.proofs.ClientsKeep.{clients_keep}
 use Rattle.aom_safety.specs.Kept.{IsKept}
 use Rattle.aom_safety.proofs.Signals.{signals_are_ready}
 use Rattle.aom_safety.proofs.Turning.{turn_goes_on}
-use Rattle.std.proofs.Common.{arith, Bool, List, None, Option, Some, [], ap, cond, false, inl, inr, refl, subst, sym, true, ⊎_elim, ◌∙◌, ◌∷◌, ◌≡◌, pos, ℤ}
+use Rattle.std.proofs.Common.{arith, Bool, List, None, Option, Some, [], cond, false, inl, inr, refl, subst, sym, true, ⊎_elim, ◌∙◌, ◌∷◌, ◌≡◌, pos, ℤ}
 use Rattle.std.specs.Prelude.{◌⊎◌}
 use Rattle.aom_image.specs.Image.{Image}
 use Rattle.aom_rules.specs.Typing.{IsTyped, Typing}
@@ -19,12 +19,12 @@ use Rattle.aom_safety.proofs.Resting.{IsEnd, Takes, course_ended, move_rest}
 use Rattle.aom_safety.proofs.Steps.{step_keeps}
 use Rattle.aom_semantics.specs.Destruction.{gone}
 use Rattle.aom_safety.specs.Laws.{IsSound, IsWired}
-use Rattle.aom_semantics.specs.Moves.{IsOpen, answered, dispatch_ends, failed, handled, main_ends, object_ends, step}
+use Rattle.aom_semantics.specs.Moves.{IsOpen, answered, failed, handled, main_ends, object_ends, step}
 use Rattle.aom_semantics.specs.Places.{Elsewhere, Object, Root, held}
 use Rattle.aom_safety.specs.Quiet.{IsCalm}
 use Rattle.aom_safety.specs.Registers.{AllInRange}
-use Rattle.aom_semantics.specs.State.{Of_server, Accept_left, Answered, Asks, Object_left, Of_object, Choice, Dispatch}
-use Rattle.aom_semantics.specs.State.{Dispatched, Goes, Main_left, Of_main, Of_root, Outcome, State, Task}
+use Rattle.aom_semantics.specs.State.{Choice}
+use Rattle.aom_semantics.specs.State.{Dispatched, Goes, Of_root, Outcome, State, Task}
 use Rattle.aom_safety.specs.Steps.{Move}
 use Rattle.aom_safety.specs.WellTyped.{Good, Keeps, WellTyped}
 use Rattle.aom_semantics.specs.World.{Heard, IsBetween, IsBusy, Environment, Reaches, Turning, begins, boot_state, moves, turn, turned, turning, turns}
@@ -42,9 +42,6 @@ record IsAtRest (s : State) : Type 0 where
 abbrev GoesOn : State → Type 0
 GoesOn s = (s.rest.ended ≡ None) ⊎ IsAtRest s
 
-not_stopped : (b : Bool) → b ≡ false → cond b (Some Stopped) None ≡ Some Stopped → ⊥
-not_stopped b f e = let clash : cond false (Some Stopped) None ≡ Some Stopped = ap (λ x. cond x (Some Stopped) None) (sym f) ∙ e in cc
-
 -- at the end of a run the root is gone
 abbrev Uprooted : State → Type 0
 Uprooted s = (ts : List Task) → s.tasks ≡ Dispatched Of_root ∷ ts → held s.cells (Elsewhere Root) ≡ None
@@ -54,7 +51,7 @@ main_holds :
     ((main_ends p b root s).rest.ended ≡ s.rest.ended) ⊎ IsAtRest (main_ends p b root s)
 main_holds p s true (Some o) f e = inl refl
 main_holds p s true None f e = inr (record { idle = refl; rootless = λ h. e })
-main_holds p s false root f e = inr (record { idle = refl; rootless = λ h. absurd (not_stopped s.rest.stopped f h) })
+main_holds p s false root f e = inr (record { idle = refl; rootless = λ h. absurd (grind arith) })
 
 object_holds : (p : Image) (s : State) → ((object_ends p s).rest.ended ≡ s.rest.ended) ⊎ IsAtRest (object_ends p s)
 object_holds p s = main_holds p (handled s) s.rest.stopped (held s.cells (Elsewhere Root)) refl refl
@@ -66,20 +63,9 @@ answer_holds p answer s = go (int_eq answer (pos 0))
     go true = object_holds p s
     go false = inr (record { idle = refl; rootless = λ h. cc })
 
-dispatch_holds : (p : Image) (s : State) (d : Dispatch) → (d ≡ Of_root → held s.cells (Elsewhere Root) ≡ None) → ((dispatch_ends p d s).rest.ended ≡ s.rest.ended) ⊎ IsAtRest (dispatch_ends p d s)
-dispatch_holds p s Of_main rootless = main_holds p s s.rest.stopped (held s.cells (Elsewhere Root)) refl refl
-dispatch_holds p s (Main_left code) rootless = inr (record { idle = refl; rootless = λ h. cc })
-dispatch_holds p s Of_root rootless = inr (record { idle = refl; rootless = λ h. rootless refl })
-dispatch_holds p s (Of_object x) rootless = object_holds p s
-dispatch_holds p s (Object_left x code) rootless = grind (arith, nat_tests, answer_holds p code s)
-dispatch_holds p s (Asks x) rootless = object_holds p s
-dispatch_holds p s (Answered x answer) rootless = answer_holds p answer s
-dispatch_holds p s (Of_server x client (Accept_left code)) rootless = inl refl
-dispatch_holds p s _ rootless = inl refl
-
 -- a move ends the run only where it leaves nothing at hand
 move_holds : (p : Image) (c : Choice) (s u : State) → Uprooted s → Move p c s u → (u.rest.ended ≡ s.rest.ended) ⊎ IsAtRest u
-move_holds p c s u gone m = grind (arith, nat_tests, move_rest p c s u m, Takes p s u ⊎ IsEnd p s u, IsEnd p s u, course_ended, dispatch_holds p)
+move_holds p c s u gone m = grind (arith, nat_tests, move_rest p c s u m, Takes p s u ⊎ IsEnd p s u, IsEnd p s u, course_ended)
 
 -- a turn ends the run with nothing at hand
 turn_holds : (p : Image) (outside : Environment) (heard : Heard) (s u : State) → IsBetween s → turn p outside heard s ≡ Goes u → GoesOn u

@@ -1,21 +1,17 @@
 -- A method that waits under a trap stands at the instruction that set it: no move but that one sets a trap, and none changes a task under one.
-use Rattle.std.proofs.lemmas.Bool.Decides.{nat_tests}
 use Rattle.std.proofs.Common.{arith, List, Option, ◌≡◌, ℕ}
 use Rattle.aom_classes.specs.Roles.{main_of}
 use Rattle.aom_image.specs.Image.{Image}
-use Rattle.aom_safety.proofs.Preserving.{Kept, keeps, turn_keeps_it}
+use Rattle.aom_safety.proofs.Preserving.{keeps, turn_keeps_it}
 use Rattle.aom_semantics.specs.Moves.{step}
 use Rattle.aom_semantics.specs.State.{Choice, Goes, State}
 use Rattle.aom_safety.specs.Traps.{AllAtTraps, at_traps}
 use Rattle.aom_semantics.specs.World.{Reaches, begins, boot_state, main_tasks, moves, turns, Environment}
 use Rattle.aom_transcript.specs.declared.line.Line.{Line}
 
-kept : (p : Image) (c : Choice) (s : State) → Kept p c (at_traps p) s
-kept p c s = search (arith, nat_tests)
-
 -- of each move
 pub stays : (p : Image) (c : Choice) (s u : State) → AllAtTraps p s.tasks → step p c s ≡ Goes u → AllAtTraps p u.tasks
-stays p c s u h e = keeps p c (at_traps p) s u (kept p c s) h e
+stays p c s u h e = keeps p c (at_traps p) s u (grind arith) h e
 
 -- and at the boot
 pub boot : (p : Image) (m : Option ℕ) → AllAtTraps p (main_tasks m)

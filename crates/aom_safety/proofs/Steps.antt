@@ -27,9 +27,9 @@ use Rattle.aom_safety.specs.Claims.{Dispatching, Dying, Layer, Mark, Method, Unw
 use Rattle.aom_safety.specs.Laws.{IsWired}
 use Rattle.aom_semantics.specs.Moves.{counted, does, needs, step, step_instr, step_task}
 use Rattle.aom_semantics.specs.Places.{named}
-use Rattle.aom_semantics.specs.State.{Closing, Seat, Stage, Home, Of_server, Serves, Of_main, Of_object, Accepts, Asks, Choice, Destroy}
+use Rattle.aom_semantics.specs.State.{Closing, Of_server, Serves, Of_main, Of_object, Accepts, Asks, Choice, Destroy}
 use Rattle.aom_semantics.specs.State.{Dispatch, Dispatched, Frame, IsStuck, Need, Run, State, Task, Trapped, Unwind, guarded, next}
-use Rattle.aom_safety.specs.WellTyped.{EndsStage, Caught, Good, Keeps, Now, Returns, WellTyped}
+use Rattle.aom_safety.specs.WellTyped.{Caught, Good, Keeps, Now, Returns, WellTyped}
 use Rattle.aom_safety.proofs.Layers.{closing_layer, dispatch_layer, going_layer, leave_layer, mark_layer, method_layer}
 use Rattle.aom_safety.proofs.Cancelling.{law_cancel}
 use Rattle.aom_safety.proofs.Serving.{of_natives}
@@ -94,10 +94,6 @@ module _ (p : Image) (t : Typing) (wired : IsWired p) (typed : IsTyped p t)
       go : (o : Option (Law p t c s fr sh ls at_hand i)) → IsSome o → Law p t c s fr sh ls at_hand i
       go o h = grind arith
 
--- no method stands right over the dispatch of a server
-no_stage : (p : Image) (x : Seat) (stage : Stage) (m : ℕ) (home : Home) → EndsStage p x stage (Returns m home) → ⊥
-no_stage p x y m home e = grind arith
-
 -- a method returns to what stands below it
 returns : (p : Image) (t : Typing) → IsWired p → IsTyped p t →
     (c : Choice) (s : State) (fr : Frame) (sh : Shape) (ls : List Layer) (at_hand : At p t s fr sh ls) (a : ℕ) → Law p t c s fr sh ls at_hand (Return a)
@@ -112,7 +108,7 @@ returns p t wired typed c s fr sh (Mark gv ∷ Dispatching (Of_object x) seats �
 returns p t wired typed c s fr sh (Mark gv ∷ Dispatching (Of_server x client (Serves o)) seats ∷ ls) h a = law_return_served p t c s fr sh gv x client o seats ls h a
 returns p t wired typed c s fr sh (Dispatching (Asks x) seats ∷ ls) h a = law_answer p t c s fr sh x seats ls h a
 returns p t wired typed c s fr sh (Mark gv ∷ Dispatching (Of_server x client Accepts) seats ∷ ls) h a = law_return_accepted p t c s fr sh gv x client seats ls h a
-returns p t wired typed c s fr sh (Dispatching (Of_server x client stage) seats ∷ ls) h a = absurd (no_stage p x stage fr.method fr.home h.good.stack.4.0)
+returns p t wired typed c s fr sh (Dispatching (Of_server x client stage) seats ∷ ls) h a = absurd (grind arith)
 returns p t wired typed c s fr sh _ h a = absurd (assumption tt)
 
 -- an instruction of a well-typed state

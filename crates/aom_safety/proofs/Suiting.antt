@@ -13,11 +13,11 @@ use Rattle.aom_shape.proofs.Sets.{has_along, has_itself}
 use Rattle.aom_shape.specs.Shape.{Shape}
 use Rattle.aom_semantics.proofs.Maps.{named_moved, requested_moved}
 use Rattle.aom_safety.specs.Claims.{Dispatching, Dying, Layer, Mark, Method, Unwinding, Ending}
-use Rattle.aom_semantics.specs.Places.{Cell, Object, Phase, Place, Request, moved, named, requested}
+use Rattle.aom_semantics.specs.Places.{Cell, Object, Place, Request, moved, named, requested}
 use Rattle.aom_semantics.specs.Enlisted.{cancelled, is_unanswered, on_request, pending, status_of}
 use Rattle.std.specs.Ordering.{int_eq}
 use Rattle.aom_safety.specs.Requests.{AllSuit, Joins, Known, Suits, Unworked, is_free, is_pledged, is_timed, known_at}
-use Rattle.aom_safety.specs.Requests.{phase_state, resting_in, rests_in, state_of, states_claim, thing_kind, works_at}
+use Rattle.aom_safety.specs.Requests.{resting_in, rests_in, state_of, states_claim, thing_kind, works_at}
 use Rattle.aom_semantics.specs.State.{Frame, Inside}
 use Rattle.aom_safety.specs.WellTyped.{IsHoused}
 use Rattle.aom_image.specs.declared.method.Gives.{Gives}
@@ -91,9 +91,6 @@ pub known_resting :
 known_resting p o fr states ls e u = search (arith, nat_tests, known_plain p fr states, unworked_rests p o ls u)
 
 -- a method that cancels ends with its request completed
-served_only : (q : Phase) → IsTrue (has server_states (phase_state q)) → IsTrue (has cancel_done (phase_state q)) → ⊥
-served_only q h g = grind arith
-
 pub completed : (k : Option ClassKind) (n : Known) (r : Option Request) → IsTrue (has cancel_done n.states) → Suits k n r → int_eq (status_of r) pending ≡ false
 completed (Some (An_active v)) n r h s = go r (has_along cancel_done n.states (state_of r) h s.0) s.2
   where
@@ -103,7 +100,7 @@ completed (Some (A_server m x)) n r h s = go r s.1 (has_along cancel_done n.stat
   where
     go : (r : Option Request) → IsTrue (has server_states (state_of r)) → IsTrue (has cancel_done (state_of r)) → int_eq (status_of r) pending ≡ false
     go None g h = refl
-    go (Some q) g h = absurd (served_only q.phase g h)
+    go (Some q) g h = absurd (grind arith)
 completed _ n r h s = ap (λ r. int_eq (status_of r) pending) s
 
 -- and leaves its object idle

@@ -1,7 +1,7 @@
 -- What lies below the mark of a trap stays: as many marks lie on the cleanup stack as traps are at hand, and a move changes its last item at most.
 use Rattle.std.proofs.lemmas.Bool.Decides.{nat_tests}
 use Rattle.std.proofs.Common.{Bool, cond, true, false, List, None, Option, Some, [], ap, arith, inl, inr, length}
-use Rattle.std.proofs.Common.{pos, refl, subst, suc, sym, ℕ, ℤ, ◌+◌, ◌∙◌, ◌∷◌, ◌≡◌, length-append}
+use Rattle.std.proofs.Common.{refl, subst, suc, sym, ℕ, ℤ, ◌+◌, ◌∙◌, ◌∷◌, ◌≡◌, length-append}
 use Rattle.aom_image.proofs.Given.{cons_given}
 use Rattle.std.specs.Prelude.{◌++◌, ◌⊎◌}
 use Rattle.aom_image.specs.Image.{Image}
@@ -36,7 +36,7 @@ use Rattle.aom_semantics.specs.Places.{service_of, Object, named}
 use Rattle.aom_semantics.specs.State.{Inside, Home, Closing, Seat, A_mark, An_object, An_operation, Choice, Destroy, Dispatch, Dispatched}
 use Rattle.aom_semantics.specs.State.{Frame, Goes, Item, Run, State, Task, Trapped, Unwind, next, resumed, set_word}
 use Rattle.aom_safety.specs.Steps.{Empties, Acts, Arrives, Clears, Comes_out, Ends as A_dispatch_ends, Move, Rests, Undoes, Vanishes}
-use Rattle.aom_safety.specs.Traps.{ComesOff, GoesOnAfter, IsPast, IsTrapping, TellsZero, TrapsKeep, WasPast, marks, traps}
+use Rattle.aom_safety.specs.Traps.{ComesOff, GoesOnAfter, IsPast, IsTrapping, TrapsKeep, WasPast, marks, traps}
 use Rattle.aom_safety.specs.WellTyped.{WellTyped}
 use Rattle.aom_semantics.specs.World.{Heard, HearsWell, IsBetween, IsBusy, Environment, Reaches, begins, boot_state, moves, turn, turns}
 use Rattle.aom_transcript.specs.declared.line.Line.{Line}
@@ -182,12 +182,8 @@ module _ (p : Image) (c : Choice) (fr : Frame) (ts : List Task) (s : State) (at_
   received_frame x a y caller w = grind arith
 
   -- the word 0 is told
-  zero_told : (g : Gives) (a : ℕ) (caller : Frame) (under : List Task) → let x = result_register (instr_at p caller.method caller.place) in
-      TellsZero p (Run caller ∷ under) (Run (next (set_word (received p fr ts s g a x caller) (suc x) (Some (pos 0)))) ∷ under)
-  zero_told g a caller under target m first x there = grind (arith, nat_tests, own_word)
-
   through_trap : (g : Gives) (a : ℕ) (under : List Task) → ts ≡ Trapped ∷ under → (under ≡ below) ⊎ Ends below under → Moved p below s (returned p fr ts s g a (Trapped ∷ under))
-  through_trap g a (Run caller ∷ under) at (inl same) = grind (arith, nat_tests, received_frame g a, zero_told g a caller under)
+  through_trap g a (Run caller ∷ under) at (inl same) = grind (arith, nat_tests, received_frame g a, own_word)
   through_trap g a (Run caller ∷ under) at (inr o) = inl (with_task below under _ (under_frame below under caller o), near_top s.items)
   through_trap g a (Dispatched d ∷ under) at (inl same) = grind (arith, nat_tests)
   through_trap g a (Dispatched d ∷ under) at (inr o) = inl (with_task below under _ (under_dispatch below under d o), near_top s.items)
@@ -269,15 +265,12 @@ module _ (p : Image) (t : Typing) (s u : State) (before : WellTyped p t s) (afte
       go [] stack = let same : less.0 ∷ u.items ≡ A_mark ∷ items = sym less.1 ∙ stack in absurd (not_gone over at (ap below_top same))
       go (x ∷ entries) stack = let same : less.0 ∷ u.items ≡ x ∷ (entries ++ (A_mark ∷ items)) = sym less.1 ∙ stack in kept_by over at entries (ap below_top same)
 
-  traps_after : (b tasks : List Task) → GoesOnAfter b tasks → traps tasks ≡ traps b
-  traps_after x tasks g = grind arith
-
   by_end : GoesOnAfter below u.tasks → u.items ≡ below_top s.items → ComesOff p below s u → IsPast p below items s u
   by_end g e off = record { tasks = g; stack = go h.entries (e ∙ ap below_top h.stack); off = off }
     where
       go : (entries : List Item) → u.items ≡ below_top (entries ++ (A_mark ∷ items)) → u.items ≡ items
       go [] stack = stack
-      go (x ∷ entries) stack = grind (arith, nat_tests, all_matched p t u after, marks_join entries (A_mark ∷ items), traps_after below u.tasks g, lower)
+      go (x ∷ entries) stack = grind (arith, nat_tests, all_matched p t u after, marks_join entries (A_mark ∷ items), lower)
 
   by_moved : Moved p below s u → IsTrapping below items u ⊎ IsPast p below items s u
   by_moved (inl stays) = inl (by_near stays.0.0 stays.0.1 stays.1)

@@ -17,7 +17,7 @@ use Rattle.aom_semantics.specs.World.{dispatched, past_native, polled, run_tasks
 use Rattle.std.specs.Prelude.{[], length}
 use Rattle.aom_clients.specs.declared.client.Client.{Client}
 use Rattle.aom_clients.specs.declared.refusal.Refusal.{Refusal}
-use Rattle.aom_semantics.specs.Clients.{commanded, Listed, connecting, sending, leaving}
+use Rattle.aom_semantics.specs.Clients.{commanded, sending, leaving}
 use Rattle.aom_semantics.specs.Destruction.{begun}
 use Rattle.aom_transcript.specs.declared.event.Command.{Command}
 
@@ -82,9 +82,6 @@ module _ (p : Image) (client : ℕ) (s : State) where
   abbrev Keeps_rest : State → Type 0
   Keeps_rest u = (u.rest ≡ s.rest) × (u.tasks ≡ s.tasks)
 
-  connecting_kept : (refused : Option Refusal) (server : Option Listed) (slots : ℕ) → Keeps_rest (connecting p client s refused server slots)
-  connecting_kept x server slots = grind arith
-
   sending_kept : (refused : Option Refusal) (c : Client) (name : ℕ) (words : List ℤ) → Keeps_rest (sending p client s refused c name words)
   sending_kept x y name words = grind arith
 
@@ -92,7 +89,7 @@ module _ (p : Image) (client : ℕ) (s : State) where
   leaving_kept x = grind arith
 
   pub commanded_kept : (command : Command) (name : ℕ) → Keeps_rest (commanded p client s command name)
-  commanded_kept x name = grind (arith, nat_tests, connecting_kept, sending_kept, leaving_kept)
+  commanded_kept x name = grind (arith, nat_tests, sending_kept, leaving_kept)
 
 -- ---- a native that is polled
 

@@ -106,10 +106,6 @@ pub found : (cs : List Cell) → Tidy cs → (y : Candidate) → first_ready cs 
 found [] tidy y e = cc
 found (c ∷ cs) tidy y e = of_request c cs y tidy (λ e. found cs tidy.2 y e) c.request refl e
 
--- it is of a class of active objects
-ready_active : (k : Option ClassKind) (r : Request) → is_ready r ≡ true → Suits k (resting_in (states_of k)) (Some r) → is_active_kind k ≡ true
-ready_active k r e s = grind arith
-
 -- a server is idle
 idles : (k : Option ClassKind) (r : Request) → is_some (sessions_in k) ≡ true → Suits k (resting_in (states_of k)) (Some r) → is_ready r ≡ false
 unfolding sessions_in sessions_of states_of
@@ -117,9 +113,6 @@ idles k r e s = grind arith
 
 or_false : (b : Bool) → (b || false) ≡ b
 or_false x = grind arith
-
-suits_taken : (k : Option ClassKind) (r : Request) → is_ready r ≡ true → Suits k (resting_in (states_of k)) (Some r) → Suits k (resting_in idle) (Some (taken_up r))
-suits_taken k r e s = grind arith
 
 -- a request is completed, with a code that tells it from one that is not
 module _ (code : ℤ) (settled : int_eq code pending ≡ false) where
@@ -228,7 +221,7 @@ module _ (p : Image) (t : Typing) (s : State) (w : WellTyped p t s) (idle_now : 
         rests = subst (λ r. Suits (thing_kind p y.seat.object.thing) (resting_in (rests_in p y.seat.object)) r) it_is.asked (good.suits y.seat.object it_is.lives)
 
         it : (m : ℕ) × (part_of p Handles y.seat.object.thing ≡ Some m) × (c : ℕ) × (y.seat.object.thing ≡ An_object_of c) × IsHandler p c m
-        it = handler_of y.seat.object.thing (ready_active (thing_kind p y.seat.object.thing) y.request ready rests)
+        it = handler_of y.seat.object.thing (grind arith)
 
         sits : (above : List Seat) × AllSit s.cells (y.seat ∷ above)
         sits = let c = chain p t wired s w idle_now y.seat.place y.seat.object it_is.there (subst (λ z. 0 < rank p wired z) (sym it.3) (omega arith)) in (c.0, c.1)
@@ -260,7 +253,7 @@ module _ (p : Image) (t : Typing) (s : State) (w : WellTyped p t s) (idle_now : 
           stack = ((it.4.gives, tt, ap is_cancel it.4.role), (refl, refl, sits_now, (ap is_some now, sits.0, refl), tt));
           fits = λ q. subst (λ k. Fits p (seen cs) (held cs q) k) (sym (plain_message (declared p cs) q)) (fits_then taken_up y.seat.object q);
           own = subst (λ n. Suits (thing_kind p y.seat.object.thing) (resting_in n) (requested cs y.seat.object.name)) (sym it.4.begins)
-              (subst (λ r. Suits (thing_kind p y.seat.object.thing) (resting_in idle) r) (sym now) (suits_taken (thing_kind p y.seat.object.thing) y.request ready rests));
+              (subst (λ r. Suits (thing_kind p y.seat.object.thing) (resting_in idle) r) (sym now) (grind arith));
           others = λ z lives other. others_then taken_up y.seat.object z lives other;
           tidy = (alike taken_up y.seat.object).tidy good.tidy;
           sits = sits_now;
@@ -296,11 +289,8 @@ module _ (p : Image) (t : Typing) (s : State) (w : WellTyped p t s) (idle_now : 
         go true server = server_well y it_is server (service_of s.cells y.seat.object.name).queue refl
         go false plain = object_well y it_is (sym (or_false (is_ready y.request)) ∙ ap (λ q. is_ready y.request || has_more q) (sym (fit.servers y.seat.object it_is.lives plain).0) ∙ it_is.ready)
 
-    picks_well : (ready : Option Candidate) → first_ready s.cells ≡ ready → (next : Option ℕ) → Keeps p t (turned p s (picks (is_some ready) ready next))
-    picks_well x e next = grind (arith, nat_tests, picked_well, same_well)
-
     signal_well : (next : Option ℕ) → Keeps p t (turned p s (picks (has_signal s.cells) (first_ready s.cells) next))
-    signal_well next = grind (arith, nat_tests, signals_are_ready p t s w, picks_well)
+    signal_well next = grind (arith, nat_tests, signals_are_ready p t s w, picked_well, same_well)
 
     -- one test after another, as a turn makes them
     poll_well : (n : Option ℕ) (answer : Option Completion) (after : Turning) →

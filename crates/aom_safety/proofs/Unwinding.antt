@@ -1,27 +1,20 @@
 -- Each move of an unwinding keeps the typing: an object is destroyed, an operation runs, or the code arrives.
 use Rattle.std.proofs.lemmas.Bool.Decides.{nat_tests}
-use Rattle.std.proofs.Common.{List, [], ap, length, refl, true, ℤ, ◌∷◌, ◌≡◌, arith}
+use Rattle.std.proofs.Common.{List, [], ap, refl, true, ℤ, ◌∷◌, ◌≡◌, arith}
 use Rattle.aom_image.specs.Image.{Image}
 use Rattle.aom_roles.specs.Roles.{is_cancel}
-use Rattle.aom_shape.specs.Kinds.{entry_kind}
 use Rattle.aom_rules.specs.Typing.{IsTyped, Typing}
 use Rattle.aom_shape.specs.declared.kind.Entry.{Entry as Pushed}
-use Rattle.aom_shape.specs.declared.kind.Kind.{Kind}
 use Rattle.aom_safety.proofs.Arrival.{arrives}
 use Rattle.aom_safety.proofs.Dealing.{Dealing, deals}
-use Rattle.aom_safety.specs.Claims.{Dispatching, Layer, Mark, Unwinding, claim, declared, entry_form, forms, items_of, objects, tasks_of}
+use Rattle.aom_safety.specs.Claims.{Dispatching, Layer, Mark, Unwinding, entry_form, forms, items_of, objects, tasks_of}
 use Rattle.aom_semantics.specs.Cleanup.{dealt_with, top_is_whole, unwound}
 use Rattle.aom_safety.specs.Laws.{IsWired}
-use Rattle.aom_semantics.specs.Places.{Entry, Place, changed}
 use Rattle.aom_semantics.specs.State.{A_mark, An_object, An_operation, Item, State, Unwind}
 use Rattle.aom_safety.specs.WellTyped.{AllUndo, Good, Keeps, Leaves, Stack, WellTyped}
 use Rattle.aom_safety.proofs.Items.{no_mark}
 
 -- one more entry to unwind
-claim_unwinding : (p : Image) (d : Place → Kind) (code : ℤ) (e : Pushed) (es : List Pushed) (ls : List Layer) (r : Place) → claim p d
-    (Unwinding code (e ∷ es) ∷ ls) r ≡ changed (claim p d (Unwinding code es ∷ ls)) (Entry (length (items_of (Unwinding code es ∷ ls)))) (entry_kind e) r
-claim_unwinding p d code e es ls x = grind arith
-
 module _ (p : Image) (t : Typing) (wired : IsWired p) (typed : IsTyped p t) (s : State) (code : ℤ) where
   -- an entry is left: it is dealt with over the unwinding
   of_entry : (e : Pushed) (es : List Pushed) (ls : List Layer) → forms s.items ≡ entry_form e ∷ objects es (items_of ls) →
@@ -29,7 +22,7 @@ module _ (p : Image) (t : Typing) (wired : IsWired p) (typed : IsTyped p t) (s :
   of_entry e es ls same undos good =
       let d : Dealing p t s e (Unwinding code (e ∷ es) ∷ ls) (Unwinding code es ∷ ls) = record {
         fits = good.fits;
-        claims = λ r. claim_unwinding p (declared p s.cells) code e es ls r;
+        claims = λ r. grind arith;
         deep = refl;
         suits = good.suits;
         tidy = good.tidy;

@@ -1,5 +1,6 @@
 -- What stands for a thing may be taken for that thing.
-use Rattle.std.proofs.Common.{arith, Bool, List, None, Option, Some, [], ap, cond, false, refl, subst, suc, sym, true, zero, ℕ, ◌==◌, ◌∙◌, ◌∷◌, ◌≡◌}
+use Rattle.std.proofs.lemmas.Bool.Decides.{nat_tests}
+use Rattle.std.proofs.Common.{arith, List, None, Option, Some, [], ap, cond, refl, subst, suc, sym, true, zero, ℕ, ◌∙◌, ◌∷◌, ◌≡◌}
 use Rattle.std.proofs.lemmas.Bool.{eq-eqb, eqb-true}
 use Rattle.aom_image.specs.Image.{Image}
 use Rattle.aom_image.specs.declared.method.Thing.{Thing}
@@ -34,19 +35,11 @@ pub record Widens (p : Image) (k v : Kind) : Type 0 where
 
 module _ (p : Image) where
   pub own_widens : (x : Thing) (k : Kind) → is_own_for p x k ≡ true → is_ready_kind k ≡ true → Widens p k (Own x Ready)
-  own_widens x (Own y Ready) e r = record { object = refl; fits = go; word = refl }
-    where
-      go : (h : Sight) (o : Option Object) → Fits p h o (Own y Ready) → Fits p h o (Own x Ready)
-      go h None f = f
-      go h (Some o) f = (stands_along p o.thing y x f.0 e, tt)
+  own_widens x (Own y Ready) e r = record { object = refl; fits = grind (arith, nat_tests, stands_along); word = refl }
   own_widens x y e r = grind arith
 
   pub own_widens_more : (x : Thing) (k : Kind) → is_own_for p x k ≡ true → is_ready_kind k ≡ true → Widens p k (Maybe x Ready)
-  own_widens_more x (Own y Ready) e r = record { object = refl; fits = go; word = refl }
-    where
-      go : (h : Sight) (o : Option Object) → Fits p h o (Own y Ready) → Fits p h o (Maybe x Ready)
-      go h None f = tt
-      go h (Some o) f = (stands_along p o.thing y x f.0 e, tt)
+  own_widens_more x (Own y Ready) e r = record { object = refl; fits = grind (arith, nat_tests, stands_along); word = refl }
   own_widens_more x y e r = grind arith
 
   pub hold_widens : (x : Thing) (k : Kind) → may_be p x k ≡ true → is_ready_kind k ≡ true → Widens p k (Maybe x Ready)
@@ -80,8 +73,4 @@ module _ (p : Image) where
       no_word = word_of_object (word fr c) k wide.object (subst (λ x. WordFits (word fr c) x) here (g.frames.words c))
 
       words : (i : ℕ) → WordFits (word fr i) (register (set_register narrow c v) i)
-      words i = subst (λ x. WordFits (word fr i) x) (sym (at-put_at Unset narrow.registers c i v)) (go (c == i) refl)
-        where
-          go : (same : Bool) → (c == i) ≡ same → WordFits (word fr i) (cond same v (register narrow i))
-          go true e = subst (λ j. WordFits (word fr j) v) (eqb-true c i e) (subst (λ w. WordFits w v) (sym no_word) wide.word)
-          go false e = g.frames.words i
+      words i = subst (λ x. WordFits (word fr i) x) (sym (at-put_at Unset narrow.registers c i v)) (grind (arith, nat_tests, word, eqb-true, no_word))

@@ -78,9 +78,6 @@ one_of : (a b : Bool) → IsTrue (a || b) → IsTrue a ⊎ IsTrue b
 one_of true b h = inl refl
 one_of false b h = inr h
 
-or_left : (a b : Bool) → IsTrue a → IsTrue (a || b)
-or_left a b h = ap (λ x. x || b) h
-
 -- a method of no kind of class is of no class
 of_none : (p : Image) (c : Option ℕ) → IfSome c (λ k. k < length p.classes) → is_none (kind_of p c) ≡ true → c ≡ None
 unfolding kind_of kind_in class_at
@@ -204,9 +201,6 @@ module _ (p : Image) (formed : WellFormed p) (linked : IsLinked p) where
   has_attendant : (c session : ℕ) → sessions_at p c ≡ Some session → (m : ℕ) × (role_of p session Service ≡ Some m)
   has_attendant c session serves = (of_session session (session_before p linked c session serves).1).0
 
-  session_serves_none : (c session : ℕ) → sessions_at p c ≡ Some session → sessions_at p session ≡ None
-  session_serves_none c session serves = (of_session session (session_before p linked c session serves).1).1
-
   -- what may leave is not quiet
   loud : (m : ℕ) → leaves p m ≡ true → is_quiet p m ≡ false
   unfolding leaves_in quiet_in
@@ -274,7 +268,7 @@ module _ (p : Image) (formed : WellFormed p) (linked : IsLinked p) where
       let gives : LeavesNone (gives_of p m') = leaves_none (gives_of p m') names.gives in
       some_given (λ o. IsTrue (is_role Do (role_in o))) (method_at p m') names.role (λ names. cc) (λ d f names. record {
         there = rw f refl;
-        ends = ends_unissued m' d f (or_left (same_role d.role Do) (same_role d.role Construct) names);
+        ends = ends_unissued m' d f (grind arith);
         role = ap role_in f ∙ ap (λ r. Some r) (same_roles d.role Do names);
         gives = gives;
       })
@@ -330,5 +324,5 @@ linked_is_wired p formed linked = record {
   accepts = acceptor_is p formed linked;
   attendant = has_attendant p formed linked;
   attends = attendant_is p formed linked;
-  sessions = session_serves_none p formed linked;
+  sessions = grind (arith, nat_tests, of_session, session_before);
 }

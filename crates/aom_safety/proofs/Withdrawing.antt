@@ -23,7 +23,6 @@ use Rattle.aom_safety.specs.Claims.{declared, declared_field}
 use Rattle.aom_safety.specs.Kept.{ClientsFit, is_message_of}
 use Rattle.aom_semantics.specs.Places.{Asked, Cell, Close_of, Connect_of, Elsewhere, Message_of, Object, Place}
 use Rattle.aom_semantics.specs.Places.{Queued, Sender, Session, held, named, requested, seen, service_of}
-use Rattle.aom_safety.specs.Requests.{AllSuit}
 use Rattle.aom_semantics.specs.Servers.{has_message, is_from, is_message, is_queue, is_server, left_by, message_thing, stays, withdrawn}
 use Rattle.aom_safety.specs.WellTyped.{Fits, Good}
 use Rattle.aom_safety.proofs.Things.{message_plain}
@@ -35,12 +34,8 @@ none_left : (c m : ℕ) (es : List Asked) → ((d : ℕ) → list_any (is_messag
 none_left c m [] own = refl
 none_left c m (Connect_of d ∷ es) own = grind (arith, nat_tests, none_left c m es own)
 none_left c m (Close_of d ∷ es) own = none_left c m es own
-none_left c m (Message_of d k ∷ es) own = go (stays c (Message_of d k)) refl (k == m) refl (none_left c m es (λ i h. own i (or_right ((d == i) && (k == m)) (list_any (is_message_of i m) es) h)))
+none_left c m (Message_of d k ∷ es) own = go (stays c (Message_of d k)) refl (k == m) refl (none_left c m es (λ i h. own i (grind arith)))
   where
-    or_right : (b x : Bool) → x ≡ true → (b || x) ≡ true
-    or_right true x h = refl
-    or_right false x h = h
-
     go :
         (b : Bool) → stays c (Message_of d k) ≡ b → (x : Bool) → (k == m) ≡ x → list_any (λ e. is_message m e) (filter (stays c) es) ≡ false →
         list_any (λ e. is_message m e) (cond b (Message_of d k ∷ filter (stays c) es) (filter (stays c) es)) ≡ false
@@ -105,18 +100,12 @@ module _ (p : Image) (t : Typing) (clients : List Client) (cs : List Cell) (good
   base : (q : Place) → Fits p (seen left) (held cs q) (declared p cs q)
   base q = fits_ready p (seen cs) (seen left) (held cs q) (declared p cs q) (declared_ready p cs q) (good.fits q)
 
-  there_still : (q : Place) → is_queue q ≡ false → declared p left q ≡ declared p cs q → Fits p (seen left) (held left q) (declared p left q)
-  there_still q apart kinds = grind (arith, nat_tests, stays_held q apart, base q)
-
   -- a message has no fields and no sessions
   field_kind : (n f : ℕ) → declared_field p (named left n) f ≡ declared_field p (named cs n) f
   field_kind n f = grind (arith, nat_tests, name_left n)
 
   session_kind : (n d : ℕ) → declared p left (Elsewhere (Session n d)) ≡ declared p cs (Elsewhere (Session n d))
   session_kind n d = grind (arith, nat_tests, service_now, name_left, named_name, message_plain)
-
-  thing_kind_left : (n : ℕ) → message_thing p (named left n) ≡ message_thing p (named cs n)
-  thing_kind_left n = grind (arith, nat_tests, name_left n, message_plain p)
 
   -- a queue
   module _ (n m : ℕ) where
@@ -130,7 +119,7 @@ module _ (p : Image) (t : Typing) (clients : List Client) (cs : List Cell) (good
     still = list_any (λ e. is_message m e) (filter (stays c) (service_of cs n).queue)
 
     kind_now : declared p left q ≡ cond still kind Null
-    kind_now = grind (arith, nat_tests, service_now n, thing_kind_left n)
+    kind_now = grind (arith, nat_tests, service_now n, name_left, message_plain)
 
     held_now : (x : Option Cell) → cell_in cs q ≡ x → held left q ≡ object_in (after x)
     held_now x e = held_cell left q ∙ ap object_in (cell_in_sifted drops (λ x. left_by c x.service) cs q good.tidy ∙ ap after e)
@@ -138,12 +127,9 @@ module _ (p : Image) (t : Typing) (clients : List Client) (cs : List Cell) (good
     was : (x : Option Cell) → cell_in cs q ≡ x → held cs q ≡ object_in x
     was x e = held_cell cs q ∙ ap object_in e
 
-    none_fits : (b : Bool) → Fits p (seen left) None kind → Fits p (seen left) None (cond b kind Null)
-    none_fits x f = grind arith
-
     -- nothing was there
     free_fits : (b : Bool) → has_message (service_of cs n) m ≡ b → Fits p (seen left) None (cond b kind Null) → Fits p (seen left) None (cond still kind Null)
-    free_fits x e f = grind (arith, nat_tests, none_fits, none_stays)
+    free_fits x e f = grind (arith, nat_tests, none_stays)
 
     -- a message was there, and goes or stays
     some_fits : (x : Cell) → cell_in cs q ≡ Some x →
@@ -176,10 +162,7 @@ module _ (p : Image) (t : Typing) (clients : List Client) (cs : List Cell) (good
             (some_fits x e (is_from c x.service.sender) refl (has_message (service_of cs n) m) refl (grind (arith, nat_tests, was (Some x) e, base)))
 
   fits : (q : Place) → Fits p (seen left) (held left q) (declared p left q)
-  fits r = grind (arith, nat_tests, there_still, field_kind, session_kind, queue_fits)
-
-  suits : AllSuit p left []
-  suits y there = grind (arith, nat_tests, name_left y.name)
+  fits r = grind (arith, nat_tests, stays_held, base, field_kind, session_kind, queue_fits)
 
   pub good_withdrawn : Good p t (withdrawn c cs) []
-  good_withdrawn = search (arith, nat_tests, withdrawn_so c cs, fits, suits, tidy_sifted)
+  good_withdrawn = search (arith, nat_tests, withdrawn_so c cs, fits, name_left, tidy_sifted)
