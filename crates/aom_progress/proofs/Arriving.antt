@@ -77,8 +77,7 @@ module _ (p : Image) (t : Typing) (wired : IsWired p) (linked : IsLinked p) (typ
       turns (i ∷ es) all l at =
           let less = lower s next.0 (Unwind code) below w at next.1 in
           let r = deals p t wired (choose s) s next.0 w code below i es items l at next.1 in
-          sooner s next.0 next.1 less
-          (comes next.0 (below_k less) next.2 (dealt ++ (i ∷ [])) es (all ∙ sym (append_assoc dealt (i ∷ []) es))
+          sooner s next.0 next.1 less (comes next.0 (below_k less) next.2 (dealt ++ (i ∷ [])) es (all ∙ sym (append_assoc dealt (i ∷ []) es))
           (dealt_with (choose s) i (es ++ (A_mark ∷ items)) course at l.stack next.1 r.0.stack r.1) r.0)
 
       go : (ts : List Task) → s.tasks ≡ ts → IsOver p (length s.items) code below ts → Comes_from s

@@ -91,8 +91,7 @@ unfolding loop_in
 other_number code c d p r n nest w stands same =
     let s = scanned_at code r nest (let h = slice_get_within code r _ stands in omega (arith, h)) in
     let passes = must_pass code r (Loop d n) s.0 stands s.1 nest in
-    let open_still : slice_get s.0 c ≡ Some p = ⊎_elim
-    (λ (o : slice_get s.0 c ≡ Some p). o)
+    let open_still : slice_get s.0 c ≡ Some p = ⊎_elim (λ (o : slice_get s.0 c ≡ Some p). o)
     (λ (b : ClosedBefore code r c p). let one = nest.closed p c w.closes.begins in
     let u = one.only w.end w.closes in let v = one.only b.place b.closes in absurd (omega (arith, u, v, b.below, w.upto)))
     (s.1.loops p c w.after w.closes.begins) in

@@ -32,8 +32,8 @@ use Rattle.aom_safety.proofs.Jumps.{not_empty, not_full}
 use Rattle.aom_safety.proofs.Requesting.{active_listed, busy_in, free_in, listed_in, some_left, unlisted_in}
 use Rattle.aom_safety.proofs.Straight.{At, field_fits, kind_fits}
 use Rattle.aom_safety.specs.Claims.{Layer, tasks_of}
-use Rattle.aom_semantics.specs.Effects.{Calls, Cancels, Counts, Destroys, Destroys_last, Effect, Goes_on, Jumps, Leaves, Operates, Pushed, Pushed_operation}
-use Rattle.aom_semantics.specs.Effects.{Repeats, Returns, Sets_trap, Update, cancels_if, deals, deletes, effect, jumps_if, jumps_unless, round}
+use Rattle.aom_semantics.specs.Effects.{Calls, Cancels, Destroys, Destroys_last, Effect, Goes_on, Jumps, Leaves, Operates, Pushed, Pushed_operation}
+use Rattle.aom_semantics.specs.Effects.{Returns, Sets_trap, Update, cancels_if, deals, deletes, effect, jumps_if, jumps_unless, round}
 use Rattle.aom_semantics.specs.Enlisted.{cancel_method, in_phase, is_active, is_busy, own_request}
 use Rattle.aom_semantics.specs.Places.{Object, seen}
 use Rattle.aom_semantics.specs.State.{Choice, Frame, Item, State, Task, counter}
@@ -66,8 +66,6 @@ module _ (p : Image) (c : Prices) (fr : Frame) (sh : Shape) where
   abbrev pub Covers : Effect → Type 0
   Covers (Goes_on change) = Affords (1 + pushes change.update) (suc fr.place)
   Covers (Jumps to) = Affords 1 to
-  Covers (Counts depth n) = Unit {0}
-  Covers (Repeats depth n to) = Unit {0}
   Covers (Calls target m first) = Affords (1 + call_price p c m) (suc fr.place)
   Covers (Cancels m) = Affords (1 + price c m) (suc fr.place)
   Covers (Sets_trap target m first) = Affords (1 + call_price p c m) (suc fr.place)
@@ -76,6 +74,7 @@ module _ (p : Image) (c : Prices) (fr : Frame) (sh : Shape) where
   Covers (Destroys o a words) = Affords (1 + kind_price c (register sh a)) (suc fr.place)
   Covers (Destroys_last o) = Affords 1 (suc fr.place)
   Covers (Operates m w) = Affords 1 (suc fr.place)
+  Covers _ = Unit {0}
 
   branches : (b : Bool) (to : ℕ) → Affords 1 (suc fr.place) → Affords 1 to → Covers (jumps_if fr b to)
   branches x to on away = grind arith

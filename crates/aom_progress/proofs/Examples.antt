@@ -51,8 +51,7 @@ use Rattle.aom_classes.proofs.Playing.{destroyed}
 -- ---- the image: main makes an object and deletes it, in three rounds
 
 abbrev method : Option ℕ → Role → ℕ → List Instr → Method
-method class role flags code =
-    a_method class role flags 0 0 [] Nothing code
+method class role flags code = a_method class role flags 0 0 [] Nothing code
 
 abbrev image : Image
 image = record {
@@ -69,8 +68,7 @@ abbrev made : Kind
 made = Maybe (Object 0) Ready
 
 abbrev typing : Typing
-typing =
-    (Some (holding Unset) ∷ [])
+typing = (Some (holding Unset) ∷ [])
     ∷ (Some (holding Unset) ∷ Some (holding Unset) ∷ Some (holding made) ∷ Some (holding Null) ∷ Some (holding Null) ∷ Some (holding Null) ∷ [])
     ∷ []
 
@@ -85,12 +83,8 @@ table = record { from = λ m place. at 0 (at [] costs m) place; round = λ m q. 
 
 -- the instructions of the image, one after another
 module _ (P : ℕ → ℕ → Shape → Instr → Type 0)
-    (ends : P 0 0 (holding Unset) (Return 0))
-    (loops : P 1 0 (holding Unset) (Loop 0 3))
-    (makes : P 1 1 (holding Unset) (New 0 0))
-    (deletes : P 1 2 (holding made) (Delete 0))
-    (nexts : P 1 3 (holding Null) (Next 0 1))
-    (stops : P 1 4 (holding Null) Stop)
+    (ends : P 0 0 (holding Unset) (Return 0)) (loops : P 1 0 (holding Unset) (Loop 0 3)) (makes : P 1 1 (holding Unset) (New 0 0))
+    (deletes : P 1 2 (holding made) (Delete 0)) (nexts : P 1 3 (holding Null) (Next 0 1)) (stops : P 1 4 (holding Null) Stop)
     (returns : P 1 5 (holding Null) (Return 0)) where
   abbrev At_place : ℕ → ℕ → Shape → Type 0
   At_place m place sh = (i : Instr) × (instr_at image m place ≡ Some i) × P m place sh i
@@ -228,8 +222,7 @@ passing m place sh e = (there Passing
     (record { instr = Return 0; stands = refl; needs = (refl, (refl, (refl, (refl, (refl, (refl, (refl, (refl, (refl, tt))))))))); flows = tt })
     (record { instr = Loop 0 3; stands = refl; needs = tt; flows = ((_, refl, one_register Unset Unset alike), tt) })
     (record { instr = New 0 0; stands = refl; needs = (refl, (refl, tt)); flows = ((_, refl, one_register made made alike), tt) })
-    (record { instr = Delete 0; stands = refl; needs = (refl, tt); flows = ((_, refl, one_register Null Null alike), tt) })
-    (record
+    (record { instr = Delete 0; stands = refl; needs = (refl, tt); flows = ((_, refl, one_register Null Null alike), tt) }) (record
     { instr = Next 0 1; stands = refl; needs = tt; flows = ((_, refl, one_register Unset Null unset_null), ((_, refl, one_register Null Null alike), tt)) })
     (record { instr = Stop; stands = refl; needs = tt; flows = ((_, refl, one_register Null Null alike), tt) }) (record
     { instr = Return 0; stands = refl; needs = (refl, (refl, (refl, (refl, (refl, (refl, (refl, (refl, (refl, tt))))))))); flows = tt }) m place sh e).2

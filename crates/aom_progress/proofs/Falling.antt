@@ -185,8 +185,7 @@ module _ (p : Image) (linked : IsLinked p) (c : Choice) (s : State) (fr : Frame)
     loud_leaving i code e r = grind (arith, nat_tests, loud_by, loud_leaver p linked fr.method)
 
     -- the method goes on after an update
-    goes_after :
-        (i : Instr) → slice_get d.code fr.place ≡ Some i → loop_in (Some i) ≡ None → Ruled i → (u : Update) → FitsUpdate ts s.items i u →
+    goes_after : (i : Instr) → slice_get d.code fr.place ≡ Some i → loop_in (Some i) ≡ None → Ruled i → (u : Update) → FitsUpdate ts s.items i u →
         rest_at fr.counters (suc fr.place) + beyond + count_after u * cell_rank p < before
     goes_after i stands plain r (Made name x a) f = pushes_on i stands plain (loud_maker i f r) (count_after (Made name x a)) (more (Made name x a))
     goes_after i stands plain r (Pushed a) f = grind (arith, nat_tests, pushes_on i stands plain, loud_leaver p linked fr.method, more (Pushed a))

@@ -144,8 +144,7 @@ stays_or_stands (c ∷ cs) t plain = go c.owner refl (is_object c.object.thing) 
   where
     go : (r : Place) → c.owner ≡ r → (b : Bool) → is_object c.object.thing ≡ b → staying cs ≡ standing cs + count_messages cs → cond (is_going r) (staying cs)
         (suc (staying cs)) ≡ cond b (cond (is_going r) (standing cs) (suc (standing cs))) (standing cs) + cond b (count_messages cs) (suc (count_messages cs))
-    go (Going k) at false e ih =
-        absurd (false≢true (sym e ∙ plain k c.object (grind (arith, nat_tests, same_place_refl (Going k)))))
+    go (Going k) at false e ih = absurd (false≢true (sym e ∙ plain k c.object (grind (arith, nat_tests, same_place_refl (Going k)))))
     go (Going k) at true e ih = ih
     go _ at true e ih = omega (arith, ih)
     go _ at false e ih = omega (arith, ih)

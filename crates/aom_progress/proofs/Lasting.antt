@@ -21,7 +21,7 @@ use Rattle.aom_semantics.specs.Effects.{Requested, Sessioned, Spot, Update, Writ
 use Rattle.aom_semantics.specs.Enlisted.{ended_cells, on_request, own_request, rerequested}
 use Rattle.aom_semantics.specs.Places.{Cell, Entry, Going, Object, Place, Request, held, moved, same_place, without}
 use Rattle.aom_semantics.specs.Servers.{all_unslotted, is_queue_of, without_queue}
-use Rattle.aom_semantics.specs.State.{Closing, Destroy, Dispatched, Frame, Home, Run, State, Task, Trapped, Unwind, resumed}
+use Rattle.aom_semantics.specs.State.{Closing, Frame, Home, Run, State, Task, resumed}
 use Rattle.aom_semantics.specs.Words.{here}
 use Rattle.aom_typings.specs.Prices.{Prices}
 use Rattle.aom_progress.specs.Left.{closing_left, closings_left, is_session_with, sessions_left}
@@ -43,12 +43,8 @@ module _ (p : Image) (c : Prices) (cs us : List Cell) where
 
   pub lasting : (ts : List Task) → Lasts (length ts) cs us → closings_left p c us ts ≤ closings_left p c cs ts
   lasting [] h = omega arith
-  lasting (Run fr ∷ ts) h = lasting ts (lasts_below _ _ cs us (omega arith) h)
-  lasting (Trapped ∷ ts) h = lasting ts (lasts_below _ _ cs us (omega arith) h)
-  lasting (Destroy ∷ ts) h = lasting ts (lasts_below _ _ cs us (omega arith) h)
-  lasting (Unwind code ∷ ts) h = lasting ts (lasts_below _ _ cs us (omega arith) h)
-  lasting (Dispatched d ∷ ts) h = lasting ts (lasts_below _ _ cs us (omega arith) h)
   lasting (Closing ∷ ts) h = grind (arith, nat_tests, lasts_below, lasting ts, closing_less, h.sessions c)
+  lasting (_ ∷ ts) h = lasting ts (lasts_below _ _ cs us (omega arith) h)
 
 -- the methods over the trap end
 pub to_trap_closings : (p : Image) (c : Prices) (cs : List Cell) (ts : List Task) → closings_left p c cs (to_trap ts) ≡ closings_left p c cs ts

@@ -110,8 +110,7 @@ module _ (p : Image) (t : Typing) (c : Prices) (linked : IsLinked p) (priced : I
   grows q a b le = scaled_le (a - 1) (b - 1) (c.round fr.method q) (omega (arith, le))
 
   -- so much less is before it there, where a loop that begins adds its rounds, and one that goes back takes one of them
-  there :
-      (cs : List ℕ) (k n adds takes : ℕ) → loops_worth d.code worth cs k + takes ≤ loops_worth d.code worth fr.counters fr.place + adds →
+  there : (cs : List ℕ) (k n adds takes : ℕ) → loops_worth d.code worth cs k + takes ≤ loops_worth d.code worth fr.counters fr.place + adds →
       n + adds + c.from fr.method k ≤ c.from fr.method fr.place + takes → n + rest_at cs k ≤ rest_at fr.counters fr.place
   there cs k n adds takes loops pays = grind (arith, nat_tests)
 
@@ -129,8 +128,7 @@ module _ (p : Image) (t : Typing) (c : Prices) (linked : IsLinked p) (priced : I
       let begins = begun_left p t c priced o height (Run waits ∷ ts) us (stands_at_going p t c priced s.cells (Method fr sh ∷ ls) at_hand.good few o from depth there (omega arith)) in
       omega (arith, begins, lasting p c s.cells us ts (grind (arith, nat_tests, lasts_moved, going_apart)))
 
-  straight :
-      (i : Instr) → slice_get d.code fr.place ≡ Some i → loop_in (Some i) ≡ None → (n : ℕ) → Affords p c fr sh n (suc fr.place) →
+  straight : (i : Instr) → slice_get d.code fr.place ≡ Some i → loop_in (Some i) ≡ None → (n : ℕ) → Affords p c fr sh n (suc fr.place) →
       n + rest_at fr.counters (suc fr.place) ≤ rest_at fr.counters fr.place
   straight i stands plain n pays = there fr.counters (suc fr.place) n 0 0 (omega (arith, straight_on d.code worth grows fr.counters fr.place i stands plain)) (omega (arith, pays))
 
@@ -215,7 +213,14 @@ module _ (p : Image) (t : Typing) (c : Prices) (linked : IsLinked p) (priced : I
       let less = straight i stands plain (1 + call_price p c m) pays in
       let k = run_by p fr ts s target m in
       let run = body_paid p c m (target_view p fr ts s target (method_class p m)) in
-      omega (arith, less, passed_less (objects_left c) (λ d i e j cs. moved_less c is_entry (Register d i) (Register e j) cs refl) p fr ts s (length (Run fr ∷ ts)) (arguments_of p m) first 0 s.cells, closings_passed (length (Run fr ∷ ts)) m first, fresh_rounds c k (method_at p k), run)
+      omega (
+        arith,
+        less,
+        passed_less (objects_left c) (λ d i e j cs. moved_less c is_entry (Register d i) (Register e j) cs refl) p fr ts s (length (Run fr ∷ ts)) (arguments_of p m) first 0 s.cells,
+        closings_passed (length (Run fr ∷ ts)) m first,
+        fresh_rounds c k (method_at p k),
+        run,
+      )
 
   cancels : (i : Instr) → slice_get d.code fr.place ≡ Some i → loop_in (Some i) ≡ None → (m : ℕ) → Affords p c fr sh (1 + price c m) (suc fr.place) → Pays (Cancels m)
   cancels i stands plain m pays =
@@ -229,7 +234,14 @@ module _ (p : Image) (t : Typing) (c : Prices) (linked : IsLinked p) (priced : I
       let less = straight i stands plain (1 + call_price p c m) pays in
       let k = run_by p fr ts s target m in
       let run = body_paid p c m (target_view p fr ts s target (method_class p m)) in
-      omega (arith, less, passed_less (objects_left c) (λ d i e j cs. moved_less c is_entry (Register d i) (Register e j) cs refl) p fr ts s (length (Trapped ∷ Run fr ∷ ts)) (arguments_of p m) first 0 s.cells, closings_passed (length (Trapped ∷ Run fr ∷ ts)) m first, fresh_rounds c k (method_at p k), run)
+      omega (
+        arith,
+        less,
+        passed_less (objects_left c) (λ d i e j cs. moved_less c is_entry (Register d i) (Register e j) cs refl) p fr ts s (length (Trapped ∷ Run fr ∷ ts)) (arguments_of p m) first 0 s.cells,
+        closings_passed (length (Trapped ∷ Run fr ∷ ts)) m first,
+        fresh_rounds c k (method_at p k),
+        run,
+      )
 
   -- the object of a register goes, or that of the last item, which was paid for as it was pushed
   destroys : (i : Instr) → slice_get d.code fr.place ≡ Some i → loop_in (Some i) ≡ None → (o : Object) (a : ℕ) (words : List (Option ℤ)) →

@@ -40,8 +40,7 @@ module _ (c : Prices) (counts : Place → Bool) where
   moved_less from to (x ∷ cs) e = grind (arith, moved_less from to cs e)
 
   -- what is there leaves such a place
-  pub leaves_place :
-      (from to : Place) (o : Object) (cs : List Cell) → counts from ≡ true → counts to ≡ false → held cs from ≡ Some o →
+  pub leaves_place : (from to : Place) (o : Object) (cs : List Cell) → counts from ≡ true → counts to ≡ false → held cs from ≡ Some o →
       owned_left c counts (moved from to cs) + c.destruction o.thing ≤ owned_left c counts cs
   leaves_place from to o [] f e there = cc
   leaves_place from to o (x ∷ cs) f e there = grind (arith, leaves_place from to o cs f e, moved_less from to cs e, same_place-true x.owner from)

@@ -55,8 +55,7 @@ use Rattle.aom_safety.proofs.Callees.{cancel_family}
 -- ---- a return
 
 -- something is left of a method that returns
-ends :
-    (p : Image) → IsLinked p → (c : Choice) (s : State) (fr : Frame) (ts : List Task) (d : Method_declared) → method_at p fr.method ≡ Some d → (a : ℕ) →
+ends : (p : Image) → IsLinked p → (c : Choice) (s : State) (fr : Frame) (ts : List Task) (d : Method_declared) → method_at p fr.method ≡ Some d → (a : ℕ) →
     slice_get d.code fr.place ≡ Some (Return a) → 1 ≤ frame_rank p fr
 unfolding loop_in
 ends p linked c s fr ts d declared_there a stands = grind (
@@ -121,8 +120,7 @@ module _ (p : Image) (t : Typing) (linked : IsLinked p) (typed : IsTyped p t) (c
   fewer_stand cs fewer = scaled_le (standing cs + operations s.items) (standing s.cells + operations s.items) (cell_rank p) (omega (arith, fewer))
 
   -- a server lets go of a session, which pays for its destruction, or its destructor begins
-  empties :
-      (ts : List Task) (o : Object) (y : Option Seat) → first_session s.cells o.name (service_of s.cells o.name).sessions ≡ y →
+  empties : (ts : List Task) (o : Object) (y : Option Seat) → first_session s.cells o.name (service_of s.cells o.name).sessions ≡ y →
       rank p (parting p o y ts (counted p s)) < total (Closing ∷ Destroy ∷ ts)
   empties ts o None e = omega (arith, destructed_paid p linked o (length s.items) ts)
   empties ts o (Some x) e =
@@ -138,8 +136,7 @@ module _ (p : Image) (t : Typing) (linked : IsLinked p) (typed : IsTyped p t) (c
   kept_alike v same alike = grind (arith, nat_tests)
 
   -- main's end is worth 2: the root's destruction may begin, with its own end before it
-  ends_main :
-      (b : Bool) (o : Option Object) → held s.cells (Elsewhere Root) ≡ o → (v : State) → v.cells ≡ s.cells → v.items ≡ s.items →
+  ends_main : (b : Bool) (o : Option Object) → held s.cells (Elsewhere Root) ≡ o → (v : State) → v.cells ≡ s.cells → v.items ≡ s.items →
       rank p (main_ends p b o v) < 2 + (standing s.cells + operations s.items) * cell_rank p
   ends_main true (Some o) there v same alike =
       let destruction = begun_paid p linked o (length v.items) (Dispatched Of_root ∷ []) in

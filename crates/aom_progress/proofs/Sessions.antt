@@ -48,8 +48,7 @@ module _ (p : Image) (t : Typing) (cs : List Cell) (n client : ℕ) (o x : Objec
   of_cond y k h f = grind arith
 
   -- a server that goes has those sessions alone that are left
-  of_ending :
-      (y : Object) (left : List ℕ) → EndsSessions p cs y left → (below : Kind) → Has below →
+  of_ending : (y : Object) (left : List ℕ) → EndsSessions p cs y left → (below : Kind) → Has below →
       Has (cond (y.name == n) (cond (is_among client left) (filled (session_thing p (Some y)) Full) Null) below)
   of_ending y left ends below has f = grind (arith, nat_tests, owns, eqb-true y.name n)
 
@@ -143,8 +142,7 @@ module _ (p : Image) (t : Typing) (c : Prices) (priced : IsPriced p t c) (cs : L
           all : Sessions c o.name (c.destruction (An_object_of k)) cs (service_of cs o.name).sessions
           all client x there =
               let has =
-              of_claim p t cs o.name client o x lives Now ls good.stack
-              (rw there at (good.fits (Elsewhere (Session o.name client)))) in
+              of_claim p t cs o.name client o x lives Now ls good.stack (rw there at (good.fits (Elsewhere (Session o.name client)))) in
               let fits = rw at at has.1 in
               (has.0, priced.stands_in x.thing (An_object_of k) fits.0)
 

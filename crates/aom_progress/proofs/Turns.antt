@@ -84,8 +84,7 @@ module _ (p : Image) (c : Prices) (s : State) (idle : s.tasks ≡ []) where
       connects _ _ slots = with_cells v refl refl refl
 
       sends : (refused : Option Refusal) (own : Client) (words : List ℤ) → Passed (sending p client v refused own name words)
-      sends None (Open server session slots) words =
-          with_cells (sending p client v None (Open server session slots) name words) refl refl
+      sends None (Open server session slots) words = with_cells (sending p client v None (Open server session slots) name words) refl refl
           (omega (arith, served_same c is_entry server (asked_last (Message_of client name) (service_of s.cells server)) s.cells))
       sends _ _ words = with_cells v refl refl refl
 
@@ -183,7 +182,13 @@ module _ (p : Image) (t : Typing) (c : Prices) (family : IsFamily p) (linked : I
 
   pub picked_pays : (u : State) → Picked p s x u → Paid u
   picked_pays u d = elim d as (λ v e. Paid v) [
-    | handles m at ↦ omega (arith, runs x.object.thing m at, fresh_rounds c m (method_at p m), bare, asked_same c is_entry x.object.name (on_request taken_up (requested s.cells x.object.name)) s.cells)
+    | handles m at ↦ omega (
+      arith,
+      runs x.object.thing m at,
+      fresh_rounds c m (method_at p m),
+      bare,
+      asked_same c is_entry x.object.name (on_request taken_up (requested s.cells x.object.name)) s.cells,
+    )
     | accepts client m at ↦ omega (arith, accepts_within x.object.thing m at, fresh_rounds c m (method_at p m), bare, taken_same)
     | attends client message m o here at ↦
         omega (

@@ -238,12 +238,10 @@ moves_pay = record {
         IsLinked p → IsTyped p t → IsPriced p t c → (ch : Choice) (s u : State) → WellTyped p t s → IsKept p s → step p ch s ≡ Goes u →
         (n : ℕ) → WithinBudget p c n s → (b : Bool) → restarts p s.tasks ≡ b → (restarts p s.tasks ≡ true → main_price p c ≤ n) → WithinBudget p c n u
     go p t c linked typed priced ch s u w kept goes n h true ends enough = record {
-      within =
-          omega (arith, restart_left p t c linked typed priced ch s u w kept goes ends, none_counted p ch s u goes ends, enough ends);
+      within = omega (arith, restart_left p t c linked typed priced ch s u w kept goes ends, none_counted p ch s u goes ends, enough ends);
     }
     go p t c linked typed priced ch s u w kept goes n h false on enough = record {
-      within =
-          omega (arith, step_pays p t c linked typed priced ch s u w kept goes on, steps_counted p ch s u goes on, h.within);
+      within = omega (arith, step_pays p t c linked typed priced ch s u w kept goes on, steps_counted p ch s u goes on, h.within);
     }
 
 module _ (p : Image) (t : Typing) (c : Prices) (outside : Environment) (formed : WellFormed p) (linked : IsLinked p) (typed : IsTyped p t) (priced : IsPriced p t c) where
@@ -314,13 +312,11 @@ module _ (limit : ℕ) (p : Image) (t : Typing) (c : Prices) (wired : IsWired p)
 pub steps_within : StepsWithin
 steps_within = record { price = by_price; main = of_main; each = by_budget; limited = by_limit }
   where
-    by_price :
-        (p : Image) (t : Typing) (c : Prices) (outside : Environment) → WellFormed p → IsLinked p → IsTyped p t → IsPriced p t c →
+    by_price : (p : Image) (t : Typing) (c : Prices) (outside : Environment) → WellFormed p → IsLinked p → IsTyped p t → IsPriced p t c →
         (lines : List Line) (s : State) (reached : Reaches p outside (boot_state p) lines s) → taken reached ≤ price_of p c (payer s.tasks)
     by_price p t c outside formed linked typed priced lines s reached = omega (arith, stays p t c outside formed linked typed priced reached)
 
-    of_main :
-        (p : Image) (t : Typing) (c : Prices) (outside : Environment) → WellFormed p → IsLinked p → IsTyped p t → IsAffordable p t c →
+    of_main : (p : Image) (t : Typing) (c : Prices) (outside : Environment) → WellFormed p → IsLinked p → IsTyped p t → IsAffordable p t c →
         (lines : List Line) (s : State) (reached : Reaches p outside (boot_state p) lines s) → payer s.tasks ≡ None → taken reached ≤ p.header.budget
     of_main p t c outside formed linked typed affords lines s reached none =
         omega (arith, by_price p t c outside formed linked typed affords.priced lines s reached, ap (λ x. price_of p c x) none, affords.declared)
