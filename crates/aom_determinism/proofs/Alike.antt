@@ -51,9 +51,6 @@ module _ (p : Image) (t : Typing) (refused : List ℕ) (c d : Choice) (s u : Sta
   abbrev names : ℕ → ℕ
   names = exchanged p t s u well kept there alike c.name d.name open_c.name open_d.name
 
-  same_state : renamed names s ≡ u
-  same_state = exchanged_state p t s u well kept there alike c.name d.name open_c.name open_d.name
-
   same_refusal : c.refused ≡ d.refused
   same_refusal = grind (arith, nat_tests, refused_so alike.names alike.one_to_one p refused s)
 
@@ -74,7 +71,7 @@ module _ (p : Image) (t : Typing) (refused : List ℕ) (c d : Choice) (s u : Sta
       go false e = step_unheard p d c.answer u (ap (λ x. is_heard p x.tasks) alike.same ∙ heard_kept p alike.names s.tasks ∙ e)
 
   same_step : renamed_outcome names (step p c s) ≡ step p d u
-  same_step = grind (arith, nat_tests, moves_so, exchanged_one, same_choice, hearing, same_state, same_hearing)
+  same_step = grind (arith, nat_tests, moves_so, exchanged_one, same_choice, hearing, exchanged_state, same_hearing)
 
   pub move_alike : AlikeOutcomes (step p c s) (step p d u)
   move_alike = grind (arith, nat_tests, same_step, alike_renamed, exchanged_one)
@@ -92,11 +89,8 @@ module _ (p : Image) (t : Typing) (outside : Environment) (heard other : Heard)
   abbrev turn_names : ℕ → ℕ
   turn_names = exchanged p t s u well kept there alike heard.name other.name free_heard free_other
 
-  same_polling : is_polling (turning outside nothing_heard u) ≡ is_polling (turning outside nothing_heard s)
-  same_polling = ap (λ x. is_polling (turning outside nothing_heard x)) alike.same ∙ polling_kept alike.names outside s
-
   same_turn : turn p outside (record other { completion = heard.completion }) u ≡ turn p outside other u
-  same_turn = grind (arith, nat_tests, same_polling, turn_unpolled other p outside u)
+  same_turn = grind (arith, nat_tests, polling_kept, turn_unpolled other p outside u)
 
   same_turned : renamed_outcome turn_names (turn p outside heard s) ≡ turn p outside other u
   same_turned = grind (arith, nat_tests, turns_so, exchanged_one, exchanged_first, exchanged_state, same_turn)

@@ -8,7 +8,6 @@ use Rattle.std.specs.Prelude.{filter, ◌||◌}
 use Rattle.aom_image.specs.Image.{Image}
 use Rattle.aom_image.specs.declared.method.Role.TheVariants.{Accept as Accepts_role, Run as Handles, Service as Attends}
 use Rattle.aom_clients.specs.Nodes.{is_connecting_at}
-use Rattle.aom_clients.specs.Table.{row}
 use Rattle.aom_clients.specs.declared.client.Client.{Client}
 use Rattle.aom_clients.specs.declared.client.Client.TheVariants.{Connecting, Open}
 use Rattle.aom_clients.specs.declared.refusal.Refusal.{Refusal}
@@ -36,15 +35,12 @@ use Rattle.aom_determinism.specs.There.{AllThere, AreThere, waits}
 -- ---- the first of a queue is taken
 
 -- of a queue whose first asks for no session of that client
-rest_connects : (c : ℕ) (e : Asked) (es : List Asked) → is_connect_of c e ≡ false → list_any (is_connect_of c) (e ∷ es) ≡ true → list_any (is_connect_of c) es ≡ true
-rest_connects c e es none h = sym (ap (λ b. b || list_any (is_connect_of c) es) none) ∙ h
-
 module _ (cs : List Cell) (o : Object) (lives : named cs o.name ≡ Some o) (e : Asked) (es : List Asked) (queue : (service_of cs o.name).queue ≡ e ∷ es) where
   abbrev then : List Cell
   then = reserved taken_first o.name cs
 
   taken_waits : (n c : ℕ) → (o.name ≡ n → is_connect_of c e ≡ false) → waits cs n c ≡ true → waits then n c ≡ true
-  taken_waits n c none h = grind (arith, nat_tests, eqb-true o.name n, service_here cs o.name, rest_connects c e es, service_there cs o.name n)
+  taken_waits n c none h = grind (arith, nat_tests, eqb-true o.name n, service_here cs o.name, service_there cs o.name n)
 
   -- its connect is served, or none is lost
   accepted_waits : (clients : List Client) (x : Seat) (k : ℕ) → x.object ≡ o → e ≡ Connect_of k → AllWait clients cs → AreThere clients then (Some (Of_server x k Accepts))
@@ -110,13 +106,6 @@ module _ (p : Image) (s u : State) (all : AllWait s.clients s.cells) (x : Seat) 
 
 -- ---- a client does something
 
--- a client that closes or dies does not connect
-closes_done : (n : ℕ) (x to : Client) → (row x).close ≡ Some to → is_connecting_at n to ≡ false
-closes_done n x to e = grind arith
-
-dies_done : (n : ℕ) (x to : Client) → (row x).die ≡ Some to → is_connecting_at n to ≡ false
-dies_done n x to e = grind arith
-
 -- what is asked last loses no connect
 last_keeps : (e : Asked) (v : Service) (c : ℕ) → list_any (is_connect_of c) v.queue ≡ true → list_any (is_connect_of c) (asked_last e v).queue ≡ true
 last_keeps e v c h = list_any-append (is_connect_of c) v.queue (e ∷ []) ∙ ap (λ b. b || list_any (is_connect_of c) (e ∷ [])) h
@@ -151,8 +140,7 @@ module _ (p : Image) (client : ℕ) (s : State) (tidy : Tidy s.cells) (fit : Cli
           let q = (service_of s.cells x.name).queue in
           ap (λ k. waits cells k d) (sym at)
           ∙ ap (λ v. list_any (is_connect_of d) v.queue) (service_here s.cells x.name (asked_last (Connect_of client) (service_of s.cells x.name)) l.0 lives)
-          ∙ list_any-append (is_connect_of d) q (Connect_of client ∷ [])
-          ∙ ap (λ b. list_any (is_connect_of d) q || (b || false)) (eq-eqb client d same)
+          ∙ list_any-append (is_connect_of d) q (Connect_of client ∷ []) ∙ ap (λ b. list_any (is_connect_of d) q || (b || false)) (eq-eqb client d same)
           ∙ or_true (list_any (is_connect_of d) q)
         where
           or_true : (b : Bool) → (b || true) ≡ true
@@ -201,4 +189,4 @@ module _ (p : Image) (client : ℕ) (s : State) (tidy : Tidy s.cells) (fit : Cli
           told_keeps (own p client s) (withdrawn client s.cells) (grind (arith, nat_tests, stays_connects client d))
 
   pub commanded_waits : (command : Command) (name : ℕ) → named s.cells name ≡ None → StillWait (commanded p client s command name)
-  commanded_waits x name free = grind (arith, nat_tests, connecting_waits, sending_waits, leaving_waits, closes_done, dies_done)
+  commanded_waits x name free = grind (arith, nat_tests, connecting_waits, sending_waits, leaving_waits)

@@ -1,7 +1,7 @@
 -- What a move tells, by the call that it makes: how instructions on requests and sessions bear on what is outstanding.
 use Rattle.std.proofs.lemmas.Bool.Decides.{nat_tests}
 use Rattle.std.proofs.Common.{arith, Bool, List, None, Option, Some, ap, cond, false, refl, sym, true, ℕ, ℤ, ◌&&◌, ◌==◌, ◌∙◌, ◌≡◌}
-use Rattle.std.proofs.lemmas.Bool.{not-true, and_parts, and_right, eq-eqb, eqb-true, or_right, true≢false}
+use Rattle.std.proofs.lemmas.Bool.{not-true, and_parts, and_right, eq-eqb, eqb-true, true≢false}
 use Rattle.std.specs.Ordering.{int_eq}
 use Rattle.std.specs.Prelude.{not, ◌||◌}
 use Rattle.aom_image.specs.Image.{Image}
@@ -15,7 +15,7 @@ use Rattle.aom_semantics.specs.Enlisted.{Asking, aborted, ended_cells, home_kind
 use Rattle.aom_semantics.specs.Enlisted.{on_request, own_request, pending, rerequested, status_of, thing_kind}
 use Rattle.aom_semantics.specs.Natives.{has_died, is_dead, is_owed, native_of, opens, own_session, resessioned, started}
 use Rattle.aom_semantics.specs.Places.{Cell, Object, Request, in_session, named, requested, set_request, set_session}
-use Rattle.aom_semantics.specs.State.{AtRoot, Frame, Home, Inside, State, Static, Task}
+use Rattle.aom_semantics.specs.State.{Frame, Home, Inside, State, Task}
 use Rattle.aom_semantics.specs.Wanted.{An_open, A_start, An_ask, A_cancel, A_close, Asks, Cancels, Closes}
 use Rattle.aom_semantics.specs.Wanted.{Opens, Starts, Wanted, wanted_at, wanted_by, wanted_if}
 use Rattle.aom_semantics.specs.Words.{read}
@@ -41,14 +41,8 @@ for_one n x k m e = let both = and_parts (n == k) (x == m) e in (eqb-true n k bo
 -- ---- sessions hold after a call
 
 module _ (p : Image) (answer : ℤ) (s : State) (holds : SessionsHold p s) (w : Option Wanted) where
-  met_after : (finds : FindsWell p s w) (k m : ℕ) → owes_after w answer k m (owes p s.cells k m) ≡ true → meets_after w answer k m (meets p s.cells k m) ≡ true
-  met_after finds k m = grind (arith, nat_tests, finds, meets p s.cells, owes p s.cells k m, meets p s.cells k m, for_one, and_right, owes p s.cells, or_right)
-
-  lives_after : (finds : FindsWell p s w) (k m : ℕ) → meets_after w answer k m (meets p s.cells k m) ≡ true → is_dead s.killed k ≡ false
-  lives_after finds k m = grind (arith, nat_tests, finds, meets p s.cells k m, for_one, and_right)
-
   pub sessions_after : (u : State) → Told p answer s w u.cells → u.killed ≡ s.killed → SessionsHold p u
-  sessions_after u told killed = search (arith, nat_tests, met_after told.finds, lives_after told.finds)
+  sessions_after u told killed = search (arith, nat_tests)
 
 -- ---- other changes before and after it
 
@@ -62,29 +56,17 @@ told_along p answer s w cs cs' same told = record { finds = told.finds; owes = �
 pub told_before : (p : Image) (answer : ℤ) (s u : State) → Unchanged p s.cells u.cells → ((k m : ℕ) → serves p u.cells k m ≡ serves p s.cells k m) →
     u.killed ≡ s.killed → (w : Option Wanted) (cs : List Cell) → Told p answer u w cs → Told p answer s w cs
 told_before p answer s u same serving killed w cs told = record {
-  finds = finds_before w told.finds;
+  finds = grind (arith, nat_tests, owes);
   owes = λ k m. told.owes k m ∙ ap (λ b. owes_after w answer k m b) (same.owes k m);
   meets = λ k m. told.meets k m ∙ ap (λ b. meets_after w answer k m b) (same.meets k m);
 }
-  where
-    found_before : (n x : ℕ) (session owed : Bool) → Finds p u n x session owed → Finds p s n x session owed
-    found_before n x session owed f = record {
-      lives = ap (λ l. is_dead l n) (sym killed) ∙ f.lives;
-      serves = sym (serving n x) ∙ f.serves;
-      meets = sym (same.meets n x) ∙ f.meets;
-      owes = sym (same.owes n x) ∙ f.owes;
-    }
-
-    finds_before : (w : Option Wanted) → FindsWell p u w → FindsWell p s w
-    finds_before x f = grind (arith, nat_tests, found_before, owes p s.cells)
 
 -- ---- what instructions tell
 
 -- what a method works on lives
 abbrev pub IsAlive : List Cell → Home → Type 0
-IsAlive cs Static = Unit {0}
-IsAlive cs AtRoot = Unit {0}
 IsAlive cs (Inside o from) = named cs o.name ≡ Some o
+IsAlive cs _ = Unit {0}
 
 module _ (p : Image) (answer : ℤ) (s : State) where
   pub told_none : (cs : List Cell) → Unchanged p s.cells cs → Told p answer s None cs
@@ -150,13 +132,10 @@ module _ (p : Image) (answer : ℤ) (s : State) where
     connects true false dead met = opened_alike o false (sym met)
     connects false true dead met = opened_alike o true (sym met)
     connects false false dead met = record {
-      finds = found false false dead met (unowed (is_owed (requested s.cells o.name)) refl);
+      finds = found false false dead met (grind (arith, nat_tests, open_for));
       owes = owes_opened p s.cells o (takes_on answer);
       meets = grind (arith, nat_tests, meets_opened, put_on, meets, at_it);
     }
-      where
-        unowed : (b : Bool) → is_owed (requested s.cells o.name) ≡ b → is_owed (requested s.cells o.name) ≡ false
-        unowed x owed = grind (arith, nat_tests, open_for)
 
     module _ (clock order : ℕ) (a : ℤ) (f w : ℤ) (idle : in_phase is_idle (requested s.cells o.name) ≡ true) where
       abbrev then : Bool → Bool → Option Request
@@ -214,8 +193,7 @@ module _ (p : Image) (answer : ℤ) (s : State) (fr : Frame) (ts : List Task) wh
         (wanted_by s p fr ts h An_open) (resessioned s.cells h (opens (has_died s.killed (native_of (home_kind p h))) (own_session s.cells h) answer))
     connect_told (Inside o from) alive = go (native_of (thing_kind p o.thing)) refl
       where
-        go :
-            (x : Option ℕ) → native_of (thing_kind p o.thing) ≡ x →
+        go : (x : Option ℕ) → native_of (thing_kind p o.thing) ≡ x →
             Told p answer s (wanted_at s fr ts o x An_open) (set_session o.name (opens (has_died s.killed x) (in_session s.cells o.name) answer) s.cells)
         go None e = opened_elsewhere p answer s o alive e _
         go (Some n) e = connects p answer s holds o alive n e (is_dead s.killed n) (in_session s.cells o.name) refl refl

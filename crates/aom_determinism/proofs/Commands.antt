@@ -11,15 +11,15 @@ use Rattle.aom_clients.specs.declared.client.Client.TheVariants.{Connecting}
 use Rattle.aom_clients.specs.declared.refusal.Refusal.{Refusal}
 use Rattle.aom_transcript.specs.declared.event.Command.{Command}
 use Rattle.aom_transcript.specs.declared.event.Command.TheVariants.{Close, Connect, Die, Send}
-use Rattle.aom_semantics.specs.Clients.{Listed, among_listed, asked_of, asked_server, commanded, connecting, count_messages, earlier}
-use Rattle.aom_semantics.specs.Clients.{first_listed, leaving, own, refusal, room, sending, slots_of, told, with_message}
-use Rattle.aom_semantics.specs.Places.{Asked, Cell, Close_of, Connect_of, Message_of, Object, Place, Request, Service}
-use Rattle.aom_semantics.specs.Servers.{discarded, holds_slot, is_connect, is_queue, left_by, seats_taken, slots_taken, stays, withdrawn}
+use Rattle.aom_semantics.specs.Clients.{Listed, asked_of, asked_server, commanded, connecting, count_messages, earlier}
+use Rattle.aom_semantics.specs.Clients.{first_listed, leaving, own, refusal, room, sending, told, with_message}
+use Rattle.aom_semantics.specs.Places.{Asked, Cell, Close_of, Connect_of, Message_of, Service}
+use Rattle.aom_semantics.specs.Servers.{holds_slot, seats_taken, slots_taken, withdrawn}
 use Rattle.aom_semantics.specs.State.{State}
-use Rattle.aom_determinism.proofs.NamedCells.{cond_applied, cond_mapped}
+use Rattle.aom_determinism.proofs.NamedCells.{cond_applied}
 use Rattle.aom_determinism.proofs.Serving.{asks_renamed, client_renamed, service_renamed, with_client_renamed}
 use Rattle.aom_determinism.specs.Names.{IsOneToOne, renamed, renamed_asked, renamed_cells, renamed_client}
-use Rattle.aom_determinism.specs.Names.{renamed_object, renamed_place, renamed_queue, renamed_service}
+use Rattle.aom_determinism.specs.Names.{renamed_queue, renamed_service}
 
 module _ (names : ℕ → ℕ) where
   -- ---- what is counted
@@ -32,31 +32,19 @@ module _ (names : ℕ → ℕ) where
   messages_kept [] = refl
   messages_kept (c ∷ cs) = ap (λ n. cond (is_object c.object.thing) n (suc n)) (messages_kept cs)
 
-  connect_kept : (e : Asked) → is_connect (renamed_asked names e) ≡ is_connect e
-  connect_kept x = grind arith
-
   -- what of a queue passes a test that looks at no name
   filter_renamed : (f : Asked → Bool) → ((e : Asked) → f (renamed_asked names e) ≡ f e) → (es : List Asked) → filter f (renamed_queue names es) ≡ renamed_queue names (filter f es)
   filter_renamed f same [] = refl
   filter_renamed f same (e ∷ es) = grind (arith, nat_tests, filter_renamed f same es, cond_applied)
 
   seats_kept : (v : Service) → seats_taken (renamed_service names v) ≡ seats_taken v
-  seats_kept v = grind (arith, nat_tests, filter_renamed, connect_kept, length-map)
+  seats_kept v = grind (arith, nat_tests, filter_renamed, length-map)
 
   -- ---- what a client leaves behind
 
-  stays_kept : (c : ℕ) (e : Asked) → stays c (renamed_asked names e) ≡ stays c e
-  stays_kept c x = grind arith
-
-  left_renamed : (c : ℕ) (v : Service) → left_by c (renamed_service names v) ≡ renamed_service names (left_by c v)
-  left_renamed c v = ap (λ es. record v { queue = es; sender = discarded c v.sender }) (filter_renamed (stays c) (stays_kept c) v.queue)
-
-  in_queue_kept : (q : Place) → is_queue (renamed_place names q) ≡ is_queue q
-  in_queue_kept x = grind arith
-
   withdrawn_renamed : (c : ℕ) (cs : List Cell) → withdrawn c (renamed_cells names cs) ≡ renamed_cells names (withdrawn c cs)
   withdrawn_renamed c [] = refl
-  withdrawn_renamed c (x ∷ xs) = grind (arith, nat_tests, in_queue_kept x.owner, left_renamed c x.service, withdrawn_renamed c xs, cond_applied)
+  withdrawn_renamed c (x ∷ xs) = grind (arith, nat_tests, filter_renamed, withdrawn_renamed c xs, cond_applied)
 
   -- ---- whom it asks
 
@@ -66,34 +54,20 @@ module _ (names : ℕ → ℕ) where
   earlier_renamed : (a : Listed) (b : Option Listed) → earlier (renamed_listed a) (option_map renamed_listed b) ≡ renamed_listed (earlier a b)
   earlier_renamed a x = grind (arith, nat_tests, cond_applied)
 
-  among_renamed :
-      (class : ℕ) (o : Object) (r : Option Request) (others : Option Listed) →
-      among_listed class (renamed_object names o) r (option_map renamed_listed others) ≡ option_map renamed_listed (among_listed class o r others)
-  among_renamed class o x others = grind (arith, nat_tests, earlier_renamed, cond_mapped)
-
   listed_renamed : (class : ℕ) (cs : List Cell) → first_listed class (renamed_cells names cs) ≡ option_map renamed_listed (first_listed class cs)
   listed_renamed class [] = refl
-  listed_renamed class (c ∷ cs) = grind (arith, nat_tests, listed_renamed class cs, among_renamed class c.object c.request)
+  listed_renamed class (c ∷ cs) = grind (arith, nat_tests, listed_renamed class cs)
 
   server_renamed : (p : Image) (class : ℕ) (cs : List Cell) → asked_server p class (renamed_cells names cs) ≡ option_map renamed_listed (asked_server p class cs)
   server_renamed p class cs = grind (arith, nat_tests, listed_renamed class cs)
 
   -- ---- what it may do
 
-  connects_kept : (x : Client) → (row (renamed_client names x)).connect ≡ (row x).connect
-  connects_kept x = grind arith
-
-  sends_kept : (x : Client) → (row (renamed_client names x)).send ≡ (row x).send
-  sends_kept x = grind arith
-
   closes_renamed : (x : Client) → (row (renamed_client names x)).close ≡ option_map (renamed_client names) (row x).close
   closes_renamed x = grind arith
 
   dies_renamed : (x : Client) → (row (renamed_client names x)).die ≡ option_map (renamed_client names) (row x).die
   dies_renamed x = grind arith
-
-  slots_of_kept : (x : Client) → slots_of (renamed_client names x) ≡ slots_of x
-  slots_of_kept x = grind arith
 
 module _ (names : ℕ → ℕ) (one_to_one : IsOneToOne names) where
   asked_kept : (r : Option Refusal) (most : ℕ) (l : Option Listed) (cs : List Cell) → asked_of r most (option_map (renamed_listed names) l) (renamed_cells names cs) ≡ asked_of r most l cs
@@ -108,10 +82,10 @@ module _ (names : ℕ → ℕ) (one_to_one : IsOneToOne names) where
     own_renamed = client_renamed names s.clients client
 
     room_kept : (r : Option Refusal) → room p client s' r ≡ room p client s r
-    room_kept x = grind (arith, nat_tests, slots_kept names client s.cells, own_renamed, slots_of_kept names, messages_kept names s.cells)
+    room_kept x = grind (arith, nat_tests, slots_kept names client s.cells, own_renamed, messages_kept names s.cells)
 
     pub refusal_kept : (command : Command) → refusal p client s' command ≡ refusal p client s command
-    refusal_kept x = grind (arith, nat_tests, own_renamed, connects_kept names, server_renamed names p, asked_kept, sends_kept names, room_kept)
+    refusal_kept x = grind (arith, nat_tests, own_renamed, server_renamed names p, asked_kept, room_kept)
 
     connecting_renamed : (r : Option Refusal) (l : Option Listed) (slots : ℕ) → connecting p client s' r (option_map (renamed_listed names) l) slots ≡ renamed names (connecting p client s r l slots)
     connecting_renamed None (Some x) slots = grind (

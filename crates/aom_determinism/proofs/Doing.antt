@@ -1,6 +1,5 @@
 -- What an instruction needs and does it needs and does under other names too: its effect is the same under these names, and so is what each effect does.
 use Rattle.std.proofs.lemmas.Bool.Decides.{nat_tests}
-use Rattle.aom_semantics.specs.Tokens.{home_class}
 use Rattle.std.proofs.Common.{arith, Bool, List, None, Option, [], ap, cond, length, refl, ℕ, ℤ, ◌-◌, ◌∙◌, ◌∷◌, ◌≡◌}
 use Rattle.std.specs.Prelude.{is_some, option_map}
 use Rattle.aom_image.specs.Image.{Image}
@@ -13,20 +12,20 @@ use Rattle.aom_instructions.specs.declared.instr.Target.{Target}
 use Rattle.aom_instructions.specs.declared.instr.Target.TheVariants.{Entry as On_entry, Field as On_field, Register as On_register, This}
 use Rattle.aom_image.specs.declared.method.Gives.{Gives}
 use Rattle.aom_clients.specs.declared.client.Client.{Client}
-use Rattle.aom_semantics.specs.Calls.{accepted_cells, accepted_clients, answered_by, ended_well, told_answer, home_at}
-use Rattle.aom_semantics.specs.Calls.{own_home, received, result_cells, returned, target_home, target_view}
+use Rattle.aom_semantics.specs.Calls.{accepted_cells, accepted_clients, answered_by, ended_well, home_at}
+use Rattle.aom_semantics.specs.Calls.{result_cells, returned, target_home, target_view}
 use Rattle.aom_semantics.specs.Cleanup.{code_told, dealt_with, destroyed, to_trap, top_place}
 use Rattle.aom_classes.specs.Roles.{destructor_of}
 use Rattle.aom_semantics.specs.Destruction.{begun, begun_by, destructed, line_on}
 use Rattle.aom_semantics.specs.Effects.{Calls, Cancels, Carried, Destroys, Destroys_last, Effect, Goes_on, Leaves, Made, Popped}
 use Rattle.aom_semantics.specs.Effects.{Pushed, Requested, Returns, Sets_trap, Spot, Update, Written, applied}
-use Rattle.aom_semantics.specs.Effects.{cancels_if, cells_after, deals, deletes, effect, items_after, jumps_if, jumps_unless, makes_unless}
-use Rattle.aom_semantics.specs.Effects.{round, sets, spot_place, writes, Replied, Sessioned, Handed, hands_unless}
+use Rattle.aom_semantics.specs.Effects.{cancels_if, cells_after, deals, effect, items_after, jumps_if, jumps_unless}
+use Rattle.aom_semantics.specs.Effects.{round, sets, spot_place, writes, Replied, Sessioned, Handed}
 use Rattle.aom_semantics.specs.Enlisted.{cancel_method, ended_cells, in_phase, is_active, is_busy, own_request, rerequested}
 use Rattle.aom_semantics.specs.Moves.{does, needs}
 use Rattle.aom_semantics.specs.Places.{Cell, Entry, Object, Place, Register, Request, held, moved}
-use Rattle.aom_semantics.specs.State.{A_mark, An_object, An_operation, Choice, Dispatch, Frame, Home, Item, Run, State, Task, Trapped, counter, home_view}
-use Rattle.aom_semantics.specs.Words.{loaded, stored}
+use Rattle.aom_semantics.specs.State.{An_object, Choice, Dispatch, Frame, Home, Item, Run, State, Task, Trapped, counter, home_view}
+use Rattle.aom_semantics.specs.Words.{stored}
 use Rattle.aom_determinism.proofs.NamedCells.{held_renamed, messages_kept, moved_renamed, order_kept, redeemed_renamed, set_request_renamed}
 use Rattle.aom_determinism.proofs.NamedCells.{set_word_field_renamed, tasks_counted, timer_kept, token_kept, word_field_kept, in_session_kept}
 use Rattle.aom_determinism.proofs.NamedCells.{set_session_renamed, cond_applied, without_renamed}
@@ -56,8 +55,7 @@ module _ (names : ℕ → ℕ) where
 -- ---- what is at hand
 
 module _ (names : ℕ → ℕ) where
-  begun_by_renamed :
-      (p : Image) (m : Option ℕ) (o : Object) (height : ℕ) (below : List Task) →
+  begun_by_renamed : (p : Image) (m : Option ℕ) (o : Object) (height : ℕ) (below : List Task) →
       begun_by p m (renamed_object names o) height (renamed_tasks names below) ≡ renamed_tasks names (begun_by p m o height below)
   begun_by_renamed p x o height below = grind (arith, nat_tests, tasks_counted names below)
 
@@ -79,14 +77,8 @@ module _ (names : ℕ → ℕ) where
   home_at_renamed : (o : Option Object) (q : Place) → home_at (option_map (renamed_object names) o) (renamed_place names q) ≡ renamed_home names (home_at o q)
   home_at_renamed x q = grind arith
 
-  own_home_renamed : (class : Option ℕ) (h : Home) → own_home class (renamed_home names h) ≡ renamed_home names (own_home class h)
-  own_home_renamed x h = grind arith
-
 module _ (names : ℕ → ℕ) (one_to_one : IsOneToOne names) where
   -- ---- words of cells
-
-  loaded_kept : (cs : List Cell) (h : Home) (w : ℕ) → loaded (renamed_cells names cs) (renamed_home names h) w ≡ loaded cs h w
-  loaded_kept cs x w = grind (arith, nat_tests, word_field_kept names one_to_one cs)
 
   stored_renamed : (cs : List Cell) (h : Home) (w : ℕ) (v : ℤ) → stored (renamed_cells names cs) (renamed_home names h) w v ≡ renamed_cells names (stored cs h w v)
   stored_renamed cs x w v = grind (arith, nat_tests, set_word_field_renamed names one_to_one)
@@ -111,23 +103,15 @@ module _ (names : ℕ → ℕ) (one_to_one : IsOneToOne names) where
   pub dealt_renamed : (p : Image) (items : List Item) (ts : List Task) (s : State) → dealt_with p items (renamed_tasks names ts) (renamed names s) ≡ renamed names (dealt_with p items ts s)
   dealt_renamed p [] ts s = refl
   dealt_renamed p (An_object ∷ items) ts s = rw (held_renamed names one_to_one s.cells (Entry (length items)), destroyed_renamed p items ts s (held s.cells (Entry (length items))))
-  dealt_renamed p (An_operation m w ∷ items) ts s = refl
-  dealt_renamed p (A_mark ∷ items) ts s = refl
+  dealt_renamed p (_ ∷ items) ts s = refl
 
 -- ---- what a method goes on with
 
 module _ (names : ℕ → ℕ) where
-  received_renamed : (p : Image) (fr : Frame) (ts : List Task) (s : State) (g : Gives) (a b : ℕ) (caller : Frame) → received p (renamed_frame names fr)
-      (renamed_tasks names ts) (renamed names s) g a b (renamed_frame names caller) ≡ renamed_frame names (received p fr ts s g a b caller)
-  received_renamed p fr ts s x a b caller = grind arith
-
   pub told_renamed : (g : Gives) (a : ℕ) (code : ℤ) (fr : Frame) → code_told g a code (renamed_frame names fr) ≡ renamed_frame names (code_told g a code fr)
   told_renamed x a code fr = grind arith
 
   -- an answer names no cell
-  answer_kept : (g : Gives) (fr : Frame) (a : ℕ) → told_answer g (renamed_frame names fr) a ≡ told_answer g fr a
-  answer_kept x fr a = grind arith
-
   answered_by_renamed : (answer : ℤ) (d : Dispatch) → answered_by answer (renamed_dispatch names d) ≡ renamed_dispatch names (answered_by answer d)
   answered_by_renamed answer x = grind arith
 
@@ -139,8 +123,7 @@ module _ (names : ℕ → ℕ) where
   accepted_clients_renamed : (d : Dispatch) (clients : List Client) → accepted_clients (renamed_dispatch names d) (renamed_clients names clients) ≡ renamed_clients names (accepted_clients d clients)
   accepted_clients_renamed x clients = grind (arith, nat_tests, opened_client_renamed names)
 
-  accepted_renamed :
-      IsOneToOne names → (d : Dispatch) (from : Place) (cs : List Cell) →
+  accepted_renamed : IsOneToOne names → (d : Dispatch) (from : Place) (cs : List Cell) →
       accepted_cells (renamed_dispatch names d) (renamed_place names from) (renamed_cells names cs) ≡ renamed_cells names (accepted_cells d from cs)
   accepted_renamed one_to_one x from cs = grind (arith, nat_tests, moved_renamed names one_to_one from, opens_renamed names one_to_one)
 
@@ -162,12 +145,10 @@ module _ (names : ℕ → ℕ) (one_to_one : IsOneToOne names) (p : Image) (c : 
     arith,
     nat_tests,
     result_cells_renamed g a,
-    received_renamed names p fr ts s g a,
     tasks_counted names ts,
     accepted_renamed names one_to_one,
     accepted_clients_renamed names,
     ended_well_renamed names,
-    answer_kept names g fr a,
     answered_by_renamed names,
     line_renamed names p fr.method fr.home fr.height,
   )
@@ -192,15 +173,8 @@ module _ (names : ℕ → ℕ) (one_to_one : IsOneToOne names) (p : Image) (c : 
   -- ---- calls
 
   target_renamed : (target : Target) (class : Option ℕ) → target_home p fr' ts' s' target class ≡ renamed_home names (target_home p fr ts s target class)
-  target_renamed x class = grind (
-    arith,
-    nat_tests,
-    own_home_renamed names class fr.home,
-    tasks_counted names ts,
-    held_renamed names one_to_one s.cells,
-    home_at_renamed names,
-    field_renamed names fr.home,
-  )
+  target_renamed x class =
+      grind (arith, nat_tests, tasks_counted names ts, held_renamed names one_to_one s.cells, home_at_renamed names, field_renamed names fr.home)
 
   -- it counts as what it counts as under the other names
   elsewhere : (target : Target) (class : Option ℕ) → home_view (target_home p fr' ts' s' target class) ≡ home_view (target_home p fr ts s target class)
@@ -216,9 +190,6 @@ module _ (names : ℕ → ℕ) (one_to_one : IsOneToOne names) (p : Image) (c : 
 
   place_renamed : (spot : Spot) → spot_place p fr' ts' s' spot ≡ renamed_place names (spot_place p fr ts s spot)
   place_renamed x = grind (arith, nat_tests, tasks_counted names ts, field_renamed names fr.home)
-
-  class_kept : (h : Home) → home_class (renamed_home names h) ≡ home_class h
-  class_kept x = grind arith
 
   cells_renamed : (u : Update) → cells_after p fr' ts' s' (renamed_update names u) ≡ renamed_cells names (cells_after p fr ts s u)
   cells_renamed (Carried from to) = rw (place_renamed from, place_renamed to, moved_renamed names one_to_one (spot_place p fr ts s from) (spot_place p fr ts s to) s.cells)
@@ -239,7 +210,6 @@ module _ (names : ℕ → ℕ) (one_to_one : IsOneToOne names) (p : Image) (c : 
     arith,
     nat_tests,
     tasks_counted names ts,
-    class_kept fr.home,
     token_kept names s.cells,
     own_request_kept names one_to_one s.cells fr.home,
     rerequested_renamed names one_to_one s.cells fr.home,
@@ -270,20 +240,8 @@ module _ (names : ℕ → ℕ) (one_to_one : IsOneToOne names) (p : Image) (c : 
   jumps_renamed : (o : Option Object) (to : ℕ) → jumps_unless fr' (option_map (renamed_object names) o) to ≡ renamed_effect names (jumps_unless fr o to)
   jumps_renamed x to = grind arith
 
-  deletes_renamed : (o : Option Object) (a : ℕ) → deletes fr' (option_map (renamed_object names) o) a ≡ renamed_effect names (deletes fr o a)
-  deletes_renamed x a = grind arith
-
-  deals_renamed : (items : List Item) (o : Option Object) → deals fr' items (option_map (renamed_object names) o) ≡ renamed_effect names (deals fr items o)
-  deals_renamed x o = grind arith
-
   round_renamed : (n depth to : ℕ) → round n depth to ≡ renamed_effect names (round n depth to)
   round_renamed x depth to = grind arith
-
-  made_renamed : (b : Bool) (a x : ℕ) → makes_unless b (names c.name) x a ≡ renamed_update names (makes_unless b c.name x a)
-  made_renamed x a y = grind arith
-
-  handed_renamed : (b : Bool) (a : ℕ) (own : Option Request) → hands_unless b (names c.name) a own ≡ renamed_update names (hands_unless b c.name a own)
-  handed_renamed x a own = grind arith
 
   -- one effect or the other
   either_renamed : (b : Bool) (x y x' y' : Effect) → x' ≡ renamed_effect names x → y' ≡ renamed_effect names y → cond b x' y' ≡ renamed_effect names (cond b x y)
@@ -294,29 +252,25 @@ module _ (names : ℕ → ℕ) (one_to_one : IsOneToOne names) (p : Image) (c : 
   branch_renamed test to = grind (arith, nat_tests, own_request_kept names one_to_one s.cells fr.home, either_renamed)
 
   -- a request that is active is cancelled
-  cancels_renamed : (b : Bool) (m : Option ℕ) → cancels_if fr' b m ≡ renamed_effect names (cancels_if fr b m)
-  cancels_renamed x m = grind arith
-
-  cancel_renamed :
-      cancels_if fr' (in_phase is_active (own_request s'.cells fr'.home)) (cancel_method p fr')
+  cancel_renamed : cancels_if fr' (in_phase is_active (own_request s'.cells fr'.home)) (cancel_method p fr')
       ≡ renamed_effect names (cancels_if fr (in_phase is_active (own_request s.cells fr.home)) (cancel_method p fr))
-  cancel_renamed = grind (arith, nat_tests, own_request_kept names one_to_one s.cells fr.home, cancels_renamed)
+  cancel_renamed = grind (arith, nat_tests, own_request_kept names one_to_one s.cells fr.home)
 
   -- the last item is dealt with
   dealt_alike : deals fr' s.items (held s'.cells (top_place s.items)) ≡ renamed_effect names (deals fr s.items (held s.cells (top_place s.items)))
-  dealt_alike = grind (arith, nat_tests, held_renamed names one_to_one s.cells, deals_renamed s.items)
+  dealt_alike = grind (arith, nat_tests, held_renamed names one_to_one s.cells)
 
   effect_renamed : (i : Instr) → effect p c' fr' ts' s' i ≡ renamed_effect names (effect p c fr ts s i)
   effect_renamed (JumpNull a to) = grind (arith, nat_tests, register_renamed names one_to_one s.cells ts a, jumps_renamed)
   effect_renamed (JumpEmpty f to) = grind (arith, nat_tests, held_field names one_to_one s.cells fr.home f, jumps_renamed)
   effect_renamed (Next depth to) = round_renamed (counter fr depth - 1) depth to
-  effect_renamed (Load a w) = ap (writes fr a) (loaded_kept names one_to_one s.cells fr.home w)
-  effect_renamed (New a x) = ap (sets fr a None) (made_renamed c.refused a x)
-  effect_renamed (Delete a) = grind (arith, nat_tests, register_renamed names one_to_one s.cells ts a, deletes_renamed)
+  effect_renamed (Load a w) = ap (writes fr a) (grind (arith, nat_tests, word_field_kept))
+  effect_renamed (New a x) = ap (sets fr a None) (grind arith)
+  effect_renamed (Delete a) = grind (arith, nat_tests, register_renamed names one_to_one s.cells ts a)
   effect_renamed (JumpActive to) = branch_renamed (in_phase is_busy) to
   effect_renamed (JumpAdded to) = branch_renamed is_some to
   effect_renamed (Enlist priority) = rw (order_kept names s.cells)
-  effect_renamed (Hand a) = grind (arith, nat_tests, messages_kept names s.cells, own_request_kept names one_to_one s.cells fr.home, handed_renamed)
+  effect_renamed (Hand a) = grind (arith, nat_tests, messages_kept names s.cells, own_request_kept names one_to_one s.cells fr.home)
   effect_renamed (Issue a b) = rw (kind_kept names p fr.home, timer_kept names s.cells, own_session_kept names one_to_one s.cells fr.home, own_request_kept names one_to_one s.cells fr.home)
   effect_renamed SetActive = rw (own_request_kept names one_to_one s.cells fr.home)
   effect_renamed Cancel = cancel_renamed

@@ -7,7 +7,7 @@ use Rattle.aom_image.specs.declared.method.Argument.TheVariants.{Own as Takes_ow
 use Rattle.aom_image.specs.declared.method.Gives.{Gives}
 use Rattle.aom_determinism.proofs.Cells.{Unchanged, unchanged_along, unchanged_itself, unchanged_moved, unchanged_new, unchanged_stored}
 use Rattle.aom_determinism.proofs.Services.{unchanged_served}
-use Rattle.aom_semantics.specs.Calls.{accepted_cells, passed_cells, result_cells, returned}
+use Rattle.aom_semantics.specs.Calls.{accepted_cells, passed_cells, returned}
 use Rattle.aom_semantics.specs.Effects.{Cancels, Effect, Goes_on, Leaves, Made, Replied, Requested, Returns, Sessioned, Update, applied, cells_after, Handed}
 use Rattle.aom_semantics.specs.Places.{Cell, Place, named}
 use Rattle.aom_semantics.specs.State.{Dispatch, Frame, State, Task}
@@ -35,19 +35,13 @@ module _ (p : Image) (fr : Frame) (ts : List Task) (s : State) where
   passed_unchanged depth (Takes_word ∷ xs) first to cs = passed_unchanged depth xs (suc first) (suc to) cs
   passed_unchanged depth (Takes_own t ∷ xs) first to cs = grind (arith, nat_tests, unchanged_along p cs, unchanged_moved p cs, passed_unchanged depth xs)
 
-  brought_unchanged : (g : Gives) (a x : ℕ) (below : List Task) → Unchanged p s.cells (result_cells p fr ts s g a x below)
-  brought_unchanged x a y below = grind (arith, nat_tests, unchanged_itself p s.cells, unchanged_moved p s.cells)
-
   -- a session that `accept` gives moves to its place, and the server has it
   accepted_unchanged : (d : Dispatch) (from : Place) → Unchanged p s.cells (accepted_cells d from s.cells)
   accepted_unchanged x from =
       grind (arith, nat_tests, unchanged_along p s.cells, unchanged_moved p s.cells from, unchanged_served p, unchanged_itself p s.cells)
 
   pub returned_unchanged : (g : Gives) (a : ℕ) (below : List Task) → Unchanged p s.cells (returned p fr ts s g a below).cells
-  returned_unchanged g a x = grind (arith, nat_tests, brought_unchanged g a, accepted_unchanged, unchanged_itself p s.cells)
-
-  returned_killed : (g : Gives) (a : ℕ) (below : List Task) → (returned p fr ts s g a below).killed ≡ s.killed
-  returned_killed g a x = grind arith
+  returned_unchanged g a x = grind (arith, nat_tests, unchanged_itself, unchanged_moved, accepted_unchanged, unchanged_itself p s.cells)
 
   module _ (name : ℕ) (unused : named s.cells name ≡ None) where
     update_unchanged : (u : Update) → LeavesAlone name u → Unchanged p s.cells (cells_after p fr ts s u)
@@ -57,4 +51,4 @@ module _ (p : Image) (fr : Frame) (ts : List Task) (s : State) where
     applied_unchanged x h = grind (arith, nat_tests, update_unchanged, passed_unchanged, unchanged_moved p s.cells, unchanged_itself p s.cells)
 
 pub applied_killed : (p : Image) (fr : Frame) (ts : List Task) (s : State) (e : Effect) → (applied p fr ts s e).killed ≡ s.killed
-applied_killed p fr ts s x = grind (arith, nat_tests, returned_killed p fr ts)
+applied_killed p fr ts s x = grind (arith, nat_tests)

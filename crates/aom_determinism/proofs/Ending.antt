@@ -1,6 +1,6 @@
 -- A run can always be brought to an end: each move lowers the rank, turns take of what is left, and there are only so many dispatches of objects.
 use Rattle.std.proofs.lemmas.Bool.Decides.{nat_tests}
-use Rattle.std.proofs.Common.{◌≡◌, ℕ, zero, suc, ◌+◌, ◌-◌, ◌^◌, ◌<◌, ◌≤◌, Bool, List, [], ◌∷◌, ◌++◌, Option}
+use Rattle.std.proofs.Common.{◌≡◌, ℕ, zero, suc, ◌+◌, ◌-◌, ◌^◌, ◌<◌, ◌≤◌, List, [], ◌∷◌, ◌++◌, Option}
 use Rattle.std.proofs.Common.{Some, None, ap, refl, sym, ◌∙◌, arith, append-nil, append_assoc, pos}
 use Rattle.std.proofs.Math.Facts.{sfits_lit}
 use Rattle.std.proofs.lemmas.Bool.{ne_eqb}
@@ -20,9 +20,8 @@ use Rattle.aom_semantics.specs.State.{Task, State, Choice, Goes}
 use Rattle.aom_semantics.specs.Moves.{step, written, is_refused, IsOpen}
 use Rattle.aom_safety.specs.WellTyped.{WellTyped}
 use Rattle.aom_safety.proofs.Turned.{answers, commanded_kept, nothing, polled_rest, polled_so}
-use Rattle.aom_semantics.specs.World.{AnswersWell, boot_state, Candidate, Completion, Heard, HearsWell, Environment, Reaches, Timed, Turning, by_event}
-use Rattle.aom_semantics.specs.World.{by_timer, delivers, moves, picks, polled, polls, turn, turned, turning, turns, IsBusy, written_turn, IsBetween}
-use Rattle.aom_transcript.specs.declared.event.Event.{Event}
+use Rattle.aom_semantics.specs.World.{AnswersWell, boot_state, Completion, Heard, HearsWell, Environment, Reaches, Timed, Turning, by_event}
+use Rattle.aom_semantics.specs.World.{by_timer, moves, polled, turn, turned, turning, turns, IsBusy, written_turn, IsBetween}
 use Rattle.aom_transcript.specs.declared.event.TimedEvent.{TimedEvent}
 use Rattle.aom_transcript.specs.declared.line.Line.{Line}
 use Rattle.aom_transcript.specs.declared.line.Ending.{Ending}
@@ -52,23 +51,14 @@ quiet s = record { completion = None; name = top s.cells }
 
 -- a native that is polled may complete nothing
 module _ (p : Image) (outside : Environment) (s : State) where
-  picks_well : (b : Bool) (ready : Option Candidate) (next : Option ℕ) → AnswersWell p s (picks b ready next)
-  picks_well x ready next = grind arith
-
-  polls_well : (n : Option ℕ) (after : Turning) → AnswersWell p s after → AnswersWell p s (polls n None after)
-  polls_well x after then = grind arith
-
-  delivers_well : (name : ℕ) (event : Event) → AnswersWell p s (delivers outside name s event)
-  delivers_well name x = grind arith
-
   event_well : (name : ℕ) (next : Option TimedEvent) (after : Turning) → AnswersWell p s after → AnswersWell p s (by_event outside name s next after)
-  event_well name x after then = grind (arith, nat_tests, delivers_well name)
+  event_well name x after then = grind (arith, nat_tests)
 
   timer_well : (next : Option Timed) (after : Turning) → AnswersWell p s after → AnswersWell p s (by_timer s next after)
   timer_well x after then = grind arith
 
   completes_nothing : AnswersWell p s (turning outside (quiet s) s)
-  completes_nothing = grind (arith, nat_tests, top s.cells, timer_well, event_well (top s.cells), polls_well, picks_well)
+  completes_nothing = grind (arith, nat_tests, top s.cells, timer_well, event_well (top s.cells))
 
   hears_nothing : HearsWell p outside (quiet s) s
   hears_nothing = record { completion = completes_nothing; name = above s.cells (top s.cells) (omega arith) }

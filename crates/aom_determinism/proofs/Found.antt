@@ -8,7 +8,7 @@ use Rattle.aom_semantics.specs.Servers.{has_more}
 use Rattle.aom_semantics.specs.State.{State}
 use Rattle.aom_semantics.specs.World.{Candidate, Completes, Heard, Obeys, Environment, Picks, Timed, Turning, among_ready, among_timers, before_others}
 use Rattle.aom_semantics.specs.World.{by_event, by_timer, cell_at, first_due, first_ready, goes_before, goes_now, has_signal, is_ready, is_sooner}
-use Rattle.aom_semantics.specs.World.{lives, next_event, next_native, next_time, passes, picks, polls, sooner, turning}
+use Rattle.aom_semantics.specs.World.{lives, next_event, next_native, next_time, picks, polls, sooner, turning}
 use Rattle.aom_transcript.specs.declared.event.TimedEvent.{TimedEvent}
 
 -- that object is there, with that request
@@ -22,15 +22,9 @@ is_first c cs = record {
   asked = ap (λ b. cond b c.request (requested cs c.object.name)) (eq-eqb c.object.name c.object.name refl);
 }
 
-service_first : (c : Cell) (cs : List Cell) → service_of (c ∷ cs) c.object.name ≡ c.service
-service_first c cs = ap (λ b. cond b c.service (service_of cs c.object.name)) (eq-eqb c.object.name c.object.name refl)
-
 -- of another name
 is_apart : (c : Cell) (cs : List Cell) (o : Object) → Tidy (c ∷ cs) → named cs o.name ≡ Some o → (c.object.name == o.name) ≡ false
 is_apart c cs o tidy lives = grind (arith, nat_tests, ne_eqb c.object.name o.name, lives)
-
-service_later : (c : Cell) (cs : List Cell) (o : Object) → Tidy (c ∷ cs) → named cs o.name ≡ Some o → service_of (c ∷ cs) o.name ≡ service_of cs o.name
-service_later c cs o tidy lives = ap (λ b. cond b c.service (service_of cs o.name)) (is_apart c cs o tidy lives)
 
 is_later : (c : Cell) (cs : List Cell) (o : Object) (r : Option Request) → Tidy (c ∷ cs) → IsCell cs o r → IsCell (c ∷ cs) o r
 is_later c cs o r tidy f = record { lives = grind (arith, nat_tests); asked = ap (λ b. cond b c.request (requested cs o.name)) other ∙ f.asked }
@@ -57,8 +51,7 @@ module _ (c : Cell) (cs : List Cell) (x : Timed) (tidy : Tidy (c ∷ cs)) (rest 
   due_here : (r : Request) → c.request ≡ Some r → (t : Timer) → r.timer ≡ Some t → record { object = c.object; timer = t } ≡ x → IsDue (c ∷ cs) x
   due_here r asked t timed same = subst (λ y. IsDue (c ∷ cs) y) same (r, subst (λ q. IsCell (c ∷ cs) c.object q) asked (is_first c cs), timed)
 
-  sooner_due :
-      (r : Request) → c.request ≡ Some r → (t : Timer) → r.timer ≡ Some t → (others : Option Timed) → first_due cs ≡ others →
+  sooner_due : (r : Request) → c.request ≡ Some r → (t : Timer) → r.timer ≡ Some t → (others : Option Timed) → first_due cs ≡ others →
       Some (sooner (record { object = c.object; timer = t }) others) ≡ Some x → IsDue (c ∷ cs) x
   sooner_due r asked t timed None same e = due_here r asked t timed cc
   sooner_due r asked t timed (Some b) same e = go (is_sooner b.timer t) e
@@ -92,13 +85,13 @@ IsReady cs y = IsCell cs y.seat.object (Some y.request) × GoesNow cs y
 
 module _ (c : Cell) (cs : List Cell) (y : Candidate) (tidy : Tidy (c ∷ cs)) (rest : first_ready cs ≡ Some y → IsReady cs y) where
   ready_later : first_ready cs ≡ Some y → IsReady (c ∷ cs) y
-  ready_later e = grind (arith, nat_tests, is_later c cs y.seat.object (Some y.request) tidy, service_later c cs y.seat.object tidy)
+  ready_later e = grind (arith, nat_tests, is_later c cs y.seat.object (Some y.request) tidy)
 
   abbrev me : Request → Candidate
   me r = record { seat = record { object = c.object; place = c.owner }; request = r }
 
   ready_here : (r : Request) → c.request ≡ Some r → goes_now c r ≡ true → me r ≡ y → IsReady (c ∷ cs) y
-  ready_here r asked ready same = grind (arith, nat_tests, asked, is_first, service_first)
+  ready_here r asked ready same = grind (arith, nat_tests, asked, is_first)
 
   first_of_all : (r : Request) → c.request ≡ Some r → goes_now c r ≡ true → (others : Option Candidate) → first_ready cs ≡ others → Some (before_others (me r) others) ≡ Some y → IsReady (c ∷ cs) y
   first_of_all r asked ready None same e = ready_here r asked ready cc
@@ -127,15 +120,6 @@ IsAbout s (Obeys client command name) = named s.cells name ≡ None
 IsAbout s _ = Unit {0}
 
 module _ (outside : Environment) (heard : Heard) (s : State) where
-  about_time : (next : Option ℕ) → IsAbout s (passes next)
-  about_time x = grind arith
-
-  about_ready : (b : Bool) (ready : Option Candidate) (next : Option ℕ) → first_ready s.cells ≡ ready → IsAbout s (picks b ready next)
-  about_ready x ready next e = grind (arith, nat_tests, about_time next)
-
-  about_native : (n : Option ℕ) (after : Turning) → IsAbout s after → IsAbout s (polls n heard.completion after)
-  about_native x after h = grind arith
-
   about_event : (name : ℕ) (next : Option TimedEvent) (after : Turning) → named s.cells name ≡ None → IsAbout s after → IsAbout s (by_event outside name s next after)
   about_event name x after free h = grind (arith, nat_tests, lives outside s)
 
@@ -148,7 +132,7 @@ module _ (outside : Environment) (heard : Heard) (s : State) where
       (next_event outside s) (polls (next_native outside s) heard.completion (picks (has_signal s.cells) (first_ready s.cells) (next_time outside s))))
 
   about_within : named s.cells heard.name ≡ None → IsAbout s within
-  about_within free = grind (arith, nat_tests, about_timer, about_event heard.name, about_native, about_ready)
+  about_within free = grind (arith, nat_tests, about_timer, about_event heard.name)
 
   pub turn_about : named s.cells heard.name ≡ None → IsAbout s (turning outside heard s)
   turn_about free = grind (arith, nat_tests, about_within free)

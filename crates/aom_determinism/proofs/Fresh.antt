@@ -5,12 +5,11 @@ use Rattle.std.proofs.lemmas.Bool.Decides.{nat_tests}
 use Rattle.std.proofs.lemmas.Option.{same_Some}
 use Rattle.std.proofs.lemmas.Bool.{cases_eq, eq-eqb, eqb-true, ne_eqb, true≢false}
 use Rattle.std.specs.List.{list_any}
-use Rattle.std.specs.Prelude.{◌||◌}
 use Rattle.aom_clients.specs.Nodes.{is_connecting_at}
 use Rattle.aom_clients.specs.Table.{server_of}
 use Rattle.aom_clients.specs.declared.client.Client.{Client}
-use Rattle.aom_clients.specs.declared.client.Client.TheVariants.{Closing as Closing_client, Connecting, Dead, Dying as Dying_client}
-use Rattle.aom_clients.specs.declared.client.Client.TheVariants.{Gone as Gone_client, Open, Unconnected}
+use Rattle.aom_clients.specs.declared.client.Client.TheVariants.{Closing as Closing_client, Connecting, Dying as Dying_client}
+use Rattle.aom_clients.specs.declared.client.Client.TheVariants.{Open}
 use Rattle.aom_image.specs.Image.{Image}
 use Rattle.aom_rules.specs.Typing.{Typing}
 use Rattle.aom_shape.specs.Kinds.{filled}
@@ -25,15 +24,15 @@ use Rattle.aom_safety.proofs.Straight.{fits_unowning}
 use Rattle.aom_safety.specs.Claims.{Dispatching, Dying, Ending, Layer, Mark, Method, Unwinding, by_close, declared, tasks_of, claim}
 use Rattle.aom_semantics.specs.Clients.{client_at}
 use Rattle.aom_safety.specs.Kept.{ClientsFit, is_message_of}
-use Rattle.aom_semantics.specs.Places.{Asked, Cell, Close_of, Connect_of, Elsewhere, Field, Message_of, Object, Place}
+use Rattle.aom_semantics.specs.Places.{Asked, Cell, Close_of, Connect_of, Elsewhere, Message_of, Place}
 use Rattle.aom_semantics.specs.Places.{Tidy, held, named, service_of, unserved, Other, Root, Session, In_service, Queued}
 use Rattle.aom_semantics.specs.Servers.{has_session, session_thing}
-use Rattle.aom_semantics.specs.State.{Closing, Destroy, Dispatch, Dispatched, Home}
-use Rattle.aom_semantics.specs.State.{Of_server, Parts, Run, Seat, Stage, State, Task, Trapped, Unwind}
+use Rattle.aom_semantics.specs.State.{Dispatch, Dispatched, Home}
+use Rattle.aom_semantics.specs.State.{Of_server, Parts, Seat, Stage, State, Task}
 use Rattle.aom_safety.specs.WellTyped.{AllSit, Back, Caught, Gone, Good, IsHoused, Leaves, Now, Returns, SitsFirst, Stack, WellTyped, seat_of}
 use Rattle.aom_safety.proofs.ClientsFacts.{queued_well}
 use Rattle.aom_determinism.specs.Names.{IsOneToOne, renamed, renamed_asked, renamed_cells, renamed_client, renamed_clients, renamed_dispatch, renamed_home}
-use Rattle.aom_determinism.specs.Names.{renamed_place, renamed_queue, renamed_seat, renamed_stage, renamed_task, renamed_tasks, renamed_other}
+use Rattle.aom_determinism.specs.Names.{renamed_place, renamed_queue, renamed_seat, renamed_task, renamed_tasks, renamed_other}
 use Rattle.aom_determinism.specs.There.{AllThere, IsAtPlace, accepts, dispatch_of}
 
 -- ---- two names change places
@@ -61,20 +60,14 @@ swap_one_to_one a b n m e = sym (swap_twice a b n) ∙ ap (swapped a b) e ∙ sw
 
 -- ---- of two tests
 
-or_right : (b x : Bool) → x ≡ true → (b || x) ≡ true
-or_right x y h = grind arith
-
 -- ---- one renaming after another
 
 module _ (then first : ℕ → ℕ) where
   abbrev both : ℕ → ℕ
   both n = then (first n)
 
-  other_twice : (o : Other) → renamed_other both o ≡ renamed_other then (renamed_other first o)
-  other_twice x = grind arith
-
   place_twice : (q : Place) → renamed_place both q ≡ renamed_place then (renamed_place first q)
-  place_twice x = grind (arith, nat_tests, other_twice)
+  place_twice x = grind (arith, nat_tests)
 
   asked_twice : (e : Asked) → renamed_asked both e ≡ renamed_asked then (renamed_asked first e)
   asked_twice x = grind arith
@@ -87,20 +80,11 @@ module _ (then first : ℕ → ℕ) where
   cells_twice [] = refl
   cells_twice (c ∷ cs) = rw (place_twice c.owner, queue_twice c.service.queue, cells_twice cs)
 
-  home_twice : (h : Home) → renamed_home both h ≡ renamed_home then (renamed_home first h)
-  home_twice x = grind (arith, nat_tests, place_twice)
-
-  seat_twice : (x : Seat) → renamed_seat both x ≡ renamed_seat then (renamed_seat first x)
-  seat_twice x = rw (place_twice x.place)
-
-  stage_twice : (stage : Stage) → renamed_stage both stage ≡ renamed_stage then (renamed_stage first stage)
-  stage_twice x = grind arith
-
   dispatch_twice : (d : Dispatch) → renamed_dispatch both d ≡ renamed_dispatch then (renamed_dispatch first d)
-  dispatch_twice x = grind (arith, nat_tests, seat_twice, stage_twice)
+  dispatch_twice x = grind (arith, nat_tests)
 
   task_twice : (k : Task) → renamed_task both k ≡ renamed_task then (renamed_task first k)
-  task_twice x = grind (arith, nat_tests, home_twice, dispatch_twice)
+  task_twice x = grind (arith, nat_tests, dispatch_twice)
 
   tasks_twice : (ts : List Task) → renamed_tasks both ts ≡ renamed_tasks then (renamed_tasks first ts)
   tasks_twice [] = refl
@@ -127,18 +111,6 @@ module _ (names : ℕ → ℕ) where
   abbrev SparesPlaces : List Cell → Type 0
   SparesPlaces cs = (q : Place) → held cs q ≢ None → renamed_place names q ≡ q
 
-  named_on : (c : Cell) (cs : List Cell) (n : ℕ) → named cs n ≢ None → named (c ∷ cs) n ≢ None
-  named_on c cs n some = grind (arith, nat_tests)
-
-  held_on : (c : Cell) (cs : List Cell) (q : Place) → held cs q ≢ None → held (c ∷ cs) q ≢ None
-  held_on c cs q some = grind (arith, nat_tests)
-
-  named_first : (c : Cell) (cs : List Cell) → named (c ∷ cs) c.object.name ≢ None
-  named_first c cs e = let clash : Some c.object ≡ None = rw (eq-eqb c.object.name c.object.name refl) at e in cc
-
-  held_first : (c : Cell) (cs : List Cell) → held (c ∷ cs) c.owner ≢ None
-  held_first c cs e = let clash : Some c.object ≡ None = rw (same_place_refl c.owner) at e in cc
-
   -- the messages that wait in a queue stay too
   queue_spared : (es : List Asked) → ((c m : ℕ) → list_any (is_message_of c m) es ≡ true → names m ≡ m) → renamed_queue names es ≡ es
   queue_spared [] sent_so = refl
@@ -147,15 +119,14 @@ module _ (names : ℕ → ℕ) where
   queue_spared (Message_of d k ∷ es) sent_so = rw (sent_so d k (rw (eq-eqb d d refl, eq-eqb k k refl)), queue_spared es later)
     where
       later : (c m : ℕ) → list_any (is_message_of c m) es ≡ true → names m ≡ m
-      later c m h = sent_so c m (or_right ((d == c) && (k == m)) (list_any (is_message_of c m) es) h)
+      later c m h = sent_so c m (grind arith)
 
   -- and those that wait anywhere
   abbrev SparesSent : List Cell → Type 0
   SparesSent cs = (n c m : ℕ) → list_any (is_message_of c m) (service_of cs n).queue ≡ true → names m ≡ m
 
   sent_first : (c : Cell) (cs : List Cell) → SparesSent (c ∷ cs) → (d m : ℕ) → list_any (is_message_of d m) c.service.queue ≡ true → names m ≡ m
-  sent_first c cs sent_so d m h =
-      sent_so c.object.name d m (grind (arith, nat_tests, eq-eqb))
+  sent_first c cs sent_so d m h = sent_so c.object.name d m (grind (arith, nat_tests, eq-eqb))
 
   sent_on : (c : Cell) (cs : List Cell) → named cs c.object.name ≡ None → SparesSent (c ∷ cs) → SparesSent cs
   sent_on c cs alone sent_so n d m h = go (c.object.name == n) refl
@@ -169,10 +140,10 @@ module _ (names : ℕ → ℕ) where
   cells_spared : (cs : List Cell) → Tidy cs → Spares cs → SparesPlaces cs → SparesSent cs → renamed_cells names cs ≡ cs
   cells_spared [] tidy named_so held_so sent_so = refl
   cells_spared (c ∷ cs) tidy named_so held_so sent_so = rw (
-    named_so c.object.name (named_first c cs),
-    held_so c.owner (held_first c cs),
+    named_so c.object.name (grind (arith, nat_tests, eq-eqb)),
+    held_so c.owner (grind (arith, nat_tests, same_place_refl)),
     queue_spared c.service.queue (sent_first c cs sent_so),
-    cells_spared cs tidy.2 (λ n some. named_so n (named_on c cs n some)) (λ q some. held_so q (held_on c cs q some)) (sent_on c cs tidy.1 sent_so),
+    cells_spared cs tidy.2 (λ n some. named_so n (grind arith)) (λ q some. held_so q (grind arith)) (sent_on c cs tidy.1 sent_so),
   )
 
   -- clients by what each is at
@@ -188,15 +159,9 @@ module _ (names : ℕ → ℕ) where
     seat_spared : (x : Seat) → held cs x.place ≡ Some x.object → named cs x.object.name ≡ Some x.object → renamed_seat names x ≡ x
     seat_spared x there lives = grind (arith, nat_tests)
 
-    first_spared : (x : Seat) (seats : List Seat) → AllSit cs seats → SitsFirst cs (Some x) seats → renamed_seat names x ≡ x
-    first_spared x seats sit h = let all : AllSit cs (x ∷ h.1) = subst (AllSit cs) h.2 sit in seat_spared x all.0.0 all.0.1
-
     -- the session that serves
-    stage_spared : (x : Seat) (client : ℕ) (stage : Stage) → IsAtPlace cs (Some (Of_server x client stage)) → renamed_stage names stage ≡ stage
-    stage_spared x client y at = grind (arith, nat_tests, held_named cs (Elsewhere (Session x.object.name client)))
-
     dispatch_spared : (d : Dispatch) (seats : List Seat) → AllSit cs seats → SitsFirst cs (seat_of d) seats → IsAtPlace cs (Some d) → renamed_dispatch names d ≡ d
-    dispatch_spared x seats sit h at = grind (arith, nat_tests, first_spared, stage_spared)
+    dispatch_spared x seats sit h at = grind (arith, nat_tests, held_named)
 
     tasks_spared : (ls : List Layer) (back : Back) → Stack p t cs back ls → IsAtPlace cs (dispatch_of (tasks_of ls)) → renamed_tasks names (tasks_of ls) ≡ tasks_of ls
     tasks_spared [] back k at = refl
@@ -210,12 +175,8 @@ module _ (names : ℕ → ℕ) where
 -- the dispatch that stands below all is at hand
 pub dispatch_at : (ts : List Task) (d : Dispatch) → dispatch_of ts ≡ Some d → IsAt d ts
 dispatch_at [] d e = cc
-dispatch_at (Run fr ∷ ts) d e = dispatch_at ts d e
-dispatch_at (Trapped ∷ ts) d e = dispatch_at ts d e
-dispatch_at (Destroy ∷ ts) d e = dispatch_at ts d e
-dispatch_at (Closing ∷ ts) d e = dispatch_at ts d e
-dispatch_at (Unwind code ∷ ts) d e = dispatch_at ts d e
 dispatch_at (Dispatched x ∷ ts) d e = same_Some x d e
+dispatch_at (_ ∷ ts) d e = dispatch_at ts d e
 
 -- what accepts a client is the server of that name, with that client
 pub record IsAccepting (n c : ℕ) (d : Option Dispatch) : Type 0 where
@@ -228,16 +189,11 @@ pub record IsAccepting (n c : ℕ) (d : Option Dispatch) : Type 0 where
 pub accepting : (n c : ℕ) (d : Option Dispatch) → accepts n c d ≡ true → IsAccepting n c d
 accepting n c d h = grind (arith, nat_tests)
 
--- of a cell that is not there no field owns
-unnamed_owns_nothing : (p : Image) (t : Typing) (cs : List Cell) (ls : List Layer) → Good p t cs ls → (n f : ℕ) → named cs n ≡ None → held cs (Field n f) ≡ None
-unnamed_owns_nothing p t cs ls good n f e = grind (arith, nat_tests, claim_unnamed p t cs, fits_unowning p)
-
 -- nor do its sessions and its queue
 session_declared : (p : Image) (cs : List Cell) (n c : ℕ) → named cs n ≡ None → declared p cs (Elsewhere (Session n c)) ≡ Null
 session_declared p cs n c e = ap (λ v. cond (has_session v c) (filled (session_thing p (named cs n)) Full) Null) (service_unnamed cs n e)
 
-session_null :
-    (p : Image) (t : Typing) (cs : List Cell) (ls : List Layer) (back : Back) (n c : ℕ) → Stack p t cs back ls → named cs n ≡ None →
+session_null : (p : Image) (t : Typing) (cs : List Cell) (ls : List Layer) (back : Back) (n c : ℕ) → Stack p t cs back ls → named cs n ≡ None →
     claim p (declared p cs) ls (Elsewhere (Session n c)) ≡ Null
 session_null p t cs [] back n c k e = session_declared p cs n c e
 session_null p t cs (Method fr sh ∷ ls) back n c k e = session_null p t cs ls (Returns fr.method fr.home) n c k.4 e
@@ -259,11 +215,8 @@ unclaimed_owns_nothing p t cs ls o good null = grind (arith, nat_tests, fits_uno
 module _ (p : Image) (t : Typing) (s : State) (names : ℕ → ℕ) (well : WellTyped p t s) (fit : ClientsFit p s.clients s.cells) (there : AllThere s)
     (named_so : (n : ℕ) → named s.cells n ≢ None → names n ≡ n) where
   -- what a place holds has a name
-  owned_so : (q : Place) (o : Object) → held s.cells q ≡ Some o → names o.name ≡ o.name
-  owned_so q o at = named_so o.name (λ e. held_named s.cells q o at e)
-
   waiting_so : (n m : ℕ) → held s.cells (Elsewhere (Queued n m)) ≢ None → names m ≡ m
-  waiting_so n m some = grind (arith, nat_tests, owned_so (Elsewhere (Queued n m)))
+  waiting_so n m some = grind (arith, nat_tests, held_named)
 
   other_so : (o : Other) → held s.cells (Elsewhere o) ≢ None → renamed_other names o ≡ o
   other_so Root some = refl
@@ -273,7 +226,7 @@ module _ (p : Image) (t : Typing) (s : State) (names : ℕ → ℕ) (well : Well
   other_so (Queued n m) some = grind (arith, nat_tests, unclaimed_owns_nothing, waiting_so, queued_claim, service_unnamed)
 
   held_so : (q : Place) → held s.cells q ≢ None → renamed_place names q ≡ q
-  held_so x some = grind (arith, nat_tests, unnamed_owns_nothing, other_so)
+  held_so x some = grind (arith, nat_tests, claim_unnamed, fits_unowning, other_so)
 
   -- what a client sent waits under its name
   sent_so : (n c m : ℕ) → list_any (is_message_of c m) (service_of s.cells n).queue ≡ true → names m ≡ m
@@ -302,9 +255,7 @@ module _ (p : Image) (t : Typing) (s : State) (names : ℕ → ℕ) (well : Well
   client_so c (Open server session slots) e = rw (session_so server c (ap server_of e))
   client_so c (Closing_client server session) e = rw (session_so server c (ap server_of e))
   client_so c (Dying_client server session) e = rw (session_so server c (ap server_of e))
-  client_so c Unconnected e = refl
-  client_so c Gone_client e = refl
-  client_so c Dead e = refl
+  client_so c _ e = refl
 
   spared_tasks : renamed_tasks names s.tasks ≡ s.tasks
   spared_tasks = ap (renamed_tasks names) well.tasks ∙ tasks_spared names p t s.cells named_so held_so well.layers Now well.good.stack (grind (arith, nat_tests)) ∙ sym well.tasks

@@ -1,17 +1,15 @@
 -- What a native answers counts only where it is heard.
 use Rattle.std.proofs.lemmas.Bool.Decides.{nat_tests}
-use Rattle.std.proofs.Common.{List, None, Option, Some, [], ap, arith, false, refl, ℕ, ℤ, ◌∷◌, ◌≡◌}
+use Rattle.std.proofs.Common.{List, None, Option, Some, ap, arith, false, refl, ℕ, ℤ, ◌∷◌, ◌≡◌}
 use Rattle.aom_image.specs.Image.{Image}
 use Rattle.aom_image.specs.Views.{instr_at, class_at}
-use Rattle.aom_image.specs.declared.class.ClassKind.{ClassKind}
 use Rattle.aom_instructions.specs.declared.instr.Instr.{Instr}
 use Rattle.std.proofs.lemmas.Bool.{and_right}
 use Rattle.aom_safety.proofs.Exchanging.{by_exchange}
 use Rattle.aom_semantics.specs.Wanted.{exchange_at}
-use Rattle.aom_semantics.specs.Enlisted.{home_kind, issued_of, on_request, thing_kind}
+use Rattle.aom_semantics.specs.Enlisted.{home_kind, thing_kind}
 use Rattle.aom_semantics.specs.Moves.{counted, step, step_instr, step_task}
-use Rattle.aom_semantics.specs.Places.{Request}
-use Rattle.aom_semantics.specs.State.{Choice, Frame, Home, Run, State, Task}
+use Rattle.aom_semantics.specs.State.{Choice, Frame, Run, State, Task}
 use Rattle.aom_determinism.proofs.Needs.{kind_kept}
 use Rattle.aom_determinism.specs.Hearing.{HasNoNative, hears, is_heard}
 use Rattle.aom_determinism.specs.Names.{renamed_tasks}
@@ -25,20 +23,12 @@ use Rattle.aom_roles.specs.Classes.{kind_in}
 use Rattle.aom_roles.specs.Shapes.{kind_of}
 
 -- where no native serves a class, a request begins the same whatever one would answer
-unheard : (k : Option ClassKind) (clock order : ℕ) (x y a : ℤ) (r : Request) → is_native_kind k ≡ false →
-    issued_of k (record { clock = clock; order = order; started = x }) a r ≡ issued_of k (record { clock = clock; order = order; started = y }) a r
-unheard k clock order x y a r h = grind arith
-
-unheard_on : (k : Option ClassKind) (clock order : ℕ) (x y a : ℤ) (r : Option Request) → is_native_kind k ≡ false → on_request (issued_of k
-    (record { clock = clock; order = order; started = x }) a) r ≡ on_request (issued_of k (record { clock = clock; order = order; started = y }) a) r
-unheard_on k clock order x y a z h = grind (arith, nat_tests, unheard k clock order x y a)
-
 module _ (p : Image) (c : Choice) (answer : ℤ) where
   abbrev other : Choice
   other = record c { answer = answer }
 
   instr_unheard : (fr : Frame) (ts : List Task) (s : State) (i : Option Instr) → hears (home_kind p fr.home) (exchange_at i) ≡ false → step_instr p other fr ts s i ≡ step_instr p c fr ts s i
-  instr_unheard fr ts s x h = grind (arith, nat_tests, by_exchange, unheard_on)
+  instr_unheard fr ts s x h = grind (arith, nat_tests, by_exchange)
 
   task_unheard : (s : State) (ts : List Task) → is_heard p ts ≡ false → step_task p other s ts ≡ step_task p c s ts
   task_unheard s x h = grind (arith, nat_tests, instr_unheard)
@@ -49,19 +39,15 @@ module _ (p : Image) (c : Choice) (answer : ℤ) where
 -- a native is heard under other names too
 pub heard_kept : (p : Image) (names : ℕ → ℕ) (ts : List Task) → is_heard p (renamed_tasks names ts) ≡ is_heard p ts
 heard_kept p names (Run fr ∷ ts) = ap (λ k. hears k (exchange_at (instr_at p fr.method fr.place))) (kind_kept names p fr.home)
-heard_kept p names [] = refl
 heard_kept p names _ = refl
 
 module _ (p : Image) (natives : HasNoNative p) where
   pub thing_unserved : (t : Thing) → is_native_kind (thing_kind p t) ≡ false
   thing_unserved x = grind arith
 
-  home_unserved : (h : Home) → is_native_kind (home_kind p h) ≡ false
-  home_unserved x = grind (arith, nat_tests, thing_unserved)
-
   -- where there is no native none is heard
   pub none_heard : (ts : List Task) → is_heard p ts ≡ false
-  none_heard x = grind (arith, nat_tests, and_right, home_unserved)
+  none_heard x = grind (arith, nat_tests, and_right)
 
 -- a class of an image without natives has none
 class_unserved : (p : Image) (c : ClassDecl) → p.header.natives ≡ 0 → ClassFits p.header.version (length p.classes) p.header.natives c → is_native_kind (Some c.kind) ≡ false

@@ -7,14 +7,13 @@ use Rattle.aom_active.proofs.Dues.{running}
 use Rattle.aom_active.specs.Agrees.{timer_in}
 use Rattle.aom_image.specs.Image.{Image}
 use Rattle.aom_clients.specs.declared.client.Client.{Client}
-use Rattle.aom_clients.specs.declared.refusal.Refusal.{Refusal}
-use Rattle.aom_semantics.specs.Clients.{Listed, commanded, connecting, leaving, sending, told}
+use Rattle.aom_semantics.specs.Clients.{commanded, leaving}
 use Rattle.aom_semantics.specs.Servers.{withdrawn}
 use Rattle.aom_semantics.specs.Enlisted.{completed_with, on_request}
 use Rattle.aom_semantics.specs.Natives.{all_bereaved, is_served_by, terminated_request}
 use Rattle.aom_semantics.specs.Places.{Cell, Object, Request, Service, Tidy, requested, set_request, set_service}
 use Rattle.aom_semantics.specs.State.{State}
-use Rattle.aom_semantics.specs.World.{Environment, Timed, due_of, event_at, first_due, first_living, nearer, next_event, next_time, time_of, with_request}
+use Rattle.aom_semantics.specs.World.{Environment, Timed, due_of, event_at, first_due, first_living, next_event, next_time, time_of, with_request}
 use Rattle.aom_transcript.specs.declared.event.Command.{Command}
 use Rattle.aom_transcript.specs.declared.event.TimedEvent.{TimedEvent}
 use Rattle.aom_determinism.specs.Endings.{one_where}
@@ -67,20 +66,11 @@ module _ (p : Image) (client : ℕ) (s : State) where
   abbrev StartsNone : State → Type 0
   StartsNone u = timers_in u.cells ≤ timers_in s.cells
 
-  connecting_no_more : (refused : Option Refusal) (server : Option Listed) (slots : ℕ) → StartsNone (connecting p client s refused server slots)
-  connecting_no_more x server slots = grind (arith, nat_tests, served_timers)
-
-  sending_no_more : (refused : Option Refusal) (own : Client) (name : ℕ) (words : List ℤ) → StartsNone (sending p client s refused own name words)
-  sending_no_more x y name words = grind (arith, nat_tests, served_timers s.cells)
-
-  told_timers : (own : Client) (cs : List Cell) → timers_in (told p client s own cs) ≡ timers_in cs
-  told_timers x cs = grind (arith, nat_tests, served_timers cs)
-
   leaving_no_more : (to : Option Client) → StartsNone (leaving p client s to)
-  leaving_no_more x = grind (arith, nat_tests, told_timers, withdrawn_no_more client s.cells)
+  leaving_no_more x = grind (arith, nat_tests, served_timers, withdrawn_no_more client s.cells)
 
   pub commanded_no_more : (command : Command) (name : ℕ) → StartsNone (commanded p client s command name)
-  commanded_no_more x name = grind (arith, nat_tests, connecting_no_more, sending_no_more, leaving_no_more)
+  commanded_no_more x name = grind (arith, nat_tests, served_timers, leaving_no_more)
 
 -- ---- what has come by a time
 
@@ -97,12 +87,9 @@ pub early_both : (outside : Environment) (s : State) →
 early_both outside s timer event = ap (λ b. b || reached (time_of (next_event outside s)) s.rest.clock) timer ∙ event
 
 -- the nearer of two times has come by then
-nearer_reached : (a b : Option ℕ) (time : ℕ) → nearer a b ≡ Some time → (reached a time || reached b time) ≡ true
-nearer_reached a b time e = grind arith
-
 pub passed_late : (outside : Environment) (s u : State) (time : ℕ) →
     next_time outside s ≡ Some time → u.cells ≡ s.cells → u.rest.clock ≡ time → u.rest.delivered ≡ s.rest.delivered → is_late outside u ≡ true
-passed_late outside s u time next cells clock delivered = grind (arith, nat_tests, nearer_reached)
+passed_late outside s u time next cells clock delivered = grind (arith, nat_tests)
 
 -- ---- events and natives
 

@@ -4,7 +4,7 @@ use Rattle.std.proofs.Common.{arith, List, None, Option, Some, [], ap, refl, ℕ
 use Rattle.std.specs.Prelude.{flat_map, option_map}
 use Rattle.aom_image.specs.declared.method.Thing.{Thing}
 use Rattle.aom_image.specs.declared.method.Thing.TheVariants.{Message as A_message, Object as An_object_of}
-use Rattle.aom_semantics.specs.Lines.{dispatch_lines, ended_line, message_line, queue_lines, serve_line, serve_of, stage_lines}
+use Rattle.aom_semantics.specs.Lines.{dispatch_lines, ended_line, message_line, queue_lines, serve_line, stage_lines}
 use Rattle.aom_semantics.specs.Places.{Asked, Cell, Elsewhere, In_service, Object}
 use Rattle.aom_semantics.specs.State.{Dispatch, Stage}
 use Rattle.aom_determinism.proofs.NamedCells.{held_renamed}
@@ -14,11 +14,8 @@ use Rattle.aom_determinism.specs.Names.{IsOneToOne, renamed_asked, renamed_cells
 -- ---- the first of a queue is served
 
 module _ (names : ℕ → ℕ) where
-  serve_of_kept : (time class : ℕ) (e : Asked) → serve_of time class (renamed_asked names e) ≡ serve_of time class e
-  serve_of_kept time class x = grind arith
-
   pub serve_kept : (time : ℕ) (x : Thing) (es : List Asked) → serve_line time x (renamed_queue names es) ≡ serve_line time x es
-  serve_kept time (An_object_of class) (e ∷ es) = ap (λ l. l ∷ []) (serve_of_kept time class e)
+  serve_kept time (An_object_of class) (e ∷ es) = ap (λ l. l ∷ []) (grind arith)
   serve_kept time (An_object_of class) [] = refl
   serve_kept time A_message es = refl
 

@@ -4,8 +4,7 @@ use Rattle.aom_image.specs.declared.class.ClassKind.{ClassKind}
 use Rattle.aom_semantics.proofs.Altering.{read_kept, sessions}
 use Rattle.aom_safety.proofs.Redeeming.{redeemed_by_alike, redeemed_good, redeeming, requested_redeemed}
 use Rattle.aom_safety.proofs.Storing.{rerequested_alike}
-use Rattle.aom_safety.specs.Requests.{Known, Suits}
-use Rattle.aom_semantics.specs.Tokens.{awaits, is_crowded, redeemed_by, token_of}
+use Rattle.aom_semantics.specs.Tokens.{is_crowded, redeemed_by, token_of}
 use Rattle.std.proofs.Common.{Bool, List, None, Option, Some, ap, cond, false, length, refl, subst, sym, true, ℕ, ℤ, ◌&&◌, ◌==◌, ◌∙◌, ◌∷◌, ◌≡◌, pos, arith}
 use Rattle.std.proofs.lemmas.Bool.{not-true, and_right, eqb-true}
 use Rattle.std.specs.Prelude.{not}
@@ -30,8 +29,8 @@ use Rattle.aom_semantics.proofs.Maps.{tidy_without, held_lives, named_name}
 use Rattle.aom_safety.proofs.Moving.{acted, steps_are_moves}
 use Rattle.aom_semantics.specs.Calls.{returned}
 use Rattle.aom_safety.specs.Claims.{Dispatching, Layer}
-use Rattle.aom_semantics.specs.Destruction.{vanished, parting, gone, is_at_rest, needs_gone}
-use Rattle.aom_semantics.specs.Effects.{Effect, Leaves, Same, applied, cancels_if, deals, deletes, effect, jumps_if, jumps_unless}
+use Rattle.aom_semantics.specs.Destruction.{vanished, gone, is_at_rest, needs_gone}
+use Rattle.aom_semantics.specs.Effects.{Effect, Leaves, Same, applied, cancels_if, deals, deletes, effect}
 use Rattle.aom_semantics.specs.Effects.{makes_unless, round, sets, unless_refused, updates, cells_after, hands_unless}
 use Rattle.aom_semantics.specs.Enlisted.{cancel_method, ended_cells, in_phase, is_active, next_timer}
 use Rattle.aom_semantics.specs.Enlisted.{own_request, thing_kind, home_kind, rerequested}
@@ -41,9 +40,9 @@ use Rattle.aom_semantics.specs.Places.{In_service, Tidy, Cell, Elsewhere, Going,
 use Rattle.aom_semantics.specs.Places.{Root, held, in_session, named, requested, without, Request}
 use Rattle.aom_semantics.specs.State.{Service_left, Of_server, Stage, Seat, Answered, Asks, Choice, Destroy, Dispatch, Frame}
 use Rattle.aom_semantics.specs.State.{Goes, Home, Item, Object_left, Of_main, Of_object, Run, State, Task}
-use Rattle.aom_safety.specs.Steps.{Empties, Acts, Arrives, Clears, Comes_out, Ends, Fits, IsStill, Move, Rests, Undoes, Vanishes}
+use Rattle.aom_safety.specs.Steps.{Empties, Acts, Arrives, Clears, Comes_out, Ends, Fits, Move, Rests, Undoes, Vanishes}
 use Rattle.aom_semantics.specs.Wanted.{Exchange, Nothing, exchange, exchange_at, Closes, wanted, wanted_by, wanted_going, wanted_gone, wanted_if, wanted_task}
-use Rattle.aom_safety.specs.WellTyped.{Good, IsHoused, WellTyped}
+use Rattle.aom_safety.specs.WellTyped.{Good, WellTyped}
 use Rattle.aom_semantics.specs.Servers.{without_queue}
 use Rattle.aom_semantics.specs.Words.{here, read}
 use Rattle.aom_semantics.specs.Objects.{is_thing}
@@ -59,9 +58,6 @@ use Rattle.aom_safety.proofs.Things.{stands_message}
 pub token_served : (k : Option ClassKind) → is_token_kind k ≡ true → native_of k ≡ None
 token_served k e = grind arith
 
-awaits_token : (order : ℕ) (k : Option ClassKind) (n : Known) (r : Option Request) → Suits k n r → awaits order r ≡ true → native_of k ≡ None
-awaits_token order k n r s e = grind arith
-
 -- no native serves what waits for a token
 unchanged_redeemed : (p : Image) (t : Typing) (cs : List Cell) (ls : List Layer) → Good p t cs ls → (order : Option ℕ) (code : ℤ) → Unchanged p cs (redeemed_by order code cs)
 unchanged_redeemed p t cs ls good None code = unchanged_itself p cs
@@ -71,7 +67,6 @@ unchanged_redeemed p t cs ls good (Some order) code = search (
   redeemed_by_alike (Some order) code cs,
   named_name cs,
   served_none p,
-  awaits_token order,
   requested_redeemed order code cs,
   read_kept (redeeming order code) sessions,
   redeeming order code,
@@ -97,12 +92,6 @@ module _ (p : Image) (t : Typing) (c : Choice) (fr : Frame) (ts : List Task) (s 
   aside i h = silent i (applied_unchanged p fr ts (counted p s) c.name unused (effect p c fr ts (counted p s) i) h)
 
   -- the effects that a test decides
-  jumps_aside : (b : Bool) (to : ℕ) → IsAside c.name (jumps_if fr b to)
-  jumps_aside x to = grind arith
-
-  misses_aside : (o : Option Object) (to : ℕ) → IsAside c.name (jumps_unless fr o to)
-  misses_aside x to = grind arith
-
   round_aside : (n depth to : ℕ) → IsAside c.name (round n depth to)
   round_aside x depth to = grind arith
 
@@ -156,14 +145,12 @@ module _ (p : Image) (t : Typing) (c : Choice) (fr : Frame) (ts : List Task) (s 
       let order = token_of s.cells (held s.cells (here fr ts (counted p s) a)) in
       let code = read fr ts (counted p s) b in
       let cs = redeemed_by order code s.cells in
-      silent (Reply a b)
-      (unchanged_along p s.cells cs _ (unchanged_redeemed p t s.cells ls good order code)
+      silent (Reply a b) (unchanged_along p s.cells cs _ (unchanged_redeemed p t s.cells ls good order code)
       (unchanged_completed p t cs ls (redeemed_good p t order code s.cells ls good) (here fr ts (counted p s) a)
       (λ x there. is_message a x (sym ((redeemed_by_alike order code s.cells).held_so (here fr ts (counted p s) a)) ∙ there) met.1.1.0)))
   silently (Hand a) none met = silent (Hand a) (hands (is_crowded p s.cells) a met.1.0)
   -- the others leave all as it is, whatever a test of theirs decides
-  silently i none met =
-      grind (arith, nat_tests, aside i, jumps_aside, misses_aside, round_aside, deletes_aside, deals_aside, makes_aside, refused_aside, leaves_aside)
+  silently i none met = grind (arith, nat_tests, aside i, round_aside, deletes_aside, deals_aside, makes_aside, refused_aside, leaves_aside)
 
   tells : (i : Instr) → AllTrue (needs p c fr ts (counted p s) i) → Tells (exchange i) i
   tells = by_exchange (λ i x. AllTrue (needs p c fr ts (counted p s) i) → Tells x i) (λ a met. connect_told p c.answer s fr ts holds fr.home alive)
@@ -195,9 +182,7 @@ module _ (p : Image) (answer : ℤ) (s : State) (holds : SessionsHold p s) (tidy
   ends_session n native true met = record {
     finds = found p answer s holds o lives n native true false (alive_in p answer s holds o lives n native met) met unowed;
     owes = owes_so;
-    meets = λ j m.
-        meets_gone p s.cells (Going k) o tidy there j m
-        ∙ not_cond (o.name == m) (meets p s.cells j m)
+    meets = λ j m. meets_gone p s.cells (Going k) o tidy there j m ∙ not_cond (o.name == m) (meets p s.cells j m)
         ∙ taken_off (λ x. meets p s.cells j x) o.name m (n == j) true false (at_it p answer s holds o lives n native j _ true met) refl;
   }
     where
@@ -231,14 +216,10 @@ answer_calm p answer s = grind (arith, nat_tests, object_calm p s, unchanged_its
 
 module _ (p : Image) (t : Typing) (s : State) where
   -- what a service has left is a message
-  left_message : (x : Seat) (client : ℕ) (code : ℤ) (seats : List Seat) (below : List Layer) → Good p t s.cells
-      (Dispatching (Of_server x client (Service_left code)) seats ∷ below) → (y : Object) → held s.cells (Elsewhere In_service) ≡ Some y → y.thing ≡ Message
-  left_message x client code seats below good y there = grind (arith, nat_tests, stands_message p y.thing)
-
   stage_calm : (x : Seat) (client : ℕ) (stage : Stage) (seats : List Seat) (below : List Layer) →
       Good p t s.cells (Dispatching (Of_server x client stage) seats ∷ below) → IsCalm p s (stage_ends x client stage s)
   stage_calm x client (Service_left code) seats below good =
-      (unchanged_completed p t s.cells (Dispatching (Of_server x client (Service_left code)) seats ∷ below) good (Elsewhere In_service) (left_message x client code seats below good), refl)
+      (unchanged_completed p t s.cells (Dispatching (Of_server x client (Service_left code)) seats ∷ below) good (Elsewhere In_service) (grind (arith, nat_tests, stands_message)), refl)
   stage_calm x client y seats below good = grind (arith, nat_tests, unchanged_served p s.cells x.object.name, unchanged_itself p s.cells)
 
   end_calm : (d : Dispatch) (seats : List Seat) (below : List Layer) → Good p t s.cells (Dispatching d seats ∷ below) → IsCalm p s (dispatch_ends p d s)
@@ -250,19 +231,9 @@ module _ (p : Image) (t : Typing) (s : State) where
   end_calm (Of_server x client stage) seats below good = stage_calm x client stage seats below good
   end_calm _ seats below good = (unchanged_itself p s.cells, refl)
 
--- a server that goes lets go of a session, or its destructor begins
-parting_calm : (p : Image) (o : Object) (first : Option Seat) (ts : List Task) (s : State) → IsCalm p s (parting p o first ts s)
-parting_calm p o x ts s = grind (arith, nat_tests, unchanged_itself, unchanged_moved)
-
 -- ---- any move
 
 -- what a frame works on is the cell of its name
-alive_home : (p : Image) (cs : List Cell) (ls : List Layer) (h : Home) → IsHoused p cs ls h → IsAlive cs h
-alive_home p cs ls x housed = grind arith
-
-still_asks_none : (p : Image) (s : State) (ts : List Task) → IsStill ts → wanted_task s p ts ≡ None
-still_asks_none p s ts still = grind arith
-
 module _ (p : Image) (t : Typing) (c : Choice) (s u : State) (w : WellTyped p t s) (unused : named s.cells c.name ≡ None) (holds : SessionsHold p s) (e : step p c s ≡ Goes u) where
   abbrev Tale : Type 0
   Tale = Told p c.answer s (wanted p s) u.cells × (u.killed ≡ s.killed)
@@ -281,11 +252,10 @@ module _ (p : Image) (t : Typing) (c : Choice) (s u : State) (w : WellTyped p t 
       acts = acted p c (counted p s) u fr ts i (grind (arith, nat_tests))
 
       alive : IsAlive s.cells fr.home
-      alive = method_layer (λ ls. Good p t s.cells ls) fr ts w.layers (sym w.tasks ∙ at) w.good (λ sh below _ good. alive_home p s.cells below fr.home good.stack.2)
+      alive = method_layer (λ ls. Good p t s.cells ls) fr ts w.layers (sym w.tasks ∙ at) w.good (λ sh below _ good. grind arith)
 
       told : Told p c.answer s (wanted p s) u.cells
-      told =
-          subst (λ l. Told p c.answer s (wanted_task s p l) u.cells) (sym at)
+      told = subst (λ l. Told p c.answer s (wanted_task s p l) u.cells) (sym at)
           (subst (λ x. Told p c.answer s (wanted_by s p fr ts fr.home (exchange_at x)) u.cells) (sym there)
           (subst (λ (x : State). Told p c.answer s (wanted_by s p fr ts fr.home (exchange i)) x.cells) (sym acts.2) (tells p t c fr ts s w.layers w.good holds alive unused i acts.0)))
 
@@ -324,14 +294,14 @@ module _ (p : Image) (t : Typing) (c : Choice) (s u : State) (w : WellTyped p t 
   of_move : Move p c s u → Tale
   of_move (Acts fr ts i effect at there met fits same) = of_method fr ts i at there
   of_move (Vanishes ts o at there owns same) = of_going ts o at there
-  of_move (Rests still same) = calmly _ same (still_asks_none p s s.tasks still) (unchanged_itself p s.cells, refl)
+  of_move (Rests still same) = calmly _ same (grind arith) (unchanged_itself p s.cells, refl)
   of_move (Clears code ts items o at top there same) = grind (arith, nat_tests, calmly, unchanged_moved p s.cells)
   of_move (Undoes code ts items m x at top same) = calmly _ same (ap (λ l. wanted_task s p l) at) (unchanged_itself p s.cells, refl)
   of_move (Arrives code fr ts items at top same) = calmly _ same (ap (λ l. wanted_task s p l) at) (unchanged_itself p s.cells, refl)
   of_move (Comes_out code d ts items at top same) = calmly _ same (ap (λ l. wanted_task s p l) at) (unchanged_itself p s.cells, refl)
   of_move (Ends d ts at same) = calmly _ same (ap (λ l. wanted_task s p l) at)
       (dispatch_layer (λ ls. Good p t s.cells ls) d ts w.layers (sym w.tasks ∙ at) w.good (λ seats below _ good. end_calm p t (counted p s) d seats below good))
-  of_move (Empties ts o at there same) = calmly _ same (ap (λ l. wanted_task s p l) at) (grind (arith, nat_tests, parting_calm p o))
+  of_move (Empties ts o at there same) = calmly _ same (ap (λ l. wanted_task s p l) at) (grind (arith, nat_tests, unchanged_itself, unchanged_moved))
 
   move_told : FollowsCall p c s u
   move_told = let tale = of_move (steps_are_moves p c s u e) in record {

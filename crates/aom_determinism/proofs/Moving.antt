@@ -15,14 +15,14 @@ use Rattle.aom_safety.proofs.Queues.{client_here, client_there}
 use Rattle.aom_safety.proofs.Services.{service_moved}
 use Rattle.aom_safety.proofs.Storing.{rerequested_alike}
 use Rattle.aom_semantics.specs.Calls.{accepted_cells, accepted_clients, answered_by, ended_well, returned}
-use Rattle.aom_semantics.specs.Cleanup.{arrived, destroyed, ended_by, to_trap, top_is_whole, unwound}
+use Rattle.aom_semantics.specs.Cleanup.{destroyed, ended_by, to_trap, top_is_whole, unwound}
 use Rattle.aom_semantics.specs.Clients.{at_opening, client_at, with_client}
-use Rattle.aom_semantics.specs.Destruction.{begun, begun_by, line_on}
+use Rattle.aom_semantics.specs.Destruction.{begun, begun_by}
 use Rattle.aom_semantics.specs.Effects.{Calls, Cancels, Destroys, Destroys_last, Effect, Goes_on, Leaves, Returns, Sets_trap, applied}
 use Rattle.aom_safety.specs.Kept.{is_connect_of}
 use Rattle.aom_semantics.specs.Places.{Cell, Elsewhere, Entry, Going, Object, Place, Session, held, moved}
 use Rattle.aom_semantics.specs.Servers.{opened}
-use Rattle.aom_semantics.specs.State.{Home, A_mark, Accepts, An_object, An_operation, Destroy, Dispatch, Dispatched, Frame, Goes}
+use Rattle.aom_semantics.specs.State.{A_mark, Accepts, An_object, An_operation, Destroy, Dispatch, Dispatched, Frame, Goes}
 use Rattle.aom_semantics.specs.State.{IsStuck, Item, NullOrDead, Of_server, Run, Serves, State, Task, Trapped, Unwind, resumed}
 use Rattle.aom_semantics.specs.Words.{here}
 use Rattle.aom_safety.proofs.ClientsMoves.{steady_asked}
@@ -34,9 +34,6 @@ use Rattle.aom_determinism.specs.There.{AllThere, AreThere, dispatch_of, waits}
 
 pub dispatch_begun_by : (p : Image) (m : Option ℕ) (o : Object) (height : ℕ) (ts : List Task) → dispatch_of (begun_by p m o height ts) ≡ dispatch_of ts
 dispatch_begun_by p x o height ts = grind arith
-
-dispatch_line : (p : Image) (m : ℕ) (home : Home) (height : ℕ) (ts : List Task) → dispatch_of (line_on p m home height ts) ≡ dispatch_of ts
-dispatch_line p m x height ts = grind (arith, nat_tests, dispatch_begun_by p)
 
 pub dispatch_begun : (p : Image) (o : Object) (height : ℕ) (ts : List Task) → dispatch_of (begun p o height ts) ≡ dispatch_of ts
 dispatch_begun p o height ts = grind (arith, nat_tests, dispatch_begun_by p)
@@ -115,7 +112,7 @@ module _ (p : Image) (fr : Frame) (ts : List Task) (s : State) where
   returned_there g a (Run caller ∷ below) tasks there all = there_by s.clients s.cells (dispatch_of below) s.clients _ _ refl (calm_result p fr ts s g a _ below) refl there
   returned_there g a (Trapped ∷ Run caller ∷ below) tasks there all = there_by s.clients s.cells (dispatch_of below) s.clients _ _ refl (calm_result p fr ts s g a _ below) refl there
   returned_there g a (Trapped ∷ Dispatched d ∷ below) tasks there all = accepted_there d (here fr ts s a) there
-  returned_there g a (Destroy ∷ below) tasks there all = grind (arith, nat_tests, dispatch_line)
+  returned_there g a (Destroy ∷ below) tasks there all = grind (arith, nat_tests)
   returned_there g a (Unwind code ∷ below) tasks there all = there
   returned_there g a (Dispatched d ∷ below) tasks there all = answered_there _ d there
   returned_there g a _ tasks there all = subst (λ l. AreThere s.clients s.cells (dispatch_of l)) (sym tasks) all
@@ -125,9 +122,6 @@ module _ (p : Image) (fr : Frame) (ts : List Task) (s : State) where
 module _ (p : Image) (s : State) where
   left_there : (code : ℤ) (d : Dispatch) → AreThere s.clients s.cells (Some d) → AreThere s.clients s.cells (Some (ended_by code d))
   left_there code x there = grind arith
-
-  arrived_there : (code : ℤ) (ts : List Task) (items : List Item) (u : State) → AreThere s.clients s.cells (dispatch_of ts) → arrived p code ts items s ≡ Goes u → AllThere u
-  arrived_there code ts items u there e = grind arith
 
   pub unwound_there : (code : ℤ) (ts : List Task) (items : List Item) (u : State) → AreThere s.clients s.cells (dispatch_of ts) → unwound p code ts s items ≡ Goes u → AllThere u
   unwound_there code ts [] u there e = cc
@@ -142,4 +136,4 @@ module _ (p : Image) (s : State) where
           there_by s.clients s.cells (dispatch_of ts) s.clients _ _ refl (calm_moved s.cells (Entry (length items)) (Going _) (λ n c. refl) (λ n c. refl))
           (dispatch_begun p o (length items) (Unwind code ∷ ts)) there
   unwound_there code ts (An_operation m w ∷ items) u there e = subst AllThere (goes_same _ u e) there
-  unwound_there code ts (A_mark ∷ items) u there e = arrived_there code ts items u there e
+  unwound_there code ts (A_mark ∷ items) u there e = grind arith

@@ -102,8 +102,7 @@ module _ (names : ℕ → ℕ) (one_to_one : IsOneToOne names) where
   emptied_kept cs n = rw (owns_none_kept is_object cs n, owns_none_kept (λ t. not (is_object t)) cs n)
 
 -- what changes each cell without a look at its name
-pub each_renamed :
-    (names : ℕ → ℕ) (f : Cell → Cell) → ((c : Cell) → f (renamed_cell names c) ≡ renamed_cell names (f c)) → (cs : List Cell) →
+pub each_renamed : (names : ℕ → ℕ) (f : Cell → Cell) → ((c : Cell) → f (renamed_cell names c) ≡ renamed_cell names (f c)) → (cs : List Cell) →
     map f (renamed_cells names cs) ≡ renamed_cells names (map f cs)
 each_renamed names f same [] = refl
 each_renamed names f same (c ∷ cs) = grind (arith, nat_tests, each_renamed names f same cs)

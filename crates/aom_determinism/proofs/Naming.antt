@@ -3,8 +3,7 @@ use Rattle.std.proofs.lemmas.Bool.Decides.{nat_tests}
 use Rattle.std.proofs.Common.{arith, Option, ℕ, ◌≡◌}
 use Rattle.aom_image.specs.Image.{Image}
 use Rattle.aom_semantics.specs.State.{State}
-use Rattle.aom_semantics.specs.World.{Heard, Obeys, Environment, Timed, Turning, by_event, by_timer, delivers, turning, written_by}
-use Rattle.aom_transcript.specs.declared.event.Event.{Event}
+use Rattle.aom_semantics.specs.World.{Heard, Obeys, Environment, Turning, by_event, turning, written_by}
 use Rattle.aom_transcript.specs.declared.event.TimedEvent.{TimedEvent}
 use Rattle.aom_determinism.proofs.NamedCells.{cond_applied}
 use Rattle.aom_determinism.specs.Hearing.{is_polling}
@@ -15,28 +14,16 @@ unnamed (Obeys client command name) = Obeys client command 0
 unnamed t = t
 
 module _ (outside : Environment) (a b : ℕ) (s : State) where
-  unnamed_delivers : (e : Event) → unnamed (delivers outside a s e) ≡ unnamed (delivers outside b s e)
-  unnamed_delivers x = grind arith
-
   unnamed_event : (e : Option TimedEvent) (after : Turning) → unnamed (by_event outside a s e after) ≡ unnamed (by_event outside b s e after)
-  unnamed_event x after = grind (arith, nat_tests, cond_applied, unnamed_delivers)
-
-unnamed_timer : (s : State) (x : Option Timed) (t u : Turning) → unnamed t ≡ unnamed u → unnamed (by_timer s x t) ≡ unnamed (by_timer s x u)
-unnamed_timer s x t u same = grind (arith, nat_tests, cond_applied)
+  unnamed_event x after = grind (arith, nat_tests, cond_applied)
 
 unnamed_turning : (outside : Environment) (heard : Heard) (a : ℕ) (s : State) → unnamed (turning outside (record heard { name = a }) s) ≡ unnamed (turning outside heard s)
-unnamed_turning outside heard a s = grind (arith, nat_tests, cond_applied, unnamed_timer s, unnamed_event outside a heard.name s)
+unnamed_turning outside heard a s = grind (arith, nat_tests, cond_applied, unnamed_event outside a heard.name s)
 
 -- ---- what does not look at it
 
-polls_unnamed : (t : Turning) → is_polling (unnamed t) ≡ is_polling t
-polls_unnamed x = grind arith
-
 pub polling_named : (outside : Environment) (heard : Heard) (a : ℕ) (s : State) → is_polling (turning outside (record heard { name = a }) s) ≡ is_polling (turning outside heard s)
-polling_named outside heard a s = grind (arith, nat_tests, polls_unnamed, unnamed_turning outside heard a s)
-
-writes_unnamed : (p : Image) (s : State) (t : Turning) → written_by p s (unnamed t) ≡ written_by p s t
-writes_unnamed p s x = grind arith
+polling_named outside heard a s = grind (arith, nat_tests, unnamed_turning outside heard a s)
 
 pub written_named : (p : Image) (outside : Environment) (heard : Heard) (a : ℕ) (s : State) → written_by p s (turning outside (record heard { name = a }) s) ≡ written_by p s (turning outside heard s)
-written_named p outside heard a s = grind (arith, nat_tests, writes_unnamed p s, unnamed_turning outside heard a s)
+written_named p outside heard a s = grind (arith, nat_tests, unnamed_turning outside heard a s)

@@ -11,12 +11,12 @@ use Rattle.aom_image.specs.declared.method.Gives.{Gives}
 use Rattle.aom_image.specs.declared.method.Gives.TheVariants.{Maybe as A_maybe, Own as An_own}
 use Rattle.aom_image.specs.declared.method.Thing.{Thing}
 use Rattle.aom_image.specs.declared.method.Thing.TheVariants.{Message, Object as An_object_of}
-use Rattle.aom_semantics.specs.Calls.{none_filled, end_needs, is_asked, given_cells, is_level, is_worked_on, leaves_object, needs_argument}
-use Rattle.aom_semantics.specs.Calls.{needs_call, needs_destroyed, needs_each, needs_ended, needs_entering, needs_reply, needs_result}
+use Rattle.aom_semantics.specs.Calls.{none_filled, end_needs, is_asked, given_cells, is_worked_on, leaves_object, needs_argument}
+use Rattle.aom_semantics.specs.Calls.{needs_call, needs_each, needs_ended, needs_entering, needs_reply, needs_result}
 use Rattle.aom_semantics.specs.Calls.{needs_return, needs_target, needs_target_object, needs_trap, passed_cells, result_needs}
 use Rattle.aom_semantics.specs.Cleanup.{above_trap_is_free, has_trap, if_refused, leave_needs, needs_push, pushed_cells, top_is_whole}
 use Rattle.aom_semantics.specs.Enlisted.{home_kind, own_request}
-use Rattle.aom_semantics.specs.Objects.{is_declared_thing, is_no_message, is_thing, needs_put, needs_take_message}
+use Rattle.aom_semantics.specs.Objects.{is_no_message, is_thing, needs_put, needs_take_message}
 use Rattle.aom_semantics.specs.Places.{Cell, Elsewhere, Entry, In_service, Object, Place, Register, held}
 use Rattle.aom_semantics.specs.State.{A_mark, An_object, An_operation, Choice, Dispatch, Frame, Home, Item}
 use Rattle.aom_semantics.specs.State.{Need, Run, State, Task, Trapped, field_place, guarded, home_view}
@@ -36,9 +36,6 @@ module _ (names : ℕ → ℕ) where
 
   pub thing_kept : (p : Image) (t : Thing) (o : Option Object) → is_thing p t (option_map (renamed_object names) o) ≡ is_thing p t o
   thing_kept p t x = grind arith
-
-  declared_kept : (p : Image) (t : Option Thing) (o : Option Object) → is_declared_thing p t (option_map (renamed_object names) o) ≡ is_declared_thing p t o
-  declared_kept p x o = grind (arith, nat_tests, thing_kept p)
 
   message_kept : (o : Option Object) → is_no_message (option_map (renamed_object names) o) ≡ is_no_message o
   message_kept x = grind arith
@@ -78,8 +75,7 @@ module _ (names : ℕ → ℕ) where
 
 module _ (names : ℕ → ℕ) (one_to_one : IsOneToOne names) where
   -- what a register has under other names
-  pub register_renamed :
-      (cs : List Cell) (ts : List Task) (a : ℕ) →
+  pub register_renamed : (cs : List Cell) (ts : List Task) (a : ℕ) →
       held (renamed_cells names cs) (Register (length (renamed_tasks names ts)) a) ≡ option_map (renamed_object names) (held cs (Register (length ts) a))
   register_renamed cs ts a = grind (arith, nat_tests, tasks_counted names ts, held_renamed names one_to_one cs)
 
@@ -89,13 +85,11 @@ module _ (names : ℕ → ℕ) (one_to_one : IsOneToOne names) where
   owns_at : (cs : List Cell) (ts : List Task) (a : ℕ) → is_some (held (renamed_cells names cs) (Register (length (renamed_tasks names ts)) a)) ≡ is_some (held cs (Register (length ts) a))
   owns_at cs ts a = ap is_some (register_renamed cs ts a) ∙ some_kept names (held cs (Register (length ts) a))
 
-  thing_at :
-      (p : Image) (t : Thing) (cs : List Cell) (ts : List Task) (a : ℕ) →
+  thing_at : (p : Image) (t : Thing) (cs : List Cell) (ts : List Task) (a : ℕ) →
       is_thing p t (held (renamed_cells names cs) (Register (length (renamed_tasks names ts)) a)) ≡ is_thing p t (held cs (Register (length ts) a))
   thing_at p t cs ts a = ap (is_thing p t) (register_renamed cs ts a) ∙ thing_kept names p t (held cs (Register (length ts) a))
 
-  pub message_at :
-      (cs : List Cell) (ts : List Task) (a : ℕ) →
+  pub message_at : (cs : List Cell) (ts : List Task) (a : ℕ) →
       is_no_message (held (renamed_cells names cs) (Register (length (renamed_tasks names ts)) a)) ≡ is_no_message (held cs (Register (length ts) a))
   message_at cs ts a = ap is_no_message (register_renamed cs ts a) ∙ message_kept names (held cs (Register (length ts) a))
 
@@ -105,9 +99,6 @@ module _ (names : ℕ → ℕ) (one_to_one : IsOneToOne names) where
 
   field_at : (cs : List Cell) (h : Home) (f : ℕ) → is_none (held (renamed_cells names cs) (field_place (renamed_home names h) f)) ≡ is_none (held cs (field_place h f))
   field_at cs h f = ap is_none (held_field cs h f) ∙ none_kept names (held cs (field_place h f))
-
-  destroyed_kept : (p : Image) (m : ℕ) (cs : List Cell) (h : Home) → needs_destroyed p m (renamed_cells names cs) (renamed_home names h) ≡ needs_destroyed p m cs h
-  destroyed_kept p m cs x = grind (arith, nat_tests, without_queue_renamed names one_to_one, past_kept names one_to_one)
 
   pub place_owns : (cs : List Cell) (q : Place) → is_some (held (renamed_cells names cs) (renamed_place names q)) ≡ is_some (held cs q)
   place_owns cs q = ap is_some (held_renamed names one_to_one cs q) ∙ some_kept names (held cs q)
@@ -129,8 +120,7 @@ module _ (names : ℕ → ℕ) (one_to_one : IsOneToOne names) where
   pub whole_kept : (cs : List Cell) (items : List Item) → top_is_whole (renamed_cells names cs) items ≡ top_is_whole cs items
   whole_kept cs [] = refl
   whole_kept cs (An_object ∷ items) = entry_owns cs (length items)
-  whole_kept cs (An_operation m w ∷ items) = refl
-  whole_kept cs (A_mark ∷ items) = refl
+  whole_kept cs (_ ∷ items) = refl
 
 module _ (names : ℕ → ℕ) (one_to_one : IsOneToOne names) (p : Image) (c : Choice) (fr : Frame) (ts : List Task) (s : State) where
   abbrev fr' : Frame
@@ -172,8 +162,7 @@ module _ (names : ℕ → ℕ) (one_to_one : IsOneToOne names) (p : Image) (c : 
   each_kept [] first = refl
   each_kept (x ∷ xs) first = rw (argument_kept x first, each_kept xs (suc first))
 
-  pub passed_renamed :
-      (depth : ℕ) (xs : List Argument) (first to : ℕ) (cs : List Cell) →
+  pub passed_renamed : (depth : ℕ) (xs : List Argument) (first to : ℕ) (cs : List Cell) →
       passed_cells p fr' ts' s' depth xs first to (renamed_cells names cs) ≡ renamed_cells names (passed_cells p fr ts s depth xs first to cs)
   passed_renamed depth [] first to cs = refl
   passed_renamed depth (Takes_word ∷ xs) first to cs = passed_renamed depth xs (suc first) (suc to) cs
@@ -205,7 +194,7 @@ module _ (names : ℕ → ℕ) (one_to_one : IsOneToOne names) (p : Image) (c : 
   result_needs_kept _ a = refl
 
   end_kept : (below : List Task) → end_needs p fr' ts' s' (renamed_tasks names below) ≡ end_needs p fr ts s below
-  end_kept x = grind (arith, nat_tests, destroyed_kept names one_to_one p fr.method s.cells fr.home, ended_kept names one_to_one, is_asked_kept names)
+  end_kept x = grind (arith, nat_tests, without_queue_renamed, past_kept, ended_kept names one_to_one, is_asked_kept names)
 
   leaves_object_kept : (x : ℕ) (items : List Item) → leaves_object p fr' ts' s' x items ≡ leaves_object p fr ts s x items
   leaves_object_kept x [] = refl
@@ -214,15 +203,12 @@ module _ (names : ℕ → ℕ) (one_to_one : IsOneToOne names) (p : Image) (c : 
   leaves_object_kept x (An_operation m w ∷ items) = refl
   leaves_object_kept x (A_mark ∷ items) = refl
 
-  level_kept : (g : Gives) → is_level p fr' ts' s' g ≡ is_level p fr ts s g
-  level_kept x = grind (arith, nat_tests, leaves_object_kept)
-
   pub return_kept : (a : ℕ) → needs_return p fr' ts' s' a ≡ needs_return p fr ts s a
   return_kept a = grind (
     arith,
     nat_tests,
     result_needs_kept,
-    level_kept,
+    leaves_object_kept,
     tasks_counted names ts,
     none_owns_kept names s.cells,
     own_request_kept names one_to_one s.cells fr.home,
@@ -265,7 +251,7 @@ module _ (names : ℕ → ℕ) (one_to_one : IsOneToOne names) (p : Image) (c : 
   )
 
   pub put_kept : (f b : ℕ) → needs_put p c' fr' ts' s' f b ≡ needs_put p c fr ts s f b
-  put_kept f b = grind (arith, nat_tests, register_renamed names one_to_one s.cells ts b, declared_kept names p, field_at names one_to_one s.cells fr.home f)
+  put_kept f b = grind (arith, nat_tests, register_renamed names one_to_one s.cells ts b, field_at names one_to_one s.cells fr.home f)
 
 -- ---- what becomes of a state once its needs are met
 

@@ -9,10 +9,9 @@ use Rattle.aom_semantics.specs.Enlisted.{thing_kind}
 use Rattle.aom_semantics.specs.Natives.{is_outstanding_at, native_of}
 use Rattle.aom_semantics.specs.Places.{Cell}
 use Rattle.aom_semantics.specs.State.{Choice, State}
-use Rattle.aom_semantics.specs.World.{AnswersWell, Candidate, Completion, Heard, Environment, Polls, Reaches, Timed, Turning, begins, by_event}
-use Rattle.aom_semantics.specs.World.{by_timer, delivers, moves, next_native, nothing_heard, passes, picks, polls, turn, turning, turns}
+use Rattle.aom_semantics.specs.World.{AnswersWell, Completion, Heard, Environment, Polls, Reaches, Timed, Turning, begins}
+use Rattle.aom_semantics.specs.World.{by_timer, delivers, moves, next_native, nothing_heard, polls, turn, turning, turns}
 use Rattle.aom_transcript.specs.declared.event.Event.{Event}
-use Rattle.aom_transcript.specs.declared.event.TimedEvent.{TimedEvent}
 use Rattle.aom_transcript.specs.declared.line.Line.{Line}
 use Rattle.aom_determinism.proofs.NamedCells.{cond_applied}
 use Rattle.aom_determinism.proofs.Naming.{polling_named}
@@ -26,51 +25,27 @@ told answer (Polls n other) = Polls n answer
 told answer t = t
 
 module _ (heard : Heard) where
-  told_passes : (next : Option ℕ) → passes next ≡ told heard.completion (passes next)
-  told_passes x = grind arith
-
-  told_picks : (signal : Bool) (ready : Option Candidate) (next : Option ℕ) → picks signal ready next ≡ told heard.completion (picks signal ready next)
-  told_picks x ready next = grind (arith, nat_tests, told_passes next)
-
   told_polls : (n : Option ℕ) (after : Turning) → after ≡ told heard.completion after → polls n heard.completion after ≡ told heard.completion (polls n None after)
   told_polls x after same = grind arith
 
   told_delivers : (outside : Environment) (s : State) (e : Event) → delivers outside heard.name s e ≡ told heard.completion (delivers outside heard.name s e)
   told_delivers outside s x = grind (arith, nat_tests, cond_applied)
 
-  told_by_event :
-      (outside : Environment) (s : State) (e : Option TimedEvent) (after : Turning) →
-      by_event outside heard.name s e (told heard.completion after) ≡ told heard.completion (by_event outside heard.name s e after)
-  told_by_event outside s x after = grind (arith, nat_tests, told_delivers outside s, cond_applied)
-
   told_by_timer : (s : State) (x : Option Timed) (after : Turning) → by_timer s x (told heard.completion after) ≡ told heard.completion (by_timer s x after)
   told_by_timer s x after = grind (arith, nat_tests, cond_applied)
 
   told_turning : (outside : Environment) (s : State) → turning outside heard s ≡ told heard.completion (turning outside (record nothing_heard { name = heard.name }) s)
-  told_turning outside s = grind (arith, nat_tests, told_polls, told_picks, told_by_event outside s, told_by_timer s, cond_applied)
+  told_turning outside s = grind (arith, nat_tests, told_polls, told_by_timer s, cond_applied)
 
-  untold : (t : Turning) → is_polling t ≡ false → told heard.completion t ≡ t
-  untold t e = grind arith
-
-  pub turn_unpolled :
-      (p : Image) (outside : Environment) (s : State) → is_polling (turning outside nothing_heard s) ≡ false →
+  pub turn_unpolled : (p : Image) (outside : Environment) (s : State) → is_polling (turning outside nothing_heard s) ≡ false →
       turn p outside heard s ≡ turn p outside (record nothing_heard { name = heard.name }) s
-  turn_unpolled p outside s e = grind (arith, nat_tests, told_turning outside s, untold, polling_named outside)
+  turn_unpolled p outside s e = grind (arith, nat_tests, told_turning outside s, polling_named outside)
 
 -- ---- where there is no native none is polled
-
-unpolled_passes : (next : Option ℕ) → is_polling (passes next) ≡ false
-unpolled_passes x = grind arith
-
-unpolled_picks : (signal : Bool) (ready : Option Candidate) (next : Option ℕ) → is_polling (picks signal ready next) ≡ false
-unpolled_picks x ready next = grind (arith, nat_tests, unpolled_passes next)
 
 -- one turn or the other
 unpolled_cond : (b : Bool) (x y : Turning) → is_polling x ≡ false → is_polling y ≡ false → is_polling (cond b x y) ≡ false
 unpolled_cond x y z e f = grind arith
-
-unpolled_event : (outside : Environment) (name : ℕ) (s : State) (e : Option TimedEvent) (after : Turning) → is_polling after ≡ false → is_polling (by_event outside name s e after) ≡ false
-unpolled_event outside name s x after h = grind (arith, nat_tests, unpolled_cond)
 
 unpolled_timer : (s : State) (x : Option Timed) (after : Turning) → is_polling after ≡ false → is_polling (by_timer s x after) ≡ false
 unpolled_timer s x after h = grind (arith, nat_tests, unpolled_cond)
@@ -79,7 +54,7 @@ none_living : (outside : Environment) (s : State) → outside.natives ≡ 0 → 
 none_living outside s none = grind (arith, nat_tests)
 
 none_polled : (outside : Environment) (s : State) → outside.natives ≡ 0 → is_polling (turning outside nothing_heard s) ≡ false
-none_polled outside s none = grind (arith, nat_tests, none_living outside s none, unpolled_picks, unpolled_event outside 0 s, unpolled_cond, unpolled_timer s)
+none_polled outside s none = grind (arith, nat_tests, none_living outside s none, unpolled_cond, unpolled_timer s)
 
 -- ---- and where there is one that serves no class it completes nothing
 

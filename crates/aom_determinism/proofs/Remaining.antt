@@ -18,11 +18,11 @@ use Rattle.aom_safety.proofs.Guarded.{goes_same}
 use Rattle.aom_safety.proofs.Queues.{client_here, client_there}
 use Rattle.aom_safety.proofs.Services.{service_moved}
 use Rattle.aom_safety.specs.Claims.{Dying, Layer, tasks_of}
-use Rattle.aom_semantics.specs.Clients.{at_parting, client_at, with_client}
+use Rattle.aom_semantics.specs.Clients.{client_at, with_client}
 use Rattle.aom_safety.proofs.Emptying.{found_first}
 use Rattle.aom_semantics.specs.Destruction.{closing, first_session, parting, parting_from}
 use Rattle.aom_safety.specs.Kept.{ClientsFit}
-use Rattle.aom_semantics.specs.Moves.{answered, asking, dispatch_ends, handled, main_ends, object_ends, stage_ends}
+use Rattle.aom_semantics.specs.Moves.{answered, dispatch_ends, handled, main_ends, object_ends, stage_ends}
 use Rattle.aom_semantics.specs.Places.{Cell, Elsewhere, Going, In_service, Object, Root, Session, Tidy, held, moved, service_of}
 use Rattle.aom_semantics.specs.Servers.{is_server, parted}
 use Rattle.aom_semantics.specs.State.{Accept_left, Accepted, Accepts, Answered, Asks, Closing, Destroy, Dispatch, Dispatched, Goes, Main_left, Object_left}
@@ -32,7 +32,7 @@ use Rattle.aom_determinism.proofs.Fresh.{accepting, dispatch_at}
 use Rattle.aom_determinism.proofs.Keeping.{Calm, calm_itself, calm_moved, calm_reserved, still_either, there_by}
 use Rattle.aom_determinism.proofs.Moving.{dispatch_begun, dispatch_begun_by, or_none}
 use Rattle.aom_determinism.proofs.Vanishing.{calm_without}
-use Rattle.aom_determinism.specs.There.{AllThere, AreThere, IsAtPlace, accepts, dispatch_of, waits}
+use Rattle.aom_determinism.specs.There.{AllThere, AreThere, accepts, dispatch_of, waits}
 
 -- ---- what goes is not the server that is dispatched
 
@@ -76,14 +76,11 @@ module _ (p : Image) (t : Typing) (s : State) (w : WellTyped p t s) (there : All
       AreThere s.clients s.cells d → AreThere s.clients (moved (Elsewhere (Session o.name c)) (Going k) s.cells) d
   session_goes o c k d apart there = record {
     asked = grind (arith, nat_tests, still_either, service_moved s.cells (Elsewhere (Session o.name c)) (Going k));
-    serves = at d apart there.serves;
+    serves = grind (arith, nat_tests, held_elsewhere);
   }
     where
       cells : List Cell
       cells = moved (Elsewhere (Session o.name c)) (Going k) s.cells
-
-      at : (d : Option Dispatch) → ((x : Seat) (c : ℕ) (stage : Stage) → d ≡ Some (Of_server x c stage) → (o.name == x.object.name) ≡ false) → IsAtPlace s.cells d → IsAtPlace cells d
-      at x y h = grind (arith, nat_tests, held_elsewhere s.cells (Elsewhere (Session o.name c)) (Going k))
 
   pub closing_there : (ts : List Task) (u : State) → s.tasks ≡ Closing ∷ ts → closing p ts s ≡ Goes u → AllThere u
   closing_there (Destroy ∷ below) u tasks e = by_server (held s.cells (Going (length below))) refl e
@@ -152,18 +149,11 @@ module _ (p : Image) (s : State) (all : AllWait s.clients s.cells) where
   answer_there : (answer : ℤ) → AllThere (answered p answer s)
   answer_there answer = grind (arith, nat_tests, object_there, plain_there s.clients s.cells None)
 
-  asking_there : (m : Option ℕ) (x : Seat) (code : ℤ) → AllThere (asking p m x code s)
-  asking_there x y code = grind (arith, nat_tests, answer_there, plain_there)
-
 module _ (p : Image) (s : State) (fit : ClientsFit p s.clients s.cells) (tidy : Tidy s.cells) (plain : (o : Object) → held s.cells (Elsewhere In_service) ≡ Some o → is_server p o.thing ≡ false) where
   -- a client is at something else, where it does not connect
-  all_with :
-      (c : ℕ) (to : Client) → ((n d : ℕ) → (c == d) ≡ false → is_connecting_at n (client_at s.clients d) ≡ true → waits s.cells n d ≡ true) →
+  all_with : (c : ℕ) (to : Client) → ((n d : ℕ) → (c == d) ≡ false → is_connecting_at n (client_at s.clients d) ≡ true → waits s.cells n d ≡ true) →
       ((n : ℕ) → is_connecting_at n to ≡ true → waits s.cells n c ≡ true) → AllWait (with_client c to s.clients) s.cells
   all_with c to others own n d e = grind (arith, nat_tests, eqb-true c d, client_here c to s.clients, client_there c d to s.clients)
-
-  parting_connecting : (n : ℕ) (x : Client) → is_connecting_at n (at_parting x) ≡ true → is_connecting_at n x ≡ true
-  parting_connecting n x e = grind arith
 
   stage_there : (x : Seat) (c : ℕ) (stage : Stage) → EndsDispatch p (Of_server x c stage) Now → AreThere s.clients s.cells (Some (Of_server x c stage)) → AllThere (stage_ends x c stage s)
   stage_there x c Accepts ends there = absurd ends
@@ -181,14 +171,14 @@ module _ (p : Image) (s : State) (fit : ClientsFit p s.clients s.cells) (tidy : 
   stage_there x c Parts ends there =
       let all : AllWait s.clients s.cells = all_wait s.clients s.cells (Some (Of_server x c Parts)) (λ n d. refl) there in
       plain_there _ _ (Some (Of_object x)) tt
-      (calm_waits _ s.cells _ (calm_reserved (parted c) (λ v k h. h) s.cells x.object.name) (grind (arith, nat_tests, all_with, parting_connecting)))
+      (calm_waits _ s.cells _ (calm_reserved (parted c) (λ v k h. h) s.cells x.object.name) (grind (arith, nat_tests, all_with)))
 
   ends_there : (d : Dispatch) → EndsDispatch p d Now → AreThere s.clients s.cells (Some d) → AllThere (dispatch_ends p d s)
   ends_there Of_main ends there = main_there p s (all_wait s.clients s.cells (Some Of_main) (λ n d. refl) there) s.rest.stopped (held s.cells (Elsewhere Root))
   ends_there (Main_left code) ends there = plain_there s.clients s.cells None tt (all_wait s.clients s.cells (Some (Main_left code)) (λ n d. refl) there)
   ends_there Of_root ends there = plain_there s.clients s.cells None tt (all_wait s.clients s.cells (Some Of_root) (λ n d. refl) there)
   ends_there (Of_object x) ends there = object_there p s (all_wait s.clients s.cells (Some (Of_object x)) (λ n d. refl) there)
-  ends_there (Object_left x code) ends there = grind (arith, nat_tests, asking_there, all_wait)
+  ends_there (Object_left x code) ends there = grind (arith, nat_tests, answer_there, plain_there, all_wait)
   ends_there (Asks x) ends there = object_there p s (all_wait s.clients s.cells (Some (Asks x)) (λ n d. refl) there)
   ends_there (Answered x answer) ends there = answer_there p s (all_wait s.clients s.cells (Some (Answered x answer)) (λ n d. refl) there) answer
   ends_there (Of_server x c stage) ends there = stage_there x c stage ends there

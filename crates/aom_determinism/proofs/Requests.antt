@@ -50,7 +50,6 @@ aborted_owed r = grind arith
 pub started_owed : (dead session : Bool) (answer : ℤ) → int_eq (started dead session answer) pending ≡ ((not dead && session) && takes_on answer)
 started_owed x session answer = grind (arith, nat_tests, recorded_so answer)
 
-pub issued_owed :
-    (k : Option ClassKind) (n : ℕ) (asking : Asking) (a : ℤ) (r : Option Request) → native_of k ≡ Some n → in_phase is_idle r ≡ true →
+pub issued_owed : (k : Option ClassKind) (n : ℕ) (asking : Asking) (a : ℤ) (r : Option Request) → native_of k ≡ Some n → in_phase is_idle r ≡ true →
     is_owed (on_request (issued_of k asking a) r) ≡ int_eq asking.started pending
 issued_owed k n asking a r e idle = grind arith

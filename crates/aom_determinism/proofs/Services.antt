@@ -18,9 +18,9 @@ use Rattle.aom_safety.proofs.Sifted.{a_cell_of, cell_in, cell_in_sifted, cell_li
 use Rattle.aom_safety.proofs.Sifted.{named_cell, object_in, request_in, requested_cell, sifted, tidy_sifted, unqueued_so, unslotted_so, withdrawn_so}
 use Rattle.aom_safety.specs.Claims.{Layer}
 use Rattle.aom_transcript.specs.declared.event.Command.{Command}
-use Rattle.aom_semantics.specs.Clients.{Listed, commanded, connecting, each_unslotted, leaving, sending}
+use Rattle.aom_semantics.specs.Clients.{commanded, each_unslotted, leaving, sending}
 use Rattle.aom_semantics.specs.Natives.{is_owed, is_served_by}
-use Rattle.aom_semantics.specs.Places.{Cell, Elsewhere, Going, Object, Place, Queued, Service, Tidy, held, in_session, named, same_place, set_service, without}
+use Rattle.aom_semantics.specs.Places.{Cell, Going, Object, Place, Service, Tidy, held, in_session, named, same_place, set_service, without}
 use Rattle.aom_semantics.specs.Servers.{is_from, is_queue, is_queue_of, without_queue, withdrawn}
 use Rattle.aom_semantics.specs.State.{State}
 use Rattle.aom_safety.specs.WellTyped.{Good}
@@ -88,22 +88,16 @@ module _ (p : Image) (drops : Cell → Bool) (f : Cell → Service) (cs : List C
 -- ---- which cells these are
 
 -- what waits in a queue is a message
-queued_message : (p : Image) (t : Typing) (cs : List Cell) (ls : List Layer) → Good p t cs ls → (n m : ℕ) (x : Object) → held cs (Elsewhere (Queued n m)) ≡ Some x → x.thing ≡ Message
-queued_message p t cs ls good n m x there = grind (arith, nat_tests, waits_message p, queued_claim p)
-
 module _ (p : Image) (t : Typing) (cs : List Cell) (ls : List Layer) (good : Good p t cs ls) where
   queue_message : (r : Place) (x : Object) → is_queue r ≡ true → held cs r ≡ Some x → x.thing ≡ Message
-  queue_message r x e there = grind (arith, queued_message p t cs ls good)
-
-  any_queue : (n : ℕ) (r : Place) → is_queue_of n r ≡ true → is_queue r ≡ true
-  any_queue n r e = grind arith
+  queue_message r x e there = grind (arith, waits_message, queued_claim)
 
   in_place : (c : Cell) → cell_in cs c.owner ≡ Some c → held cs c.owner ≡ Some c.object
   in_place c at = held_cell cs c.owner ∙ ap object_in at
 
   -- the queue of a server goes
   queue_drops : (n : ℕ) → DropsMessages (λ c. is_queue_of n c.owner) cs
-  queue_drops n c at e = queue_message c.owner c.object (any_queue n c.owner e) (in_place c at)
+  queue_drops n c at e = queue_message c.owner c.object (grind arith) (in_place c at)
 
   pub unchanged_unqueued : (n : ℕ) → Unchanged p cs (without_queue n cs)
   unchanged_unqueued n = grind (arith, nat_tests, Unchanged p cs, unqueued_so n cs, unchanged_sifted p, queue_drops n)
@@ -153,9 +147,6 @@ unchanged_unslotted p (c ∷ clients) cs tidy =
 -- ---- a client's command
 
 module _ (p : Image) (t : Typing) (s : State) (ls : List Layer) (good : Good p t s.cells ls) (client name : ℕ) (unused : named s.cells name ≡ None) where
-  connecting_same : (refused : Option Refusal) (server : Option Listed) (slots : ℕ) → Unchanged p s.cells (connecting p client s refused server slots).cells
-  connecting_same x server slots = grind (arith, nat_tests, unchanged_served, unchanged_itself)
-
   sending_same : (refused : Option Refusal) (c : Client) (words : List ℤ) → Unchanged p s.cells (sending p client s refused c name words).cells
   sending_same x y words = grind (
     arith,
@@ -181,18 +172,12 @@ module _ (p : Image) (t : Typing) (s : State) (ls : List Layer) (good : Good p t
   )
 
   pub unchanged_commanded : (command : Command) → Unchanged p s.cells (commanded p client s command name).cells
-  unchanged_commanded x = grind (arith, nat_tests, connecting_same, sending_same, leaving_same)
+  unchanged_commanded x = grind (arith, nat_tests, unchanged_served, unchanged_itself, sending_same, leaving_same)
 
 -- it kills no native
 module _ (p : Image) (s : State) (client name : ℕ) where
-  connecting_killed : (refused : Option Refusal) (server : Option Listed) (slots : ℕ) → (connecting p client s refused server slots).killed ≡ s.killed
-  connecting_killed x server slots = grind arith
-
-  sending_killed : (refused : Option Refusal) (c : Client) (words : List ℤ) → (sending p client s refused c name words).killed ≡ s.killed
-  sending_killed x y words = grind arith
-
   leaving_killed : (to : Option Client) → (leaving p client s to).killed ≡ s.killed
   leaving_killed x = grind arith
 
   pub commanded_killed : (command : Command) → (commanded p client s command name).killed ≡ s.killed
-  commanded_killed x = grind (arith, nat_tests, connecting_killed, sending_killed, leaving_killed)
+  commanded_killed x = grind (arith, nat_tests, leaving_killed)

@@ -1,21 +1,20 @@
 -- What clients are at, and what they have at servers, under other names: the same, renamed.
 use Rattle.std.proofs.lemmas.Bool.Decides.{nat_tests}
 use Rattle.aom_semantics.specs.Tokens.{token_of}
-use Rattle.std.proofs.Common.{arith, List, Option, [], ap, refl, suc, zero, ℕ, ◌∙◌, ◌∷◌, ◌≡◌, sym}
+use Rattle.std.proofs.Common.{arith, List, Option, [], ap, refl, suc, zero, ℕ, ◌∙◌, ◌∷◌, ◌≡◌}
 use Rattle.std.proofs.lemmas.List.{map-append}
 use Rattle.std.specs.Prelude.{option_map}
 use Rattle.aom_clients.specs.declared.client.Client.{Client}
 use Rattle.aom_clients.specs.declared.client.Client.TheVariants.{Unconnected}
 use Rattle.aom_clients.specs.Table.{at_gone}
 use Rattle.aom_semantics.specs.Clients.{at_opening, at_parting, client_at, each_unslotted, queue_ended, sessions_ended, with_client}
-use Rattle.aom_semantics.specs.Destruction.{first_session, seat_or}
-use Rattle.aom_semantics.specs.Places.{Asked, Cell, Close_of, Connect_of, Elsewhere, Message_of, Object, Place, Service, Session, service_of, set_service}
-use Rattle.aom_semantics.specs.Servers.{all_unslotted, asked_last, has_more, is_queue_of, opened, parted}
-use Rattle.aom_semantics.specs.Servers.{reserved, rest_of, taken_first, without_queue}
-use Rattle.aom_semantics.specs.State.{Seat}
+use Rattle.aom_semantics.specs.Destruction.{first_session}
+use Rattle.aom_semantics.specs.Places.{Asked, Cell, Connect_of, Elsewhere, Object, Service, Session, service_of, set_service}
+use Rattle.aom_semantics.specs.Servers.{all_unslotted, asked_last, has_more, opened, parted}
+use Rattle.aom_semantics.specs.Servers.{reserved, taken_first, without_queue}
 use Rattle.aom_determinism.proofs.NamedCells.{cond_applied, held_renamed, same_name}
 use Rattle.aom_determinism.specs.Names.{IsOneToOne, renamed_asked, renamed_cells, renamed_client, renamed_clients}
-use Rattle.aom_determinism.specs.Names.{renamed_object, renamed_place, renamed_queue, renamed_seat, renamed_service}
+use Rattle.aom_determinism.specs.Names.{renamed_object, renamed_queue, renamed_seat, renamed_service}
 
 module _ (names : ℕ → ℕ) where
   -- ---- what a client is at
@@ -31,9 +30,6 @@ module _ (names : ℕ → ℕ) where
   with_client_renamed zero x (y ∷ ys) = refl
   with_client_renamed (suc c) x (y ∷ ys) = ap (λ l. renamed_client names y ∷ l) (with_client_renamed c x ys)
 
-  opening_renamed : (session : ℕ) (x : Client) → at_opening session (renamed_client names x) ≡ renamed_client names (at_opening session x)
-  opening_renamed session x = grind arith
-
   parting_renamed : (x : Client) → at_parting (renamed_client names x) ≡ renamed_client names (at_parting x)
   parting_renamed x = grind arith
 
@@ -48,7 +44,7 @@ module _ (names : ℕ → ℕ) where
 
   pub opened_client_renamed : (c : ℕ) (clients : List Client) → with_client c (at_opening 0 (client_at (renamed_clients names clients) c))
       (renamed_clients names clients) ≡ renamed_clients names (with_client c (at_opening 0 (client_at clients c)) clients)
-  opened_client_renamed c clients = changed_client_renamed (at_opening 0) (opening_renamed 0) c clients
+  opened_client_renamed c clients = changed_client_renamed (at_opening 0) (grind arith) c clients
 
   pub parted_client_renamed : (c : ℕ) (clients : List Client) → with_client c (at_parting (client_at (renamed_clients names clients) c))
       (renamed_clients names clients) ≡ renamed_clients names (with_client c (at_parting (client_at clients c)) clients)
@@ -57,8 +53,7 @@ module _ (names : ℕ → ℕ) where
   pub queue_ended_renamed : (es : List Asked) (clients : List Client) → queue_ended (renamed_queue names es) (renamed_clients names clients) ≡ renamed_clients names (queue_ended es clients)
   queue_ended_renamed [] clients = refl
   queue_ended_renamed (Connect_of c ∷ es) clients = grind (arith, nat_tests, with_client_renamed c Unconnected clients, queue_ended_renamed es)
-  queue_ended_renamed (Message_of c m ∷ es) clients = queue_ended_renamed es clients
-  queue_ended_renamed (Close_of c ∷ es) clients = queue_ended_renamed es clients
+  queue_ended_renamed (_ ∷ es) clients = queue_ended_renamed es clients
 
   pub sessions_ended_renamed : (cs : List ℕ) (clients : List Client) → sessions_ended cs (renamed_clients names clients) ≡ renamed_clients names (sessions_ended cs clients)
   sessions_ended_renamed [] clients = refl
@@ -81,16 +76,6 @@ module _ (names : ℕ → ℕ) where
   more_kept [] = refl
   more_kept (e ∷ es) = refl
 
-  asked_last_renamed : (e : Asked) (v : Service) → asked_last (renamed_asked names e) (renamed_service names v) ≡ renamed_service names (asked_last e v)
-  asked_last_renamed e v = ap (λ q. record v { queue = q }) (sym (map-append (renamed_asked names) v.queue (e ∷ [])))
-
-  rest_renamed : (es : List Asked) → rest_of (renamed_queue names es) ≡ renamed_queue names (rest_of es)
-  rest_renamed [] = refl
-  rest_renamed (e ∷ es) = refl
-
-  taken_renamed : (v : Service) → taken_first (renamed_service names v) ≡ renamed_service names (taken_first v)
-  taken_renamed v = ap (λ q. record v { queue = q }) (rest_renamed v.queue)
-
 module _ (names : ℕ → ℕ) (one_to_one : IsOneToOne names) where
   -- ---- what clients have at a cell
 
@@ -106,16 +91,15 @@ module _ (names : ℕ → ℕ) (one_to_one : IsOneToOne names) where
   set_service_renamed n v (c ∷ cs) = grind (arith, nat_tests, same_name names one_to_one c.object.name n, cond_applied, set_service_renamed n v cs)
 
   -- where a change of it means the same under other names
-  reserved_renamed :
-      (f g : Service → Service) → ((v : Service) → g (renamed_service names v) ≡ renamed_service names (f v)) → (n : ℕ) (cs : List Cell) →
+  reserved_renamed : (f g : Service → Service) → ((v : Service) → g (renamed_service names v) ≡ renamed_service names (f v)) → (n : ℕ) (cs : List Cell) →
       reserved g (names n) (renamed_cells names cs) ≡ renamed_cells names (reserved f n cs)
   reserved_renamed f g same n cs = grind (arith, nat_tests, service_renamed cs n, set_service_renamed n)
 
   pub asks_renamed : (e : Asked) (n : ℕ) (cs : List Cell) → reserved (asked_last (renamed_asked names e)) (names n) (renamed_cells names cs) ≡ renamed_cells names (reserved (asked_last e) n cs)
-  asks_renamed e n cs = reserved_renamed (asked_last e) (asked_last (renamed_asked names e)) (asked_last_renamed names e) n cs
+  asks_renamed e n cs = reserved_renamed (asked_last e) (asked_last (renamed_asked names e)) (grind (arith, nat_tests, map-append)) n cs
 
   pub takes_renamed : (n : ℕ) (cs : List Cell) → reserved taken_first (names n) (renamed_cells names cs) ≡ renamed_cells names (reserved taken_first n cs)
-  takes_renamed n cs = reserved_renamed taken_first taken_first (taken_renamed names) n cs
+  takes_renamed n cs = reserved_renamed taken_first taken_first (grind arith) n cs
 
   pub opens_renamed : (c n : ℕ) (cs : List Cell) → reserved (opened c) (names n) (renamed_cells names cs) ≡ renamed_cells names (reserved (opened c) n cs)
   opens_renamed c n cs = reserved_renamed (opened c) (opened c) (λ v. refl) n cs
@@ -125,20 +109,13 @@ module _ (names : ℕ → ℕ) (one_to_one : IsOneToOne names) where
 
   -- ---- what waits in a queue goes
 
-  is_queue_kept : (n : ℕ) (q : Place) → is_queue_of (names n) (renamed_place names q) ≡ is_queue_of n q
-  is_queue_kept n x = grind (arith, nat_tests, same_name names one_to_one)
-
   pub without_queue_renamed : (n : ℕ) (cs : List Cell) → without_queue (names n) (renamed_cells names cs) ≡ renamed_cells names (without_queue n cs)
   without_queue_renamed n [] = refl
-  without_queue_renamed n (c ∷ cs) = grind (arith, nat_tests, is_queue_kept n c.owner, without_queue_renamed n cs, cond_applied)
+  without_queue_renamed n (c ∷ cs) = grind (arith, nat_tests, without_queue_renamed n cs, cond_applied)
 
   -- ---- the first session that is there
-
-  seat_or_renamed : (o : Option Object) (q : Place) (others : Option Seat) → seat_or (option_map (renamed_object names) o)
-      (renamed_place names q) (option_map (renamed_seat names) others) ≡ option_map (renamed_seat names) (seat_or o q others)
-  seat_or_renamed x q others = grind arith
 
   pub first_session_renamed : (cs : List Cell) (n : ℕ) (clients : List ℕ) → first_session (renamed_cells names cs) (names n) clients ≡ option_map (renamed_seat names) (first_session cs n clients)
   first_session_renamed cs n [] = refl
   first_session_renamed cs n (c ∷ clients) =
-      grind (arith, nat_tests, held_renamed names one_to_one cs (Elsewhere (Session n c)), first_session_renamed cs n clients, seat_or_renamed)
+      grind (arith, nat_tests, held_renamed names one_to_one cs (Elsewhere (Session n c)), first_session_renamed cs n clients)

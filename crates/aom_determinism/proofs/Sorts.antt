@@ -5,10 +5,9 @@ use Rattle.std.specs.Prelude.{nat_le}
 use Rattle.std.proofs.lemmas.Bool.{leb-false}
 use Rattle.aom_semantics.specs.State.{State}
 use Rattle.aom_semantics.specs.World.{Candidate, Completes, Completion, Cuts, Heard, Hears, Kills, Obeys, Environment, Passes, Picks}
-use Rattle.aom_semantics.specs.World.{Polls, Strays, Timed, Turning, Waits, by_event, by_timer, delivers, due_of, first_due, first_ready}
+use Rattle.aom_semantics.specs.World.{Polls, Strays, Timed, Turning, Waits, by_event, by_timer, due_of, first_due, first_ready}
 use Rattle.aom_semantics.specs.World.{has_signal, next_event, next_native, next_time, picks, polls, time_of, turning}
 use Rattle.aom_transcript.specs.declared.event.Command.{Command}
-use Rattle.aom_transcript.specs.declared.event.Event.{Event}
 use Rattle.aom_transcript.specs.declared.event.TimedEvent.{TimedEvent}
 use Rattle.aom_determinism.proofs.Lefts.{early_both, is_late, living_within, reached}
 
@@ -40,11 +39,8 @@ module _ (outside : Environment) (s : State) where
   polls_kind : (n : Option ℕ) → next_native outside s ≡ n → (answer : Option Completion) (after : Turning) → is_late outside s ≡ false → Kind outside s after → Kind outside s (polls n answer after)
   polls_kind x is answer after early then = grind (arith, nat_tests, living_within s.killed (outside.natives - s.rest.polled) s.rest.polled, polls_one)
 
-  delivers_kind : (name : ℕ) (e : TimedEvent) → next_event outside s ≡ Some e → (event : Event) → Kind outside s (delivers outside name s event)
-  delivers_kind name e is x = grind (arith, nat_tests, hears_one, kills_one, obeys_one)
-
   event_kind : (name : ℕ) (next : Option TimedEvent) → next_event outside s ≡ next → (after : Turning) → (event_early → Kind outside s after) → Kind outside s (by_event outside name s next after)
-  event_kind name x is after then = grind (arith, nat_tests, reached, delivers_kind name)
+  event_kind name x is after then = grind (arith, nat_tests, reached, hears_one, kills_one, obeys_one)
 
   timer_kind : (next : Option Timed) → first_due s.cells ≡ next → (after : Turning) → (timer_early → Kind outside s after) → Kind outside s (by_timer s next after)
   timer_kind x is after then = grind (arith, nat_tests, reached, completes_one)
@@ -55,8 +51,6 @@ module _ (outside : Environment) (s : State) where
       go : (b : Bool) → nat_le outside.limit s.rest.dispatches ≡ b → Kind outside s (cond b Cuts (by_timer s (first_due s.cells) (by_event outside heard.name s
           (next_event outside s) (polls (next_native outside s) heard.completion (picks (has_signal s.cells) (first_ready s.cells) (next_time outside s))))))
       go true at = cuts
-      go false at =
-          timer_kind (first_due s.cells) refl _ (λ timer.
-          event_kind heard.name (next_event outside s) refl _ (λ event.
+      go false at = timer_kind (first_due s.cells) refl _ (λ timer. event_kind heard.name (next_event outside s) refl _ (λ event.
           polls_kind (next_native outside s) refl heard.completion _ (early_both outside s timer event)
           (picks_kind (has_signal s.cells) (first_ready s.cells) (next_time outside s) (leb-false outside.limit s.rest.dispatches at) refl (early_both outside s timer event))))

@@ -1,16 +1,14 @@
 -- How many dispatches of objects there may still be: no move makes more of them.
 use Rattle.std.proofs.lemmas.Bool.Decides.{nat_tests}
-use Rattle.std.proofs.Common.{◌≡◌, ℕ, ◌<◌, ◌≤◌, ◌^◌, ◌-◌, ◌∙◌, Bool, true, false, [], Some, None, ap, arith, cond, refl}
+use Rattle.std.proofs.Common.{◌≡◌, ℕ, ◌<◌, ◌≤◌, ◌^◌, ◌-◌, ◌∙◌, Bool, true, false, [], None, ap, arith, cond, refl}
 use Rattle.std.specs.Prelude.{is_some}
 use Rattle.aom_image.specs.Image.{Image}
-use Rattle.aom_image.specs.declared.method.Role.TheVariants.{Run as Handles}
 use Rattle.aom_image.specs.declared.method.Thing.{Thing}
 use Rattle.aom_roles.specs.Classes.{sessions_in}
 use Rattle.aom_roles.specs.Shapes.{kind_of}
 use Rattle.aom_safety.proofs.Counting.{dispatches_are_counted}
-use Rattle.aom_safety.proofs.Turned.{Picked, accepts, attends, dispatched_so, handles, parts, picked_rest, picked_so}
+use Rattle.aom_safety.proofs.Turned.{accepts, attends, dispatched_so, handles, parts, picked_rest}
 use Rattle.aom_safety.specs.Counting.{restarts}
-use Rattle.aom_semantics.specs.Enlisted.{part_of}
 use Rattle.aom_semantics.specs.Moves.{step}
 use Rattle.aom_semantics.specs.Servers.{is_server}
 use Rattle.aom_semantics.specs.State.{Choice, Goes, Seat, State, raised}
@@ -26,8 +24,7 @@ pub moved_spares : (p : Image) (limit : ℕ) → limit ≤ 2 ^ 64 - 1 → (c : C
 moved_spares p limit most c s u goes = go (restarts p s.tasks) refl
   where
     go : (b : Bool) → restarts p s.tasks ≡ b → spare limit u ≤ spare limit s
-    go b is =
-        by_case b (dispatches_are_counted.moves p c s u goes ∙ ap (λ x. cond x (raised s.rest.dispatches) s.rest.dispatches) is)
+    go b is = by_case b (dispatches_are_counted.moves p c s u goes ∙ ap (λ x. cond x (raised s.rest.dispatches) s.rest.dispatches) is)
         (ap (λ o. one_where (is_some o)) (payers p c s u goes ∙ ap (λ x. cond x None (payer s.tasks)) is))
       where
         by_case : (b : Bool) → u.rest.dispatches ≡ cond b (raised s.rest.dispatches) s.rest.dispatches →
@@ -36,22 +33,16 @@ moved_spares p limit most c s u goes = go (restarts p s.tasks) refl
         by_case false counts pays = omega (arith, counts, pays)
 
 -- the dispatch of an object, or of a server, takes one of them
-class_there : (p : Image) (t : Thing) (m : ℕ) → part_of p Handles t ≡ Some m → is_some (class_of t) ≡ true
-class_there p t m e = grind arith
-
 server_there : (p : Image) (t : Thing) → is_server p t ≡ true → is_some (class_of t) ≡ true
 unfolding sessions_in kind_of
 server_there p t e = grind arith
 
 picked_class : (p : Image) (s u : State) (x : Seat) → turned p s (Picks x) ≡ Goes u → is_some (class_of x.object.thing) ≡ true
-picked_class p s u x goes = grind (arith, nat_tests, server_there p x.object.thing, dispatched_so p s u x, class_there p x.object.thing)
+picked_class p s u x goes = grind (arith, nat_tests, server_there p x.object.thing, dispatched_so p s u x)
 
 -- its class pays
-picked_payer : (p : Image) (s u : State) (x : Seat) → Picked p s x u → payer u.tasks ≡ class_of x.object.thing
-picked_payer p s u x d = grind (arith, nat_tests, handles, accepts, attends, parts, begun_payer p)
-
 pub picked_pays : (p : Image) (s u : State) (x : Seat) → turned p s (Picks x) ≡ Goes u → is_some (payer u.tasks) ≡ true
-picked_pays p s u x goes = ap is_some (picked_payer p s u x (picked_so p s u x goes)) ∙ picked_class p s u x goes
+picked_pays p s u x goes = ap is_some (grind (arith, nat_tests, handles, accepts, attends, parts, begun_payer)) ∙ picked_class p s u x goes
 
 pub picked_spares : (p : Image) (limit : ℕ) (s u : State) (x : Seat) → s.rest.dispatches < limit → s.tasks ≡ [] → turned p s (Picks x) ≡ Goes u → spare limit u < spare limit s
 picked_spares p limit s u x below idle goes = grind (arith, nat_tests, picked_pays p s u x goes, picked_rest p s u x goes)

@@ -35,7 +35,7 @@ use Rattle.aom_semantics.specs.Servers.{is_server, without_queue}
 use Rattle.aom_semantics.specs.State.{Choice, Closing, Destroy, Dispatched, Frame, Goes, Run, State, Task, Trapped, Unwind}
 use Rattle.aom_safety.specs.WellTyped.{WellTyped}
 use Rattle.aom_semantics.specs.Words.{here, read}
-use Rattle.aom_semantics.specs.World.{Completes, Kills, Obeys, Picks, Polls, Strays, Turning, boot_state, heard_one, turned, turning, with_request}
+use Rattle.aom_semantics.specs.World.{Completes, Kills, Obeys, Picks, Polls, Strays, Turning, heard_one, turned, turning, with_request}
 use Rattle.aom_determinism.proofs.Remaining.{AllWait, all_wait, closing_there, dispatch_there, gone_apart, plain_there}
 use Rattle.aom_determinism.proofs.Keeping.{calm_ended, there_by, Calm, calm_along, calm_steady}
 use Rattle.aom_determinism.proofs.Moving.{dispatch_resumed, effect_there, returned_there, unwound_there}
@@ -45,9 +45,6 @@ use Rattle.aom_determinism.specs.Determined.{AllStaysThere}
 use Rattle.aom_determinism.specs.There.{AllThere, AreThere, dispatch_of}
 
 -- ---- as it boots
-
-boot_there : (p : Image) → AllThere (boot_state p)
-boot_there p = search (arith, nat_tests)
 
 -- ---- each move
 
@@ -145,7 +142,7 @@ module _ (p : Image) (t : Typing) (wired : IsWired p) (s : State) (w : WellTyped
 
 pub all_stays_there : AllStaysThere
 all_stays_there = record {
-  boot = boot_there;
+  boot = grind arith;
   moves = λ p t wired typed c s u w free kept there e. moved_there p t wired c s w free kept there s.tasks refl u e;
   turns = λ p t outside wired typed heard s u w between hears kept there e.
       let fit : IsFit p s = record { fit = kept.fit; stage = kept.stage } in

@@ -7,16 +7,15 @@ use Rattle.aom_image.specs.declared.method.Role.TheVariants.{Error as Answers}
 use Rattle.aom_image.specs.Views.{instr_at}
 use Rattle.aom_instructions.specs.declared.instr.Instr.{Instr}
 use Rattle.aom_semantics.specs.World.{Heard, HearsWell, Environment}
-use Rattle.aom_semantics.specs.Cleanup.{arrived, ended_by, unwound}
+use Rattle.aom_semantics.specs.Cleanup.{arrived, unwound}
 use Rattle.aom_clients.specs.declared.client.Client.TheVariants.{Unconnected}
-use Rattle.aom_semantics.specs.Destruction.{closing, gone, needs_gone, parting, parting_from, vanished}
-use Rattle.aom_semantics.specs.Servers.{without_queue}
+use Rattle.aom_semantics.specs.Destruction.{closing, gone, parting, vanished}
 use Rattle.aom_semantics.specs.Enlisted.{part_of}
-use Rattle.aom_semantics.specs.Moves.{IsOpen, answered, asked, asking, counted, dispatch_ends, goes_line, is_counted, is_refused, main_ends, makes_cell}
-use Rattle.aom_semantics.specs.Moves.{needs_end, object_ends, stage_ends, step, step_instr, step_task, written, written_instr, written_task}
+use Rattle.aom_semantics.specs.Moves.{IsOpen, answered, asked, asking, dispatch_ends, is_counted, is_refused, main_ends, makes_cell}
+use Rattle.aom_semantics.specs.Moves.{needs_end, object_ends, stage_ends, step, step_instr, step_task, written, written_task}
 use Rattle.aom_semantics.specs.Places.{Cell, Elsewhere, Going, In_service, Object, Root, named}
 use Rattle.aom_semantics.specs.State.{A_mark, An_object, An_operation, Answered, Asks, Choice, Closing, Destroy, Dispatch, Dispatched, Frame, Item}
-use Rattle.aom_semantics.specs.State.{Object_left, Of_main, Of_object, Of_root, Of_server, Run, Seat, Stage, State, Task, Trapped, Unwind, resumed}
+use Rattle.aom_semantics.specs.State.{Object_left, Of_main, Of_object, Of_root, Of_server, Run, Seat, Stage, State, Task, Trapped, Unwind}
 use Rattle.aom_determinism.proofs.NamedCells.{cells_counted, cond_applied, emptied_kept, held_renamed, moved_renamed}
 use Rattle.aom_determinism.proofs.NamedCells.{named_renamed, requested_kept, tasks_counted, without_renamed}
 use Rattle.aom_determinism.proofs.Doing.{begun_renamed, dealt_renamed, destructed_renamed, does_renamed, needs_kept, told_renamed}
@@ -30,19 +29,12 @@ use Rattle.aom_determinism.specs.Names.{IsOneToOne, renamed, renamed_cells, rena
 use Rattle.aom_determinism.specs.Names.{renamed_object, renamed_outcome, renamed_seat, renamed_tasks, renamed_heard}
 
 module _ (names : ℕ → ℕ) (one_to_one : IsOneToOne names) where
-  resumed_renamed : (ts : List Task) → resumed (renamed_tasks names ts) ≡ renamed_tasks names (resumed ts)
-  resumed_renamed x = grind arith
-
   instr_renamed : (p : Image) (c : Choice) (fr : Frame) (ts : List Task) (s : State) (i : Option Instr) → step_instr p
       (renamed_choice names c) (renamed_frame names fr) (renamed_tasks names ts) (renamed names s) i ≡ renamed_outcome names (step_instr p c fr ts s i)
   instr_renamed p c fr ts s x =
       grind (arith, nat_tests, needs_kept names one_to_one p c fr ts s, does_renamed names one_to_one p c fr ts s, guarded_renamed names)
 
   -- ---- a cell goes
-
-  needs_gone_kept : (o : Object) (cs : List Cell) → needs_gone (without_queue (names o.name) (renamed_cells names cs)) (renamed_object names o) ≡ needs_gone (without_queue o.name cs) o
-  needs_gone_kept o cs =
-      grind (arith, nat_tests, without_queue_renamed names one_to_one o.name cs, emptied_kept names one_to_one, requested_kept names one_to_one)
 
   vanished_renamed : (o : Object) (ts : List Task) (s : State) → vanished (renamed_object names o) (renamed_tasks names ts) (renamed names s) ≡ renamed names (vanished o ts s)
   vanished_renamed o ts s = grind (
@@ -55,11 +47,10 @@ module _ (names : ℕ → ℕ) (one_to_one : IsOneToOne names) where
     queue_ended_renamed names,
     sessions_ended_renamed names,
     service_renamed names one_to_one s.cells o.name,
-    resumed_renamed ts,
   )
 
   gone_renamed : (o : Option Object) (ts : List Task) (s : State) → gone (option_map (renamed_object names) o) (renamed_tasks names ts) (renamed names s) ≡ renamed_outcome names (gone o ts s)
-  gone_renamed x ts s = grind (arith, nat_tests, needs_gone_kept, vanished_renamed, guarded_renamed names)
+  gone_renamed x ts s = grind (arith, nat_tests, without_queue_renamed, emptied_kept, requested_kept, vanished_renamed, guarded_renamed names)
 
   -- ---- the sessions of a server
 
@@ -69,25 +60,15 @@ module _ (names : ℕ → ℕ) (one_to_one : IsOneToOne names) where
   parting_renamed p o (Some x) below s =
       grind (arith, nat_tests, tasks_counted names below, moved_renamed names one_to_one x.place, begun_renamed names p x.object)
 
-  parting_from_renamed :
-      (p : Image) (o : Option Object) (below : List Task) (s : State) →
-      parting_from p (option_map (renamed_object names) o) (renamed_tasks names below) (renamed names s) ≡ renamed_outcome names (parting_from p o below s)
-  parting_from_renamed p x below s =
-      grind (arith, nat_tests, service_renamed names one_to_one s.cells, first_session_renamed names one_to_one s.cells, parting_renamed p)
-
   closing_renamed : (p : Image) (ts : List Task) (s : State) → closing p (renamed_tasks names ts) (renamed names s) ≡ renamed_outcome names (closing p ts s)
-  closing_renamed p x s = grind (arith, nat_tests, tasks_counted names, held_renamed names one_to_one s.cells, parting_from_renamed p)
+  closing_renamed p x s =
+      grind (arith, nat_tests, tasks_counted names, held_renamed names one_to_one s.cells, service_renamed, first_session_renamed, parting_renamed)
 
-  ended_by_renamed : (code : ℤ) (d : Dispatch) → ended_by code (renamed_dispatch names d) ≡ renamed_dispatch names (ended_by code d)
-  ended_by_renamed code x = grind arith
-
-  arrived_renamed :
-      (p : Image) (code : ℤ) (ts : List Task) (items : List Item) (s : State) →
+  arrived_renamed : (p : Image) (code : ℤ) (ts : List Task) (items : List Item) (s : State) →
       arrived p code (renamed_tasks names ts) items (renamed names s) ≡ renamed_outcome names (arrived p code ts items s)
-  arrived_renamed p code x items s = grind (arith, nat_tests, told_renamed names, ended_by_renamed code)
+  arrived_renamed p code x items s = grind (arith, nat_tests, told_renamed names)
 
-  unwound_renamed :
-      (p : Image) (code : ℤ) (ts : List Task) (s : State) (items : List Item) →
+  unwound_renamed : (p : Image) (code : ℤ) (ts : List Task) (s : State) (items : List Item) →
       unwound p code (renamed_tasks names ts) (renamed names s) items ≡ renamed_outcome names (unwound p code ts s items)
   unwound_renamed p code ts s [] = refl
   unwound_renamed p code ts s (An_object ∷ items) = grind (
@@ -148,7 +129,6 @@ module _ (names : ℕ → ℕ) (one_to_one : IsOneToOne names) where
 
   asked_kept : (p : Image) (ts : List Task) → asked p (renamed_tasks names ts) ≡ asked p ts
   asked_kept p (Run fr ∷ ts) = refl
-  asked_kept p [] = refl
   asked_kept p (Trapped ∷ ts) = refl
   asked_kept p _ = refl
 
@@ -158,27 +138,18 @@ module _ (names : ℕ → ℕ) (one_to_one : IsOneToOne names) where
   makes_kept : (p : Image) (ts : List Task) → makes_cell p (renamed_tasks names ts) ≡ makes_cell p ts
   makes_kept p x = grind arith
 
-  counted_renamed : (p : Image) (s : State) → counted p (renamed names s) ≡ renamed names (counted p s)
-  counted_renamed p s = rw (asked_kept p s.tasks, is_counted_kept s.tasks)
-
   pub moves_so : (p : Image) (c : Choice) (s : State) → step p (renamed_choice names c) (renamed names s) ≡ renamed_outcome names (step p c s)
-  moves_so p c s = grind (arith, nat_tests, counted_renamed p s, task_renamed p c)
-
-  gone_line_kept : (o : Option Object) → goes_line (option_map (renamed_object names) o) ≡ goes_line o
-  gone_line_kept x = grind arith
-
-  instr_writes : (fr : Frame) (ts : List Task) (s : State) (i : Option Instr) → written_instr (renamed_frame names fr) (renamed_tasks names ts) (renamed names s) i ≡ written_instr fr ts s i
-  instr_writes fr ts s x = grind (arith, nat_tests, register_renamed names one_to_one s.cells ts, message_line_kept names one_to_one s.cells)
+  moves_so p c s = grind (arith, nat_tests, task_renamed p c)
 
   task_writes : (p : Image) (s : State) (ts : List Task) → written_task p (renamed names s) (renamed_tasks names ts) ≡ written_task p s ts
   task_writes p s x = grind (
     arith,
     nat_tests,
-    instr_writes,
+    register_renamed,
+    message_line_kept,
     tasks_counted names,
     held_renamed names one_to_one s.cells,
     queue_lines_kept names one_to_one s.cells,
-    gone_line_kept,
     dispatch_lines_kept names one_to_one s.cells,
   )
 

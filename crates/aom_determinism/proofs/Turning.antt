@@ -3,16 +3,14 @@ use Rattle.std.proofs.lemmas.Bool.Decides.{nat_tests}
 use Rattle.std.proofs.Common.{arith, Bool, List, None, Option, Some, [], ap, refl, ℕ, ℤ, ◌∙◌, ◌∷◌, ◌≡◌, sym}
 use Rattle.std.specs.Prelude.{option_map}
 use Rattle.aom_image.specs.Image.{Image}
-use Rattle.aom_semantics.specs.Natives.{all_bereaved, bereaved}
 use Rattle.aom_semantics.specs.Places.{Asked, Cell, Close_of, Connect_of, Elsewhere, Going, In_service, Message_of, Object, Queued, Request, Session, held}
 use Rattle.aom_semantics.specs.State.{Seat, State}
-use Rattle.aom_semantics.specs.World.{Candidate, Completes, Completion, Cuts, Heard, Obeys, Environment, Picks, Timed, Turning, accepting}
-use Rattle.aom_semantics.specs.World.{among_ready, among_timers, answered_by, attended, attending, before_others, by_event, by_timer, delivers, dispatched}
-use Rattle.aom_semantics.specs.World.{due_of, first_due, first_ready, has_signal, message_words, nearer, next_event, next_time}
-use Rattle.aom_semantics.specs.World.{nothing_heard, parting_with, passes, picked, picks, polled, polls, pick_line, run_line, serves_first, signals, sooner}
-use Rattle.aom_semantics.specs.World.{taken_from, time_of, turn, turned, turning, with_request, written_by, written_turn, AnswersWell}
+use Rattle.aom_semantics.specs.World.{Candidate, Completes, Cuts, Heard, Obeys, Environment, Picks, Timed, Turning}
+use Rattle.aom_semantics.specs.World.{among_ready, answered_by, attended, attending, by_timer, delivers}
+use Rattle.aom_semantics.specs.World.{first_due, first_ready, has_signal, message_words, next_time}
+use Rattle.aom_semantics.specs.World.{nothing_heard, parting_with, picked, picks, pick_line, serves_first, sooner}
+use Rattle.aom_semantics.specs.World.{taken_from, turn, turned, turning, with_request, written_by, written_turn, AnswersWell}
 use Rattle.aom_transcript.specs.declared.event.Event.{Event}
-use Rattle.aom_transcript.specs.declared.event.TimedEvent.{TimedEvent}
 use Rattle.aom_determinism.proofs.NamedCells.{cell_at_renamed, cond_applied, cond_mapped, each_renamed, held_renamed}
 use Rattle.aom_determinism.proofs.NamedCells.{moved_renamed, requested_kept, set_request_renamed, word_field_kept}
 use Rattle.aom_determinism.proofs.Commands.{commanded_renamed, refusal_kept}
@@ -44,32 +42,20 @@ module _ (names : ℕ → ℕ) where
   sooner_renamed : (a : Timed) (b : Option Timed) → sooner (renamed_timed a) (option_map renamed_timed b) ≡ renamed_timed (sooner a b)
   sooner_renamed a b = grind arith
 
-  timers_renamed :
-      (o : Object) (r : Option Request) (others : Option Timed) →
-      among_timers (renamed_object names o) r (option_map renamed_timed others) ≡ option_map renamed_timed (among_timers o r others)
-  timers_renamed o r others = grind (arith, sooner_renamed)
-
   due_renamed : (cs : List Cell) → first_due (renamed_cells names cs) ≡ option_map renamed_timed (first_due cs)
   due_renamed [] = refl
-  due_renamed (c ∷ cs) = grind (arith, nat_tests, due_renamed cs, timers_renamed c.object c.request)
+  due_renamed (c ∷ cs) = grind (arith, nat_tests, due_renamed cs)
 
   -- ---- signals
 
-  signals_kept : (c : Cell) (r : Option Request) → signals (renamed_cell names c) r ≡ signals c r
-  signals_kept c r = grind (arith, more_kept names c.service.queue)
-
   signal_kept : (cs : List Cell) → has_signal (renamed_cells names cs) ≡ has_signal cs
   signal_kept [] = refl
-  signal_kept (c ∷ cs) = grind (arith, nat_tests, signals_kept c c.request, signal_kept cs)
+  signal_kept (c ∷ cs) = grind (arith, nat_tests, signal_kept cs)
 
-  before_renamed : (a : Candidate) (b : Option Candidate) → before_others (renamed_candidate a) (option_map renamed_candidate b) ≡ renamed_candidate (before_others a b)
-  before_renamed a b = grind arith
-
-  among_renamed :
-      (c : Cell) (r : Option Request) (others : Option Candidate) →
+  among_renamed : (c : Cell) (r : Option Request) (others : Option Candidate) →
       among_ready (renamed_cell names c) r (option_map renamed_candidate others) ≡ option_map renamed_candidate (among_ready c r others)
   among_renamed c None others = refl
-  among_renamed c (Some r) others = search (arith, nat_tests, more_kept names c.service.queue, before_renamed, cond_mapped)
+  among_renamed c (Some r) others = search (arith, nat_tests, more_kept names c.service.queue, cond_mapped)
 
   ready_renamed : (cs : List Cell) → first_ready (renamed_cells names cs) ≡ option_map renamed_candidate (first_ready cs)
   ready_renamed [] = refl
@@ -77,41 +63,24 @@ module _ (names : ℕ → ℕ) where
 
   -- ---- what the turn does
 
-  due_kept : (x : Option Timed) → due_of (option_map renamed_timed x) ≡ due_of x
-  due_kept x = grind arith
-
-  time_kept : (outside : Environment) (s : State) → next_time outside (renamed names s) ≡ next_time outside s
-  time_kept outside s = ap (λ d. nearer d (time_of (next_event outside s))) (ap due_of (due_renamed s.cells) ∙ due_kept (first_due s.cells))
-
-  passes_renamed : (next : Option ℕ) → passes next ≡ renamed_turning (passes next)
-  passes_renamed x = grind arith
-
   picks_renamed : (signal : Bool) (ready : Option Candidate) (next : Option ℕ) → picks signal (option_map renamed_candidate ready) next ≡ renamed_turning (picks signal ready next)
-  picks_renamed x ready next = grind (arith, nat_tests, passes_renamed next)
+  picks_renamed x ready next = grind (arith, nat_tests)
 
   -- of a state where all natives are polled
   abbrev picking : Environment → State → Turning
   picking outside s = picks (has_signal s.cells) (first_ready s.cells) (next_time outside s)
 
   picking_renamed : (outside : Environment) (s : State) → picking outside (renamed names s) ≡ renamed_turning (picking outside s)
-  picking_renamed outside s = grind (arith, nat_tests, signal_kept s.cells, ready_renamed s.cells, time_kept outside s, picks_renamed)
-
-  polls_renamed : (n : Option ℕ) (answer : Option Completion) (after : Turning) → polls n answer (renamed_turning after) ≡ renamed_turning (polls n answer after)
-  polls_renamed x answer after = grind arith
+  picking_renamed outside s = grind (arith, nat_tests, signal_kept s.cells, ready_renamed s.cells, due_renamed, picks_renamed)
 
   delivers_renamed : (outside : Environment) (name : ℕ) (s : State) (e : Event) → delivers outside (names name) s e ≡ renamed_turning (delivers outside name s e)
   delivers_renamed outside name s x = grind (arith, nat_tests, cond_applied)
-
-  by_event_renamed :
-      (outside : Environment) (name : ℕ) (s : State) (e : Option TimedEvent) (after : Turning) →
-      by_event outside (names name) s e (renamed_turning after) ≡ renamed_turning (by_event outside name s e after)
-  by_event_renamed outside name s x after = grind (arith, nat_tests, delivers_renamed outside name s, cond_applied)
 
   by_timer_renamed : (s : State) (x : Option Timed) (after : Turning) → by_timer s (option_map renamed_timed x) (renamed_turning after) ≡ renamed_turning (by_timer s x after)
   by_timer_renamed s x after = grind (arith, nat_tests, cond_applied)
 
   pub turning_renamed : (outside : Environment) (heard : Heard) (s : State) → turning outside (renamed_heard names heard) (renamed names s) ≡ renamed_turning (turning outside heard s)
-  turning_renamed outside heard s = grind (arith, nat_tests, picking_renamed, polls_renamed, by_event_renamed, due_renamed, by_timer_renamed, cond_applied)
+  turning_renamed outside heard s = grind (arith, nat_tests, picking_renamed, due_renamed, by_timer_renamed, cond_applied)
 
   polling_renamed : (t : Turning) → is_polling (renamed_turning t) ≡ is_polling t
   polling_renamed x = grind arith
@@ -127,33 +96,24 @@ module _ (names : ℕ → ℕ) (one_to_one : IsOneToOne names) where
   request_renamed : (f : Request → Request) (o : Object) (cs : List Cell) → with_request f (renamed_object names o) (renamed_cells names cs) ≡ renamed_cells names (with_request f o cs)
   request_renamed f o cs = grind (arith, nat_tests, requested_kept names one_to_one cs o.name, set_request_renamed names one_to_one o.name)
 
-  dispatched_renamed : (m : Option ℕ) (x : Seat) (s : State) → dispatched m (renamed_seat names x) (renamed names s) ≡ renamed_outcome names (dispatched m x s)
-  dispatched_renamed x y s = grind (arith, nat_tests, request_renamed)
-
   -- ---- the dispatch of a server
 
   taken_from_renamed : (n : ℕ) (s : State) → taken_from (names n) (renamed names s) ≡ renamed names (taken_from n s)
   taken_from_renamed n s = ap (λ cs. record (taken_from (names n) (renamed names s)) { cells = cs }) (takes_renamed names one_to_one n s.cells)
 
-  accepting_renamed : (m : Option ℕ) (x : Seat) (c : ℕ) (s : State) → accepting m (renamed_seat names x) c (renamed names s) ≡ renamed_outcome names (accepting m x c s)
-  accepting_renamed x y c s = grind arith
-
   words_kept : (cs : List Cell) (m : ℕ) → message_words (renamed_cells names cs) (names m) ≡ message_words cs m
   words_kept cs m = grind (arith, nat_tests, word_field_kept)
 
-  attending_renamed :
-      (method : Option ℕ) (x : Seat) (c : ℕ) (o : Object) (m : ℕ) (s : State) →
+  attending_renamed : (method : Option ℕ) (x : Seat) (c : ℕ) (o : Object) (m : ℕ) (s : State) →
       attending method (renamed_seat names x) c (renamed_object names o) (names m) (renamed names s) ≡ renamed_outcome names (attending method x c o m s)
   attending_renamed None x c o m s = refl
   attending_renamed (Some method) x c o m s = rw (words_kept s.cells m, moved_renamed names one_to_one (Elsewhere (Queued x.object.name m)) (Elsewhere In_service) s.cells)
 
-  attended_renamed :
-      (p : Image) (x : Seat) (c : ℕ) (o : Option Object) (m : ℕ) (s : State) →
+  attended_renamed : (p : Image) (x : Seat) (c : ℕ) (o : Option Object) (m : ℕ) (s : State) →
       attended p (renamed_seat names x) c (option_map (renamed_object names) o) (names m) (renamed names s) ≡ renamed_outcome names (attended p x c o m s)
   attended_renamed p x c y m s = grind (arith, nat_tests, attending_renamed)
 
-  parting_renamed :
-      (p : Image) (x : Seat) (c : ℕ) (o : Option Object) (s : State) →
+  parting_renamed : (p : Image) (x : Seat) (c : ℕ) (o : Option Object) (s : State) →
       parting_with p (renamed_seat names x) c (option_map (renamed_object names) o) (renamed names s) ≡ renamed_outcome names (parting_with p x c o s)
   parting_renamed p x c y s =
       grind (arith, nat_tests, moved_renamed names one_to_one (Elsewhere (Session x.object.name c)) (Going 1) s.cells, begun_renamed names p)
@@ -165,30 +125,23 @@ module _ (names : ℕ → ℕ) (one_to_one : IsOneToOne names) where
   serves_renamed : (p : Image) (x : Seat) (es : List Asked) (s : State) →
       serves_first p (renamed_seat names x) (renamed_queue names es) (renamed names s) ≡ renamed_outcome names (serves_first p x es s)
   serves_renamed p x [] s = refl
-  serves_renamed p x (Connect_of c ∷ es) s = grind (arith, nat_tests, taken_from_renamed x.object.name s, accepting_renamed)
+  serves_renamed p x (Connect_of c ∷ es) s = grind (arith, nat_tests, taken_from_renamed x.object.name s)
   serves_renamed p x (Message_of c m ∷ es) s =
       grind (arith, nat_tests, session_renamed x.object.name c s.cells, taken_from_renamed x.object.name s, attended_renamed p x c)
   serves_renamed p x (Close_of c ∷ es) s =
       grind (arith, nat_tests, session_renamed x.object.name c s.cells, taken_from_renamed x.object.name s, parting_renamed p x c)
 
   picked_renamed : (p : Image) (x : Seat) (s : State) → picked p (renamed_seat names x) (renamed names s) ≡ renamed_outcome names (picked p x s)
-  picked_renamed p x s = grind (arith, nat_tests, service_renamed names one_to_one s.cells x.object.name, serves_renamed p x, dispatched_renamed, cond_applied)
+  picked_renamed p x s = grind (arith, nat_tests, service_renamed names one_to_one s.cells x.object.name, serves_renamed p x, request_renamed, cond_applied)
 
   -- a native completes what a cell has outstanding, or is killed
-  answered_renamed :
-      (p : Image) (n : ℕ) (c : Option Cell) (code : ℤ) (s : State) →
+  answered_renamed : (p : Image) (n : ℕ) (c : Option Cell) (code : ℤ) (s : State) →
       answered_by p n (option_map (renamed_cell names) c) code (renamed names s) ≡ renamed_outcome names (answered_by p n c code s)
   answered_renamed p n None code s = refl
   answered_renamed p n (Some c) code s = grind (arith, nat_tests, request_renamed, guarded_renamed names)
 
-  polled_renamed : (p : Image) (n : ℕ) (answer : Option Completion) (s : State) → polled p n answer (renamed names s) ≡ renamed_outcome names (polled p n answer s)
-  polled_renamed p n x s = grind (arith, nat_tests, cell_at_renamed names s.cells, answered_renamed p n)
-
-  bereaved_renamed : (p : Image) (n : ℕ) (cs : List Cell) → all_bereaved p n (renamed_cells names cs) ≡ renamed_cells names (all_bereaved p n cs)
-  bereaved_renamed p n cs = each_renamed names (bereaved p n) (λ c. refl) cs
-
   turned_renamed : (p : Image) (s : State) (t : Turning) → turned p (renamed names s) (renamed_turning names t) ≡ renamed_outcome names (turned p s t)
-  turned_renamed p s x = grind (arith, nat_tests, request_renamed, bereaved_renamed, polled_renamed, picked_renamed, commanded_renamed)
+  turned_renamed p s x = grind (arith, nat_tests, request_renamed, each_renamed, cell_at_renamed, answered_renamed, picked_renamed, commanded_renamed)
 
   pub turns_so : (p : Image) (outside : Environment) (heard : Heard) (s : State) → turn p outside (renamed_heard names heard) (renamed names s) ≡ renamed_outcome names (turn p outside heard s)
   turns_so p outside heard s = ap (turned p (renamed names s)) (turning_renamed names outside heard s) ∙ turned_renamed p s (turning outside heard s)
@@ -197,19 +150,15 @@ module _ (names : ℕ → ℕ) (one_to_one : IsOneToOne names) where
   answers_kept : (p : Image) (s : State) (t : Turning) → AnswersWell p s t → AnswersWell p (renamed names s) (renamed_turning names t)
   answers_kept p s x well = grind (arith, nat_tests, cell_at_renamed names s.cells)
 
-  pub answers_so :
-      (p : Image) (outside : Environment) (heard : Heard) (s : State) → AnswersWell p s (turning outside heard s) →
+  pub answers_so : (p : Image) (outside : Environment) (heard : Heard) (s : State) → AnswersWell p s (turning outside heard s) →
       AnswersWell p (renamed names s) (turning outside (renamed_heard names heard) (renamed names s))
   answers_so p outside heard s well = grind (arith, nat_tests, turning_renamed names outside heard s, answers_kept p s)
 
   -- ---- what it writes
 
-  line_kept : (s : State) (o : Object) → run_line (renamed names s) (renamed_object names o) ≡ run_line s o
-  line_kept s o = grind (arith, nat_tests, requested_kept names one_to_one s.cells o.name)
-
   -- of an object, or of a server for the first of its queue
   pick_kept : (p : Image) (s : State) (o : Object) → pick_line p (renamed names s) (renamed_object names o) ≡ pick_line p s o
-  pick_kept p s o = grind (arith, nat_tests, service_renamed names one_to_one s.cells o.name, serve_kept names s.rest.clock o.thing, line_kept s o)
+  pick_kept p s o = grind (arith, nat_tests, service_renamed names one_to_one s.cells o.name, serve_kept names s.rest.clock o.thing, requested_kept)
 
   by_kept : (p : Image) (s : State) (t : Turning) → written_by p (renamed names s) (renamed_turning names t) ≡ written_by p s t
   by_kept p s (Picks x) = pick_kept p s x.object

@@ -1,12 +1,11 @@
 -- Each turn tells what its kill or its completion does: what a timer completes no native serves, and what is dispatched is completed before.
 use Rattle.std.proofs.lemmas.Bool.Decides.{nat_tests}
 use Rattle.std.proofs.Common.{Bool, List, None, Option, Some, [], ap, cond, false, refl, subst, sym, true, ℕ, ℤ, ◌&&◌, ◌==◌, ◌∙◌, ◌∷◌, ◌≡◌, pos, arith}
-use Rattle.std.proofs.lemmas.Bool.{not-true, and_from, and_parts, and_right, eqb-true, or_from}
+use Rattle.std.proofs.lemmas.Bool.{not-true, and_from, and_parts, and_right, or_from}
 use Rattle.std.proofs.lemmas.List.Folds.{list_any-append}
 use Rattle.std.specs.Ordering.{int_eq}
-use Rattle.std.specs.Prelude.{not, ◌||◌}
+use Rattle.std.specs.Prelude.{not}
 use Rattle.aom_image.specs.Image.{Image}
-use Rattle.aom_image.specs.declared.class.ClassKind.{ClassKind}
 use Rattle.aom_image.specs.declared.method.Thing.{Thing}
 use Rattle.aom_determinism.proofs.Calls.{asked_same, still, taken_off}
 use Rattle.aom_determinism.proofs.Cells.{unchanged_moved, unchanged_along, Unchanged, meets_asked, native_served, owes_asked, served_so, unchanged_asked}
@@ -20,9 +19,8 @@ use Rattle.aom_safety.proofs.Turned.{handles, accepts, attends, parts as by_part
 use Rattle.aom_semantics.specs.Enlisted.{completed_with, is_active, on_request, pending, recorded, taken_up, thing_kind, timed_out}
 use Rattle.aom_roles.specs.Classes.{sessions_in, sessions_of}
 use Rattle.aom_safety.specs.Kept.{ClientsFit}
-use Rattle.aom_semantics.specs.Natives.{all_bereaved, is_dead, is_outstanding_at, is_owed, is_served_by, native_of, terminated, terminated_request}
-use Rattle.aom_semantics.specs.Places.{Cell, Request, Timer, requested}
-use Rattle.aom_safety.specs.Requests.{Known, Suits}
+use Rattle.aom_semantics.specs.Natives.{all_bereaved, is_outstanding_at, is_owed, is_served_by, native_of, terminated, terminated_request}
+use Rattle.aom_semantics.specs.Places.{Cell, Request, requested}
 use Rattle.aom_semantics.specs.State.{CompletedTwice, Goes, Inside, State}
 use Rattle.aom_safety.specs.WellTyped.{WellTyped}
 use Rattle.aom_semantics.specs.World.{taken_from, heard_one, Obeys, AnswersWell, Candidate, Completes, Kills, Picks, Polls, Strays}
@@ -36,18 +34,12 @@ use Rattle.aom_determinism.proofs.Services.{unchanged_served, unchanged_commande
 served_there : (p : Image) (n k : ℕ) (t : Thing) → is_served_by p n t ≡ true → is_served_by p k t ≡ (n == k)
 served_there p n k t e = served_so p k n t (native_served p n t e)
 
-unserved_there : (p : Image) (n k : ℕ) (t : Thing) → is_served_by p n t ≡ false → (n == k) ≡ true → is_served_by p k t ≡ false
-unserved_there p n k t e same = ap (λ j. is_served_by p j t) (sym (eqb-true n k same)) ∙ e
-
 -- what no one has there is as it was elsewhere
 bereft : (p : Image) (n k : ℕ) (t : Thing) (v : Bool) → (is_served_by p k t && cond (is_served_by p n t) false v) ≡ (not (n == k) && (is_served_by p k t && v))
-bereft p n k t v = grind (arith, served_there p n k t, unserved_there p n k t)
+bereft p n k t v = grind (arith, served_there p n k t)
 
 bereaved_owed : (b : Bool) (r : Option Request) → is_owed (cond b (terminated_request r) r) ≡ cond b false (is_owed r)
 bereaved_owed b r = grind (arith, completed_with_owed terminated refl r)
-
-bereaved_session : (b session : Bool) → (not b && session) ≡ cond b false session
-bereaved_session b session = grind arith
 
 owes_bereaved : (p : Image) (n : ℕ) (cs : List Cell) (k m : ℕ) → owes p (all_bereaved p n cs) k m ≡ (not (n == k) && owes p cs k m)
 owes_bereaved p n [] k m = sym (and_right (not (n == k)) false refl)
@@ -55,20 +47,14 @@ owes_bereaved p n (c ∷ cs) k m = grind (arith, owes_bereaved p n cs k m, berea
 
 meets_bereaved : (p : Image) (n : ℕ) (cs : List Cell) (k m : ℕ) → meets p (all_bereaved p n cs) k m ≡ (not (n == k) && meets p cs k m)
 meets_bereaved p n [] k m = sym (and_right (not (n == k)) false refl)
-meets_bereaved p n (c ∷ cs) k m = grind (arith, meets_bereaved p n cs k m, bereaved_session (is_served_by p n c.object.thing) c.session, bereft p n k c.object.thing c.session)
+meets_bereaved p n (c ∷ cs) k m = grind (arith, meets_bereaved p n cs k m, bereft p n k c.object.thing c.session)
 
 -- ---- a timer is due
 
 -- a request at a native has no timer
-untimed_there : (k : Option ClassKind) (n : ℕ) (known : Known) (r : Request) (t : Timer) → native_of k ≡ Some n → r.timer ≡ Some t → Suits k known (Some r) → ⊥
-untimed_there k n known r t native timed suits = grind arith
-
 module _ (p : Image) (t : Typing) (s : State) (w : WellTyped p t s) where
-  due_unserved : (x : Timed) → IsDue s.cells x → native_of (thing_kind p x.object.thing) ≡ None
-  due_unserved x due = grind (arith, nat_tests, untimed_there)
-
   due_same : (x : Timed) → IsDue s.cells x → Unchanged p s.cells (with_request timed_out x.object s.cells)
-  due_same x due = unchanged_asked p s.cells x.object (on_request timed_out (requested s.cells x.object.name)) (λ k. still p (pos 0) s x.object due.1.lives (due_unserved x due) k _ _)
+  due_same x due = unchanged_asked p s.cells x.object (on_request timed_out (requested s.cells x.object.name)) (λ k. still p (pos 0) s x.object due.1.lives (grind arith) k _ _)
 
   -- ---- an object is dispatched
 
@@ -87,13 +73,9 @@ module _ (p : Image) (t : Typing) (s : State) (w : WellTyped p t s) where
   picked_same : (y : Candidate) → ClientsFit p s.clients s.cells → IsCell s.cells y.seat.object (Some y.request) → GoesNow s.cells y → Unchanged p s.cells (with_request taken_up y.seat.object s.cells)
   picked_same y fit cell now = go (is_server p y.seat.object.thing) refl
     where
-      or_right_false : (b : Bool) → (b || false) ≡ b
-      or_right_false true = refl
-      or_right_false false = refl
-
       go : (b : Bool) → is_server p y.seat.object.thing ≡ b → Unchanged p s.cells (with_request taken_up y.seat.object s.cells)
       go true server = unchanged_asked p s.cells y.seat.object _ (λ k. still p (pos 0) s y.seat.object cell.lives (server_unserved y.seat.object.thing server) k _ _)
-      go false plain = ready_same y cell (grind (arith, nat_tests, or_right_false))
+      go false plain = ready_same y cell (grind (arith, nat_tests))
 
   -- an object is dispatched, or a server with the first of its queue
   pick_same :
@@ -176,16 +158,8 @@ module _ (p : Image) (t : Typing) (s u : State) (w : WellTyped p t s) where
 -- ---- sessions hold after it
 
 module _ (p : Image) (s : State) (holds : SessionsHold p s) where
-  met_turned : (k : Turning) (n m : ℕ) → owes_turned s.cells k n m (owes p s.cells n m) ≡ true → meets_turned k n (meets p s.cells n m) ≡ true
-  met_turned (Kills x) n m e = let both = and_parts (not (x == n)) (owes p s.cells n m) e in and_from (not (x == n)) (meets p s.cells n m) both.0 (holds.met n m both.1)
-  met_turned (Polls x (Some a)) n m e = holds.met n m (and_parts (not ((x == n) && has_name (cell_at s.cells a.cell) m)) (owes p s.cells n m) e).1
-  met_turned _ n m e = holds.met n m e
-
-  lives_turned : (k : Turning) (n m : ℕ) → meets_turned k n (meets p s.cells n m) ≡ true → is_dead (killed_turned k s.killed) n ≡ false
-  lives_turned x n m e = grind (arith, nat_tests, meets, list_any-append, or_from, not-true)
-
   pub sessions_turned : (u : State) (k : Turning) → Tale p s u k → SessionsHold p u
-  sessions_turned u k tale = search (arith, nat_tests, met_turned k, lives_turned k)
+  sessions_turned u k tale = search (arith, nat_tests, meets, list_any-append, or_from, not-true)
 
 pub turns_kill_or_complete : TurnsKillOrComplete
 turns_kill_or_complete p t outside heard s u w well fit holds e =

@@ -1,11 +1,10 @@
 -- Two runs, stage by stage, where each stage is a move or a turn: after as many stages they have written the same, and are the same but for names.
 use Rattle.std.proofs.lemmas.Bool.Decides.{nat_tests}
-use Rattle.std.proofs.Common.{List, None, Option, Some, [], ap, append-nil, append_assoc, arith, inl, inr}
+use Rattle.std.proofs.Common.{List, None, Some, [], ap, append-nil, append_assoc, arith, inl, inr}
 use Rattle.std.proofs.Common.{refl, subst, suc, sym, true, zero, ℕ, ⊎_elim, ◌∙◌, ◌∷◌, ◌≡◌, ◌<◌, ◌≤◌}
 use Rattle.std.proofs.lemmas.Bool.{cases_eq, cases_lt}
 use Rattle.std.specs.Prelude.{◌++◌, ◌⊎◌}
 use Rattle.aom_image.specs.Image.{Image}
-use Rattle.aom_classes.specs.Roles.{main_of}
 use Rattle.aom_rules.specs.Typing.{IsTyped, Typing}
 use Rattle.aom_safety.proofs.Booting.{boot_keeps}
 use Rattle.aom_safety.proofs.ClientsKeep.{clients_keep}
@@ -15,7 +14,7 @@ use Rattle.aom_safety.specs.Laws.{IsWired}
 use Rattle.aom_semantics.specs.Moves.{IsOpen, step, written}
 use Rattle.aom_semantics.specs.State.{Choice, Goes, Outcome, State}
 use Rattle.aom_semantics.specs.Places.{named}
-use Rattle.aom_semantics.specs.World.{Heard, IsBetween, IsBusy, Reaches, Run_of, begins, boot_state, main_tasks}
+use Rattle.aom_semantics.specs.World.{Heard, IsBetween, IsBusy, Reaches, Run_of, begins, boot_state}
 use Rattle.aom_semantics.specs.World.{moves, nothing_heard, turn, turning, turns, written_turn, Environment}
 use Rattle.aom_transcript.specs.declared.line.Ending.{Ending}
 use Rattle.aom_transcript.specs.declared.line.Line.{Line}
@@ -23,7 +22,7 @@ use Rattle.aom_determinism.proofs.Staying.{all_stays_there}
 use Rattle.aom_determinism.specs.There.{AllThere}
 use Rattle.aom_determinism.proofs.Alike.{move_alike, turn_alike, turn_writes_alike, writes_alike}
 use Rattle.aom_determinism.specs.Determined.{Begins, TextIsDetermined}
-use Rattle.aom_determinism.specs.Names.{AlikeOutcomes, AreAlike, renamed_tasks}
+use Rattle.aom_determinism.specs.Names.{AlikeOutcomes, AreAlike}
 use Rattle.aom_determinism.specs.Hearing.{Follows, Oracle, is_heard, is_polling, stages}
 use Rattle.aom_determinism.proofs.Hearing.{heard_kept}
 use Rattle.aom_determinism.proofs.Turning.{polling_kept}
@@ -74,12 +73,6 @@ module _ (p : Image) (t : Typing) (outside : Environment) (wired : IsWired p) (t
   -- ---- as many stages
 
   -- what is at hand in one is at hand in the other
-  busy_idle : (v w : State) → AreAlike v w → IsBusy v → w.tasks ≡ [] → ⊥
-  busy_idle v w alike busy idle = grind (arith, nat_tests)
-
-  idle_busy : (v w : State) → AreAlike v w → v.tasks ≡ [] → IsBusy w → ⊥
-  idle_busy v w alike idle busy = grind (arith, nat_tests)
-
   goes_alike : (o o' : Outcome) (s u : State) → o ≡ Goes s → o' ≡ Goes u → AlikeOutcomes o o' → AreAlike s u
   goes_alike o o' s u e e' h = subst (λ x. AlikeOutcomes (Goes s) x) e' (subst (λ x. AlikeOutcomes x o') e h)
 
@@ -89,28 +82,21 @@ module _ (p : Image) (t : Typing) (outside : Environment) (wired : IsWired p) (t
       one.choice.answer ≡ other.choice.answer
   hears_alike n v w s u new new' alike one other heard = grind (arith, nat_tests, heard, heard_kept p alike.names v.tasks)
 
-  polls_alike : (n : ℕ) (v w s u : State) (new new' : List Line) → AreAlike v w →
-      (one : Turned n v s new) (other : Turned n w u new') → is_polling (turning outside nothing_heard v) ≡ true → one.heard.completion ≡ other.heard.completion
-  polls_alike n v w s u new new' alike one other polled = grind (arith, nat_tests, polling_kept alike.names outside v)
-
   stage_alike : (n : ℕ) (v w s u : State) (new new' : List Line) → WellKept p t w → AllThere w → AreAlike v w → Stage n v s new → Stage n w u new' → (new ≡ new') × AreAlike s u
   stage_alike n v w s u new new' k there alike (inl one) (inl other) = (
     one.lines ∙ writes_alike p v w alike ∙ sym other.lines,
     goes_alike _ _ s u one.goes other.goes (move_alike p t outside.refused one.choice other.choice v w k.0 k.1 there alike one.open_so other.open_so (hears_alike n v w s u new new' alike one other)),
   )
-  stage_alike n v w s u new new' k there alike (inl one) (inr other) = absurd (busy_idle v w alike one.busy other.between.idle)
-  stage_alike n v w s u new new' k there alike (inr one) (inl other) = absurd (idle_busy v w alike one.between.idle other.busy)
+  stage_alike n v w s u new new' k there alike (inl one) (inr other) = absurd (grind arith)
+  stage_alike n v w s u new new' k there alike (inr one) (inl other) = absurd (grind arith)
   stage_alike n v w s u new new' k there alike (inr one) (inr other) = (
     one.lines ∙ turn_writes_alike p outside v w alike ∙ sym other.lines,
-    goes_alike _ _ s u one.goes other.goes (turn_alike p t outside one.heard other.heard v w k.0 k.1 there alike one.free other.free (polls_alike n v w s u new new' alike one other)),
+    goes_alike _ _ s u one.goes other.goes (turn_alike p t outside one.heard other.heard v w k.0 k.1 there alike one.free other.free (grind (arith, nat_tests, polling_kept))),
   )
 
   -- nothing in the boot state has a name
   booted : AreAlike (boot_state p) (boot_state p)
-  booted = record { names = λ n. n; one_to_one = λ n m e. e; same = ap (λ ts. record (boot_state p) { tasks = ts }) (go (main_of p)) }
-    where
-      go : (m : Option ℕ) → main_tasks m ≡ renamed_tasks (λ n. n) (main_tasks m)
-      go x = grind arith
+  booted = record { names = λ n. n; one_to_one = λ n m e. e; same = ap (λ ts. record (boot_state p) { tasks = ts }) (grind arith) }
 
   together : (n : ℕ) (lines others : List Line) (s u : State) → After n lines s → After n others u → (lines ≡ others) × AreAlike s u
   together zero lines others s u a b = (a.0 ∙ sym b.0, subst (λ x. AreAlike x u) (sym a.1) (subst (λ x. AreAlike (boot_state p) x) (sym b.1) booted))
@@ -132,8 +118,7 @@ module _ (p : Image) (t : Typing) (outside : Environment) (wired : IsWired p) (t
       let none : zero ≡ n = omega arith in
       record { first = lines; at = s; after = subst (λ k. After k lines s) none a; begins_it = ([], sym (append-nil lines)) }
   earlier n (suc m) lines s le a = ⊎_elim
-      (λ e. record { first = lines; at = s; after = subst (λ k. After k lines s) (sym e) a; begins_it = ([], sym (append-nil lines)) })
-      (λ ne.
+      (λ e. record { first = lines; at = s; after = subst (λ k. After k lines s) (sym e) a; begins_it = ([], sym (append-nil lines)) }) (λ ne.
       let h = earlier n m a.0 a.1 (omega arith) a.3 in
       record { first = h.first; at = h.at; after = h.after; begins_it = (h.begins_it.0 ++ a.2, a.6 ∙ ap (λ x. x ++ a.2) h.begins_it.1 ∙ append_assoc h.first h.begins_it.0 a.2) })
       (cases_eq n (suc m))
@@ -172,17 +157,14 @@ module _ (p : Image) (t : Typing) (outside : Environment) (wired : IsWired p) (t
   whole lines others s u ending one other hears follows =
       let a = staged one.reaches hears in
       let b = staged other follows in
-      ⊎_elim
-      (λ lt. absurd (never_past (stages one.reaches) (stages other) lines others s u ending one lt a b))
-      (λ le. begins_so (stages other) (stages one.reaches) others lines u s le b a)
-      (cases_lt (stages one.reaches) (stages other))
+      ⊎_elim (λ lt. absurd (never_past (stages one.reaches) (stages other) lines others s u ending one lt a b))
+      (λ le. begins_so (stages other) (stages one.reaches) others lines u s le b a) (cases_lt (stages one.reaches) (stages other))
 
   same_length : (n m : ℕ) (lines others : List Line) (s u : State) (ending last : Ending) →
       Run_of p outside lines s ending → Run_of p outside others u last → After n lines s → After m others u → n ≡ m
   same_length n m lines others s u ending last one other a b = grind (arith, nat_tests, never_past, lines, cases_eq, cases_lt)
 
-  ended :
-      (lines others : List Line) (s u : State) (ending last : Ending) (one : Run_of p outside lines s ending) (other : Run_of p outside others u last) →
+  ended : (lines others : List Line) (s u : State) (ending last : Ending) (one : Run_of p outside lines s ending) (other : Run_of p outside others u last) →
       Follows oracle one.reaches → Follows oracle other.reaches → (lines ≡ others) × (ending ≡ last) × AreAlike s u
   ended lines others s u ending last one other hears follows =
       let a = staged one.reaches hears in

@@ -5,7 +5,6 @@ use Rattle.std.proofs.lemmas.Bool.{eq-eqb, eqb-true, true≢false}
 use Rattle.std.specs.Prelude.{◌||◌}
 use Rattle.aom_image.specs.Image.{Image}
 use Rattle.aom_clients.specs.Nodes.{is_connecting_at}
-use Rattle.aom_clients.specs.Table.{at_gone}
 use Rattle.aom_clients.specs.declared.client.Client.{Client}
 use Rattle.aom_safety.proofs.ClientsGone.{queue_ended_at, sessions_ended_at}
 use Rattle.aom_safety.proofs.Dropping.{dropped, held_dropped, place_dropped, queue_dropped, tidy_dropped}
@@ -64,19 +63,15 @@ module _ (p : Image) (clients : List Client) (cs : List Cell) (tidy : Tidy cs) (
 
     -- ---- its clients
 
-    gone_connecting : (n : ℕ) (x : Client) → is_connecting_at n (at_gone x) ≡ true → is_connecting_at n x ≡ true
-    gone_connecting n x e = grind arith
-
     abbrev then : List Client
     then = sessions_ended (service_of cs o.name).sessions (queue_ended (service_of cs o.name).queue clients)
 
     -- who connects then connected before, and not to it
     connected_before : (n c : ℕ) → is_connecting_at n (client_at then c) ≡ true → (is_connecting_at n (client_at clients c) ≡ true) × (waits cs o.name c ≡ false)
-    connected_before n c e = grind (arith, nat_tests, sessions_ended_at, queue_ended_at, gone_connecting n)
+    connected_before n c e = grind (arith, nat_tests, sessions_ended_at, queue_ended_at)
 
     -- where it is not the server that is dispatched
-    pub there_vanished :
-        (d : Option Dispatch) → ((n c : ℕ) → accepts n c d ≡ true → (o.name == n) ≡ false) → AreThere clients cs d →
+    pub there_vanished : (d : Option Dispatch) → ((n c : ℕ) → accepts n c d ≡ true → (o.name == n) ≡ false) → AreThere clients cs d →
         AreThere then (each_unslotted (service_of cs o.name).sessions (without (Going k) (without_queue o.name cs))) d
     there_vanished d apart there = record { asked = asked; serves = at_place d there.serves }
       where
