@@ -131,8 +131,7 @@ module _ (p : Image) (t : Typing) (c : Choice) (s : State) (fr : Frame) (sh : Sh
         carried = keep_fits p (seen cs) (seen cs1) k (changed (changed k q Null) to (k q)) q to
             (λ r. held_moved cs q to r free) (requested_moved cs q to) (λ r. refl) (λ r y e fresh f. refl) at_hand.good.fits r
 
-        go :
-            (b : Bool) → same_place to r ≡ b → Fits p (seen cs1) (held cs1 r) (cond b (k q) (cond (same_place q r) Null (k r))) →
+        go : (b : Bool) → same_place to r ≡ b → Fits p (seen cs1) (held cs1 r) (cond b (k q) (cond (same_place q r) Null (k r))) →
             Fits p (seen cs1) (held cs1 r) (claim p (declared p cs2) (Dispatching (Of_server x client Accepted) seats ∷ ls) r)
         go true e f =
             let its_claim : claim p (declared p cs2) (Dispatching (Of_server x client Accepted) seats ∷ ls) to ≡ Own thing Ready =

@@ -24,8 +24,7 @@ is_order_of : (order : ℕ) (o : Option ℕ) → o ≡ Some order → is_order o
 is_order_of order o e = ap (is_order order) e ∙ eq-eqb order order refl
 
 -- where one waits for that order, it alone is completed
-pub redeems_one :
-    (cs : List Cell) → TokensApart cs → (code : ℤ) (n k : ℕ) → awaited (requested cs n) ≡ Some k →
+pub redeems_one : (cs : List Cell) → TokensApart cs → (code : ℤ) (n k : ℕ) → awaited (requested cs n) ≡ Some k →
     (x : ℕ) → redeemed_request k code (requested cs x) ≡ cond (x == n) (on_request (redeemed_with code) (requested cs n)) (requested cs x)
 redeems_one cs apart code n k waits x = grind (arith, nat_tests, eqb-true x n, is_order_of k, eq-eqb x n, waits_for k)
 
@@ -45,8 +44,7 @@ module _ (cs : List Cell) (apart : TokensApart cs) (live_at object_at : ℕ → 
 
 -- ---- orders go, and none comes
 
-pub apart_fewer :
-    (cs cs' : List Cell) → ((n k : ℕ) → awaited (requested cs' n) ≡ Some k → awaited (requested cs n) ≡ Some k) →
+pub apart_fewer : (cs cs' : List Cell) → ((n k : ℕ) → awaited (requested cs' n) ≡ Some k → awaited (requested cs n) ≡ Some k) →
     ((n k : ℕ) → order_in (service_of cs' n).token ≡ Some k → order_in (service_of cs n).token ≡ Some k) → TokensApart cs → TokensApart cs'
 apart_fewer cs cs' waits told apart = search (arith, nat_tests)
 

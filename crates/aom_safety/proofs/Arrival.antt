@@ -22,17 +22,13 @@ use Rattle.aom_semantics.specs.State.{Of_server, Accepts, Serves, Dispatch, Fram
 use Rattle.aom_safety.specs.WellTyped.{AllUndo, Awaits, Caught, Fits, Good, Keeps, Now, Stack}
 
 -- null or 0 where the result would be, and the code
-told_fitted :
-    (p : Image) (t : Typing) (cs : List Cell) (fr : Frame) (sh : Shape) (ls : List Layer) (code : ℤ) (g : Gives) (c : ℕ) →
+told_fitted : (p : Image) (t : Typing) (cs : List Cell) (fr : Frame) (sh : Shape) (ls : List Layer) (code : ℤ) (g : Gives) (c : ℕ) →
     Fitted p t cs fr sh ls → is_unowning (register sh (suc c)) ≡ true → Awaits g c sh → Fitted p t cs (code_told g c code fr) (caught g c sh) ls
-told_fitted p t cs fr sh ls code A_word c f u a =
-    write p t cs (set_word fr c (Some (pos 0))) (set_register sh c Word) ls (suc c) (Some code) Word
+told_fitted p t cs fr sh ls code A_word c f u a = write p t cs (set_word fr c (Some (pos 0))) (set_register sh c Word) ls (suc c) (Some code) Word
     (write p t cs fr sh ls c (Some (pos 0)) Word f a (λ h. tt) tt) (next_unowning sh.registers c Word u) (λ h. tt) tt
-told_fitted p t cs fr sh ls code (An_own x) c f u a =
-    write p t cs (set_word fr c None) (set_register sh c (Maybe x Ready)) ls (suc c) (Some code) Word
+told_fitted p t cs fr sh ls code (An_own x) c f u a = write p t cs (set_word fr c None) (set_register sh c (Maybe x Ready)) ls (suc c) (Some code) Word
     (write p t cs fr sh ls c None (Maybe x Ready) f a (λ h. tt) refl) (next_unowning sh.registers c (Maybe x Ready) u) (λ h. tt) tt
-told_fitted p t cs fr sh ls code (A_maybe x) c f u a =
-    write p t cs (set_word fr c None) (set_register sh c (Maybe x Ready)) ls (suc c) (Some code) Word
+told_fitted p t cs fr sh ls code (A_maybe x) c f u a = write p t cs (set_word fr c None) (set_register sh c (Maybe x Ready)) ls (suc c) (Some code) Word
     (write p t cs fr sh ls c None (Maybe x Ready) f a (λ h. tt) refl) (next_unowning sh.registers c (Maybe x Ready) u) (λ h. tt) tt
 told_fitted p t cs fr sh ls code _ c f u a = write p t cs fr sh ls (suc c) (Some code) Word f u (λ h. tt) tt
 
@@ -90,8 +86,7 @@ module _ (p : Image) (t : Typing) (s : State) (code : ℤ) (items : List Item) w
   at_dispatch gv _ seats ls same undos good = absurd good.stack.1.1.0
 
   -- a trap stands over one of the two
-  pub arrives :
-      (gv : Gives) (ls : List Layer) → forms items ≡ items_of ls → AllUndo p items → Good p t s.cells (Unwinding code [] ∷ Mark gv ∷ ls) →
+  pub arrives : (gv : Gives) (ls : List Layer) → forms items ≡ items_of ls → AllUndo p items → Good p t s.cells (Unwinding code [] ∷ Mark gv ∷ ls) →
       Keeps p t (arrived p code (tasks_of (Mark gv ∷ ls)) items s)
   arrives gv [] same undos good = let clash : Stack p t s.cells (Caught gv) [] = good.stack.1.1 in cc
   arrives gv (Method fr sh ∷ ls) same undos good = at_method gv fr sh ls same undos good

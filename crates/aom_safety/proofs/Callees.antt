@@ -119,7 +119,6 @@ cancel_quiet p wired fr m e = by_view fr.view e
     by_view (Some c) e = (wired.cancels m (wired.canceller c m e).1).0
 
 -- the method that cancels is that of what its object counts as, which descends from the method's class
-pub cancel_family :
-    (p : Image) (fr : Frame) (k : ℕ) → CountsAs p (home_holder fr.home) fr.view (holder_of p fr.method) → cancel_method p fr ≡ Some k →
+pub cancel_family : (p : Image) (fr : Frame) (k : ℕ) → CountsAs p (home_holder fr.home) fr.view (holder_of p fr.method) → cancel_method p fr ≡ Some k →
     (v c : ℕ) × (method_class p fr.method ≡ Some c) × (descends p v c ≡ true) × (role_of p v Cancel ≡ Some k)
 cancel_family p fr k counts e = grind (arith, nat_tests)

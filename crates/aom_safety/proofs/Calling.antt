@@ -62,7 +62,7 @@ use Rattle.aom_safety.specs.WellTyped.{InView, CountsAs, Houses, IsServed, AllUn
 use Rattle.aom_safety.specs.WellTyped.{IsHoused, IsNoFieldOf, NotIn, Returns, Stack, Stands, WellTyped, WordFits, WorksOn}
 use Rattle.aom_safety.proofs.Callees.{apart_from, below_more, filled_ready, fits_fresh, held_own, holder_called, holder_member, holder_static}
 use Rattle.aom_safety.proofs.Callees.{home_member, member_kind, moved_entries, moved_fields, moved_register, own_for, passed_elsewhere}
-use Rattle.aom_safety.specs.Requests.{AllSuit, Known, Suits, Unworked, known_at, resting_in, states_claim, thing_kind, works_at}
+use Rattle.aom_safety.specs.Requests.{Known, Suits, Unworked, known_at, resting_in, states_claim, thing_kind, works_at}
 use Rattle.aom_roles.specs.Shapes.{kind_of}
 use Rattle.aom_safety.proofs.Suiting.{known_plain, same_object, suits_first, suits_less, unworked_rests}
 use Rattle.aom_safety.proofs.Attending.{plain_claim, called_plain}
@@ -105,9 +105,8 @@ module _ (p : Image) (t : Typing) (wired : IsWired p) (typed : IsTyped p t) (c :
 
   -- it is in one of the states in which it begins
   abbrev BeginsWell : Home → Shape → Type 0
-  BeginsWell Static sh' = Unit {0}
-  BeginsWell AtRoot sh' = Unit {0}
   BeginsWell (Inside o from) sh' = Suits (thing_kind p o.thing) (known_there o sh' (before_of p m)) (requested cs o.name) × (thing_kind p o.thing ≡ kind_of p (method_class p m))
+  BeginsWell _ sh' = Unit {0}
 
   -- it does not cancel
   pub cancels_not : is_cancel (method_role p m) ≡ false
@@ -159,8 +158,7 @@ module _ (p : Image) (t : Typing) (wired : IsWired p) (typed : IsTyped p t) (c :
           where
             inside : (at : Bool) → (o.name == n) ≡ at → (own : Option Thing) →
                 field_thing p (holder_of p k) f ≡ own → Fits p (seen cs) (held cs (Field n f)) (cond at (own_field own (field after f) below) below)
-            inside true same (Some x) is =
-                subst (λ j. Fits p (seen cs) (held cs (Field j f)) (filled (Some x) (field after f))) (eqb-true o.name n same)
+            inside true same (Some x) is = subst (λ j. Fits p (seen cs) (held cs (Field j f)) (filled (Some x) (field after f))) (eqb-true o.name n same)
                 (fits_weaker p (seen cs) (held cs (Field o.name f)) (filled_weaker (Some x) (w.fields f)) (b k may f x is))
             inside true same None is = e.fits (Field n f)
             inside false other own is = e.fits (Field n f)
@@ -168,14 +166,6 @@ module _ (p : Image) (t : Typing) (wired : IsWired p) (typed : IsTyped p t) (c :
     begins {view = view} k home sh' e housing silent after w (Elsewhere In_service) = grind (arith, nat_tests, plain_claim)
     begins {view = view} k home sh' e housing silent after w (Elsewhere o) = e.fits (Elsewhere o)
     begins {view = view} k home sh' e housing silent after w (Going j) = e.fits (Going j)
-
-    -- all other objects are as they were
-    begun_suits :
-        (home : Home) (sh' : Shape) (over : List Layer) (after : Shape) → IsTrue (has after.states (before_of p m)) → IsHoused p cs over home →
-        ((o : Object) → states_claim p o over ≡ states_claim p o (Method fr sh' ∷ ls)) → BeginsWell home sh' →
-        ((x : Object) → named cs x.name ≡ Some x → works_at x.name home ≡ false → Suits (thing_kind p x.thing) (states_claim p x over) (requested cs x.name)) →
-        (k : ℕ) (view : Option ℕ) → is_cancel (method_role p k) ≡ false → AllSuit p cs (Method (callee k view home) after ∷ over)
-    begun_suits x sh' over after w h same b y k view plain z lives = grind (arith, nat_tests, known_plain p, suits_less, same_object)
 
     -- so what runs in its place is entered, over these layers, which claim what the caller claims
     pub enter : {ended : ℕ} (home : Home) (sh' : Shape) (over : List Layer) (k : ℕ) (view : Option ℕ) → RunsFor p m k (home_holder home) view →
@@ -202,7 +192,7 @@ module _ (p : Image) (t : Typing) (wired : IsWired p) (typed : IsTyped p t) (c :
             stack,
           );
           fits = λ r. rw (as_begun leads.0 w r) (begins k home sh' e (runs.holder, runs.only, runs.counts) silent leads.0 w r);
-          suits = begun_suits home sh' over leads.0 w.states housed same_states e.begun (λ x lives other. rw (same_states x) (e.suits x lives other)) k view plain;
+          suits = grind (arith, nat_tests, known_plain, suits_less, same_object);
           tidy = passed.tidy;
         } in
         begins_well p t cs (callee k view home) leads.0 over s' w.entries good cells tasks items undos
@@ -299,8 +289,7 @@ module _ (p : Image) (t : Typing) (wired : IsWired p) (typed : IsTyped p t) (c :
         begun : (method_role p m ≡ Some Do) ⊎ ((method_role p m ≡ Some Construct) × (requested cs o.name ≡ None)) → Suits (thing_kind p o.thing) (resting_in (before_of p m)) (requested cs o.name)
         begun x = grind (arith, nat_tests, unworked_rests p o, suits_less, suits_first)
 
-    target_kind :
-        (y : ℕ) (x : Object) (z : Thing) → method_class p m ≡ Some y → stands_for p x.thing z ≡ true → stands_for p z (An_object_of y) ≡ true →
+    target_kind : (y : ℕ) (x : Object) (z : Thing) → method_class p m ≡ Some y → stands_for p x.thing z ≡ true → stands_for p z (An_object_of y) ≡ true →
         thing_kind p x.thing ≡ kind_of p (method_class p m)
     target_kind y x z class a b = of_family x.thing (stands_along p x.thing z (An_object_of y) a b) ∙ ap (kind_of p) (sym class)
       where
@@ -346,15 +335,14 @@ module _ (p : Image) (t : Typing) (wired : IsWired p) (typed : IsTyped p t) (c :
             there = holds.there;
             lives = holds.lives;
             below = below_more from fr (worked ended) ls holds.below;
-            ready =
-                grind (arith, nat_tests, claim_from);
+            ready = grind (arith, nat_tests, claim_from);
           };
           apart = apart';
           holder = grind (arith, nat_tests, holder_called, houses_family p wired.family b k stands);
           owning = λ i. refl;
           items = ap (λ es. objects es (items_of ls)) (moved_entries xs first sh);
           fields = start_fields o from fr.view (worked ended) fits holds.lives (apart' m) starts;
-          suits = other_suits;
+          suits = grind (arith, nat_tests, below);
           begun = (own_begun holds.lives, member_kind p o.thing b member ∙ wired.family.kinds b k stands ∙ ap (kind_of p) (sym class));
           settles = λ x q e w. refl;
         }
@@ -373,17 +361,11 @@ module _ (p : Image) (t : Typing) (wired : IsWired p) (typed : IsTyped p t) (c :
                 (record { states = before_of p m; cancelled = (cond b (known_at p fr ended (below o)) (below o)).cancelled }) (requested cs o.name)
             go b e h = grind (arith, suits_less)
 
-        other_suits :
-            (x : Object) → named cs x.name ≡ Some x → works_at x.name (Inside o from) ≡ false →
-            Suits (thing_kind p x.thing) (states_claim p x (Method fr (worked ended) ∷ ls)) (requested cs x.name)
-        other_suits x lives e = grind (arith, nat_tests, below x)
-
         own_fields : InView p fr.view (λ f. filled (field_thing p (thing_holder o.thing) f) Perhaps) o.name (Method fr (worked ended) ∷ ls)
         own_fields = grind (arith, nat_tests, waits_in_view p fr o from eh, at_alike 8 Perhaps)
 
     -- where an object stood before the arguments were passed, it stands after
-    stays_at :
-        (q : Place) (o : Object) → ((i : ℕ) → first ≤ i → i < (first + length xs) → same_place (lower p t fr ls depth deep i) q ≡ false) →
+    stays_at : (q : Place) (o : Object) → ((i : ℕ) → first ≤ i → i < (first + length xs) → same_place (lower p t fr ls depth deep i) q ≡ false) →
         ((i : ℕ) → same_place (upper p t fr ls depth deep i) q ≡ false) → held s.cells q ≡ Some o → held cs q ≡ Some o
     stays_at q o lo up there = grind (
       arith,
@@ -466,8 +448,7 @@ module _ (p : Image) (t : Typing) (wired : IsWired p) (typed : IsTyped p t) (c :
           fits x = rw (under p t fr ls depth deep (declared p cs) after_arguments regs r (readied (register after_arguments r)) x) (go (same_place q x) refl)
             where
               go : (b : Bool) → same_place q x ≡ b → Fits p (seen cs) (held cs x) (cond b (readied (register after_arguments r)) (filling p t fr ls depth deep (declared p cs) regs after_arguments x))
-              go true e =
-                  subst (λ k. Fits p (seen cs) (held cs x) k) (sym now_ready)
+              go true e = subst (λ k. Fits p (seen cs) (held cs x) k) (sym now_ready)
                   (subst (λ w. Fits p (seen cs) w (Own z Ready)) (sym (ap (λ w. held cs w) (sym (same_place-true q x e)) ∙ there)) (owned.2, tt))
               go false e = passed.fits x
 
@@ -528,14 +509,13 @@ module _ (p : Image) (t : Typing) (wired : IsWired p) (typed : IsTyped p t) (c :
           outside = field_outside p t c s fr sh ls at_hand fr.home f refl some
 
           below : (home : Home) → fr.home ≡ home → IsBelow (field_place home f) (Method fr after_arguments ∷ ls)
-          below Static e = tt
-          below AtRoot e = tt
           below (Inside x from) e = inl (subst (λ h. WorksOn x.name h) (sym e) refl)
+          below _ e = tt
 
           u : Untouched p (λ f. filled (field_thing p (thing_holder kept_in.0.thing) f) Perhaps) kept_in.0.name (Method fr after_arguments ∷ ls)
-          u = untouched_method p t cs spot kept_in.0 passed.tidy there (λ f. filled (field_thing p (thing_holder kept_in.0.thing) f) Perhaps)
-              fr after_arguments ls (λ x from e. field_not_from p t c s fr sh ls at_hand fr.home f refl x from e) outside passed.housed
-              (untouched p t cs spot kept_in.0 passed.tidy there (λ f. filled (field_thing p (thing_holder kept_in.0.thing) f) Perhaps) ls (Returns fr.method fr.home) outside passed.stack)
+          u = untouched_method p t cs spot kept_in.0 passed.tidy there (λ f. filled (field_thing p (thing_holder kept_in.0.thing) f) Perhaps) fr after_arguments
+              ls (λ x from e. field_not_from p t c s fr sh ls at_hand fr.home f refl x from e) outside passed.housed (untouched p t cs spot kept_in.0
+              passed.tidy there (λ f. filled (field_thing p (thing_holder kept_in.0.thing) f) Perhaps) ls (Returns fr.method fr.home) outside passed.stack)
 
           no_field_of : (home : Home) → fr.home ≡ home → IsNoFieldOf kept_in.0.name (field_place home f)
           no_field_of (Inside x from) e =
@@ -548,8 +528,7 @@ module _ (p : Image) (t : Typing) (wired : IsWired p) (typed : IsTyped p t) (c :
           apart_so k = (no_field_of fr.home refl, u.none_in, (λ f some. u.unclaimed f, tt), inr u.unworked)
 
     -- a construct method works on a fresh one
-    ages :
-        (k : Kind) (z : Thing) (a : Age) → k ≡ Own z a → (method_role p m ≡ Some Do) ⊎ ((method_role p m ≡ Some Construct) × (is_fresh_kind k ≡ true)) →
+    ages : (k : Kind) (z : Thing) (a : Age) → k ≡ Own z a → (method_role p m ≡ Some Do) ⊎ ((method_role p m ≡ Some Construct) × (is_fresh_kind k ≡ true)) →
         (method_role p m ≡ Some Do) ⊎ ((method_role p m ≡ Some Construct) × (a ≡ Fresh))
     ages k z a e x = grind arith
 
@@ -658,9 +637,6 @@ module _ (p : Image) (t : Typing) (wired : IsWired p) (typed : IsTyped p t) (c :
             of (inl r) = inl r
             of (inr r) = inr (r, raised p t wired s fr sh ls at_hand m r n.1 cs after_arguments (moved_fields xs first sh) o from at (λ f. passed.fits (Field o.name f)))
 
-        own_below : (v d y : ℕ) → holder_of p fr.method ≡ Member d → holder_of p fr.method ≡ Member y → descends p v d ≡ true → descends p v y ≡ true
-        own_below v d y e f h = let same : d ≡ y = let both = sym e ∙ f in cc in subst (λ x. descends p v x ≡ true) same h
-
         go : (own : Option ℕ) → method_class p fr.method ≡ own → Answer ended This
         go None f = let clash : false ≡ true = sym (ap (λ x. stands_here p x (method_class p m)) f ∙ ap (λ x. stands_here p None x) e) ∙ n.0 in cc
         go (Some y) f =
@@ -675,7 +651,7 @@ module _ (p : Image) (t : Typing) (wired : IsWired p) (typed : IsTyped p t) (c :
             let viewed = counts.some houses.0 houses.1 in
             let between = counts.between viewed.0 viewed.1 in
             let works : holder_of p m ≡ Member k = ap (λ c. holder_by (method_role p m) c) e ∙ holder_called (method_role p m) k is_called.role in
-            let fits : descends p viewed.0 k ≡ true = through p viewed.0 y k (own_below viewed.0 between.3 y between.4 own_holder between.5) stands in (
+            let fits : descends p viewed.0 k ≡ true = through p viewed.0 y k (grind arith) stands in (
               (
                 (ap (λ k. works_on p k fr.view) e ∙ ap (λ v. works_on p (Some k) v) viewed.1 ∙ fits, (parents_met p t wired s fr sh ls at_hand m (is_construct (method_role p m)) n.1, tt)),
                 subst (λ x. Entering ended (own_home x fr.home) (own_view x fr.view) (while_called This x ended after_arguments)) (sym e)

@@ -88,9 +88,6 @@ stays_cancelled states k h = go (has states active)
     go true = has_along (bit_or x idle) x k (has_first x idle) h
     go false = h
 
-idle_cancelled : (states : ℕ) → IsTrue (has states active) → IsTrue (has (once_cancelled states) idle)
-idle_cancelled states h = grind (arith, nat_tests, has_second)
-
 -- nothing is known of the fields
 unknown : (x : Filling) → WeakerFilling Perhaps x
 unknown Empty = perhaps_empty
@@ -194,8 +191,7 @@ module _ (p : Image) (t : Typing) (wired : IsWired p) (typed : IsTyped p t) (c :
     opened = record { registers = λ i. alike; fields = λ i. unknown_at i (field sh i); entries = refl; delivery = refl }
 
     base : (q : Place) → Fits p (seen cs') (held cs' q) (claim p (declared p cs') over q)
-    base q =
-        fits_alike p t s.cells cs' same_cells over q (λ x at fresh. others x.name (unready q x at fresh))
+    base q = fits_alike p t s.cells cs' same_cells over q (λ x at fresh. others x.name (unready q x at fresh))
         (fits_weaker p (seen s.cells) (held s.cells q) (claim_weaker p (declared p s.cells) fr sh' sh ls q opened) (at_hand.good.fits q))
 
     unset : (i : ℕ) → register begins.0 i ≡ Unset
@@ -235,8 +231,7 @@ module _ (p : Image) (t : Typing) (wired : IsWired p) (typed : IsTyped p t) (c :
     fits : (q : Place) → Fits p (seen cs') (held cs' q) (claim p (declared p cs') (Method fr' begins.0 ∷ over) q)
     fits (Register f i) = go (length (tasks_of over) == f) refl (base (Register f i))
       where
-        go :
-            (b : Bool) → (length (tasks_of over) == f) ≡ b → Fits p (seen cs') (held cs' (Register f i)) (claim p (declared p cs') over (Register f i)) →
+        go : (b : Bool) → (length (tasks_of over) == f) ≡ b → Fits p (seen cs') (held cs' (Register f i)) (claim p (declared p cs') over (Register f i)) →
             Fits p (seen cs') (held cs' (Register f i)) (cond b (register begins.0 i) (claim p (declared p cs') over (Register f i)))
         go true e h =
             let none =
@@ -304,8 +299,7 @@ module _ (p : Image) (t : Typing) (wired : IsWired p) (typed : IsTyped p t) (c :
             (own_kind p fr.method) begins.0.states (known_at p fr sh.states (states_claim p o ls)) request is_kind is_active_now begun it.suits)))
 
         go : (b : Bool) → (o.name == x.name) ≡ b → Suits (thing_kind p x.thing) (cond b (known_at p fr' begins.0.states (upper x b)) (upper x b)) (requested cs' x.name)
-        go true e =
-            subst (λ y. Suits (thing_kind p y.thing) (known_at p fr' begins.0.states (upper y true)) (requested cs' y.name))
+        go true e = subst (λ y. Suits (thing_kind p y.thing) (known_at p fr' begins.0.states (upper y true)) (requested cs' y.name))
             (same_object s.cells o x it.lives (sym (same_cells.named_so x.name) ∙ lives) e) own_now
         go false e =
             let below : Known = states_claim p x ls in
@@ -321,7 +315,14 @@ module _ (p : Image) (t : Typing) (wired : IsWired p) (typed : IsTyped p t) (c :
         let r = result_register (instr_at p fr.method fr.place) in
         let was : IsTrue (has sh.states active) =
         rw (active_state request is_active_now) at (suits_in (own_kind p fr.method) (known_at p fr sh.states (states_claim p o ls)) request (active_listed (own_kind p fr.method) is_kind) it.suits) in
-        let less : SaysNoMore (after_cancel sh) sh' = record { registers = λ i. alike; fields = λ i. alike_filling; entries = refl; states = idle_cancelled sh.states was; delivery = refl } in
+        let less : SaysNoMore (after_cancel sh) sh' = record {
+          registers = λ i. alike;
+          fields = λ i. alike_filling;
+          entries = refl;
+          states =
+              grind (arith, nat_tests, has_second);
+          delivery = refl;
+        } in
         let on : Leads t fr.method (suc fr.place) sh' = (leads.0, leads.1, transitive leads.0 (after_cancel sh) sh' leads.2 less) in (
           λ may. absurd (true≢false (sym quiet.0 ∙ wired.quiets m may)),
           rw quiet.1 tt,

@@ -40,8 +40,7 @@ use Rattle.aom_safety.proofs.Steps.{step_keeps}
 -- ---- the entries of a leave, and its mark
 
 -- the items of some entries over a mark
-split :
-    (es : List Pushed) (fs : List Form) (all : List Item) → forms all ≡ objects es (Mark_form ∷ fs) →
+split : (es : List Pushed) (fs : List Form) (all : List Item) → forms all ≡ objects es (Mark_form ∷ fs) →
     (entries : List Item) × (items : List Item) × (all ≡ entries ++ (A_mark ∷ items)) × AreEntries entries
 split [] fs (A_mark ∷ all) e = ([], all, refl, tt)
 split (x ∷ es) fs (An_object ∷ all) e =
@@ -58,22 +57,19 @@ no_dispatch : {A : Type 0} (p : Image) (d : Dispatch) → EndsDispatch p d Leave
 no_dispatch p x e = grind arith
 
 -- a leave on top has entries over the mark of its trap
-pub splits :
-    (p : Image) (t : Typing) (s : State) → WellTyped p t s → (code : ℤ) (below : List Task) → s.tasks ≡ Unwind code ∷ below →
+pub splits : (p : Image) (t : Typing) (s : State) → WellTyped p t s → (code : ℤ) (below : List Task) → s.tasks ≡ Unwind code ∷ below →
     (entries : List Item) × (items : List Item) × IsLeaving p code below entries items s
 splits p t s w code below at =
     let r = go w.layers (sym at ∙ w.tasks) w.items w.good.stack in
     (r.0, r.1, record { over = subst (λ ts. IsOver p (length s.items) code below ts) (sym at) (refl, refl); stack = r.2; plain = r.3 })
   where
-    under :
-        (es : List Pushed) (ls : List Layer) → forms s.items ≡ objects es (items_of ls) → Stack p t s.cells Leaves ls →
+    under : (es : List Pushed) (ls : List Layer) → forms s.items ≡ objects es (items_of ls) → Stack p t s.cells Leaves ls →
         (entries : List Item) × (items : List Item) × (s.items ≡ entries ++ (A_mark ∷ items)) × AreEntries entries
     under es (Mark gv ∷ ls) f stack = split es (items_of ls) s.items f
     under es (Dispatching d seats ∷ ls) f stack = no_dispatch p d stack.0
     under es _ f stack = grind arith
 
-    go :
-        (ls : List Layer) → Unwind code ∷ below ≡ tasks_of ls → forms s.items ≡ items_of ls → Stack p t s.cells Now ls →
+    go : (ls : List Layer) → Unwind code ∷ below ≡ tasks_of ls → forms s.items ≡ items_of ls → Stack p t s.cells Now ls →
         (entries : List Item) × (items : List Item) × (s.items ≡ entries ++ (A_mark ∷ items)) × AreEntries entries
     go (Unwinding x es ∷ ls) e f stack = under es ls f stack.1
     go _ e f stack = cc
@@ -114,8 +110,7 @@ is_there x e = grind arith
 
 module _ (p : Image) (t : Typing) (c : Choice) (fr : Frame) (ts : List Task) (s u : State) (at_hand : s.tasks ≡ Run fr ∷ ts) (w : WellTyped p t s) (keeps : WellTyped p t u) where
   -- the leave is at hand over the innermost trap
-  begins_at :
-      (i : Instr) (code : ℤ) (off : Update) → has_trap ts ≡ true → applied p fr ts (counted p s) (Leaves code off) ≡ u →
+  begins_at : (i : Instr) (code : ℤ) (off : Update) → has_trap ts ≡ true → applied p fr ts (counted p s) (Leaves code off) ≡ u →
       HasPushed fr (length ts) i s (applied p fr ts (counted p s) (Leaves code off)) → Begins p code fr (length ts) i s u
   begins_at i code off trap e on =
       let r = trapping ts trap in
@@ -215,19 +210,15 @@ module _ (c : ℕ) (code : ℤ) (fr : Frame) where
   told_both : (w : Option ℤ) (r : ℕ) → c ≢ r → suc c ≢ r → word (set_word (set_word fr c w) (suc c) (Some code)) r ≡ word fr r
   told_both w r n m = other_word (set_word fr c w) (suc c) r (Some code) m ∙ other_word fr c r w n
 
-  told_others : (g : Gives) (r : ℕ) → c ≢ r → suc c ≢ r → word (code_told g c code fr) r ≡ word fr r
-  told_others x r n m = grind (arith, nat_tests, other_word, told_both)
-
   told_first : (w : Option ℤ) → word (set_word (set_word fr c w) (suc c) (Some code)) c ≡ w
   told_first w = other_word (set_word fr c w) (suc c) c (Some code) next_register ∙ own_word fr c w
 
   pub told_frame : (g : Gives) → record (next (code_told g c code fr)) { words = fr.words } ≡ next fr
   told_frame x = grind arith
 
-  hears :
-      (g : Gives) (cs : List Cell) (depth : ℕ) (sh : Shape) → Awaits g c sh → is_unowning (register sh (suc c)) ≡ true →
+  hears : (g : Gives) (cs : List Cell) (depth : ℕ) (sh : Shape) → Awaits g c sh → is_unowning (register sh (suc c)) ≡ true →
       ((r : ℕ) → is_unowning (register sh r) ≡ true → held cs (Register depth r) ≡ None) → Hears code g c cs depth fr (next (code_told g c code fr))
-  hears g cs depth sh a unowning free = search (arith, nat_tests, told_code g, other_word, next_register, told_first, others, told_others g, told_frame g)
+  hears g cs depth sh a unowning free = search (arith, nat_tests, told_code g, other_word, next_register, told_first, others, told_both, told_frame g)
 
 module _ (p : Image) (t : Typing) (s u : State) (code : ℤ) (items : List Item) where
   -- where it arrives, and what stays
@@ -287,7 +278,6 @@ arrives p t c s u w code below items l at e =
     }
 
 -- main's dispatch ends with the code
-pub ends :
-    (p : Image) (c : Choice) (s u : State) (code : ℤ) (ts : List Task) → s.tasks ≡ Dispatched (Main_left code) ∷ ts → step p c s ≡ Goes u →
+pub ends : (p : Image) (c : Choice) (s u : State) (code : ℤ) (ts : List Task) → s.tasks ≡ Dispatched (Main_left code) ∷ ts → step p c s ≡ Goes u →
     (u.tasks ≡ []) × (u.rest.ended ≡ Some (MainLeft code))
 ends p c s u code ts at e = grind (arith, nat_tests, goes_same)

@@ -16,7 +16,7 @@ use Rattle.aom_rules.specs.Typing.{Typing}
 use Rattle.aom_shape.specs.declared.kind.Age.TheVariants.{Fresh, Ready}
 use Rattle.aom_shape.specs.declared.kind.Entry.{Entry as Pushed}
 use Rattle.aom_shape.specs.declared.kind.Filling.{Filling}
-use Rattle.aom_shape.specs.declared.kind.Filling.TheVariants.{Perhaps, Full}
+use Rattle.aom_shape.specs.declared.kind.Filling.TheVariants.{Perhaps}
 use Rattle.aom_shape.specs.declared.kind.Kind.{Kind}
 use Rattle.aom_shape.specs.declared.kind.Kind.TheVariants.{Null, Own, Unset}
 use Rattle.aom_safety.proofs.Services.{service_moved, attended_kept, sessions_kept}
@@ -31,19 +31,16 @@ use Rattle.aom_safety.specs.WellTyped.{view_holder, InView, Back, Caught, Fits, 
 use Rattle.aom_safety.specs.WellTyped.{Leaves, NoneFrom, NoneIn, Returns, Stack, Unclaimed, WordFits, by_field, Now}
 
 -- a frame counts for the claims by its home and its method alone
-pub claim_frame :
-    (p : Image) (d : Place → Kind) (fr fr' : Frame) (sh : Shape) (ls : List Layer) (r : Place) → fr'.home ≡ fr.home → fr'.method ≡ fr.method →
+pub claim_frame : (p : Image) (d : Place → Kind) (fr fr' : Frame) (sh : Shape) (ls : List Layer) (r : Place) → fr'.home ≡ fr.home → fr'.method ≡ fr.method →
     claim p d (Method fr' sh ∷ ls) r ≡ claim p d (Method fr sh ∷ ls) r
 claim_frame p d fr fr' sh ls x e em = grind arith
 
-pub claim-set_register :
-    (p : Image) (d : Place → Kind) (fr : Frame) (sh : Shape) (ls : List Layer) (a : ℕ) (v : Kind) (r : Place) →
+pub claim-set_register : (p : Image) (d : Place → Kind) (fr : Frame) (sh : Shape) (ls : List Layer) (a : ℕ) (v : Kind) (r : Place) →
     claim p d (Method fr (set_register sh a v) ∷ ls) r ≡ changed (claim p d (Method fr sh ∷ ls)) (Register (length (tasks_of ls)) a) v r
 claim-set_register p d fr sh ls a v x = grind (arith, nat_tests, at-put_at Unset sh.registers a)
 
 -- what a field is claimed to be, with another filling
-filled_at :
-    (thing : ℕ → Option Thing) (xs : List Filling) (a : ℕ) (x : Filling) (v : Kind) (f : ℕ) → filled (thing a) x ≡ v →
+filled_at : (thing : ℕ → Option Thing) (xs : List Filling) (a : ℕ) (x : Filling) (v : Kind) (f : ℕ) → filled (thing a) x ≡ v →
     filled (thing f) (at Perhaps (put_at Perhaps xs a x) f) ≡ cond (a == f) v (filled (thing f) (at Perhaps xs f))
 filled_at thing xs a x v f same = grind (arith, nat_tests, at-put_at Perhaps xs a f x, eqb-true a f)
 
@@ -51,8 +48,7 @@ filled_at thing xs a x v f same = grind (arith, nat_tests, at-put_at Perhaps xs 
 pub own_there : (x : Option Thing) (y : Filling) (below : Kind) → is_some x ≡ true → own_field x y below ≡ filled x y
 own_there x y below some = grind arith
 
-own_at :
-    (thing : ℕ → Option Thing) (xs : List Filling) (a : ℕ) (x : Filling) (v below : Kind) (f : ℕ) → is_some (thing a) ≡ true → filled (thing a) x ≡ v →
+own_at : (thing : ℕ → Option Thing) (xs : List Filling) (a : ℕ) (x : Filling) (v below : Kind) (f : ℕ) → is_some (thing a) ≡ true → filled (thing a) x ≡ v →
     own_field (thing f) (at Perhaps (put_at Perhaps xs a x) f) below ≡ cond (a == f) v (own_field (thing f) (at Perhaps xs f) below)
 own_at thing xs a x v below f some same = grind (arith, nat_tests, at-put_at Perhaps xs a f x, eqb-true a f, own_there (thing a) x below some)
 
@@ -104,8 +100,7 @@ claim_weaker p d fr a b ls (Field n f) w = go fr.home
     go AtRoot = alike
     go (Inside o from) = inside (o.name == n)
       where
-        inside :
-            (x : Bool) →
+        inside : (x : Bool) →
             Weaker (cond x (own_field (field_thing p (holder_of p fr.method) f) (field a f) (claim p d ls (Field n f))) (claim p d ls (Field n f)))
             (cond x (own_field (field_thing p (holder_of p fr.method) f) (field b f) (claim p d ls (Field n f))) (claim p d ls (Field n f)))
         inside true = own_weaker (field_thing p (holder_of p fr.method) f) (claim p d ls (Field n f)) (w.fields f)
@@ -113,9 +108,8 @@ claim_weaker p d fr a b ls (Field n f) w = go fr.home
 claim_weaker p d fr a b ls (Elsewhere Root) w = go fr.home
   where
     go : (h : Home) → Weaker (root_claim p h a (claim p d ls (Elsewhere Root))) (root_claim p h b (claim p d ls (Elsewhere Root)))
-    go Static = alike
     go AtRoot = filled_weaker (field_thing p Program 0) (w.fields 0)
-    go (Inside o from) = alike
+    go _ = alike
 claim_weaker p d fr a b ls (Elsewhere In_service) w = subst (λ x. Weaker (cond (serves p fr.method) (delivered a.delivery)
     (claim p d ls (Elsewhere In_service))) (cond (serves p fr.method) (delivered x) (claim p d ls (Elsewhere In_service)))) w.delivery alike
 claim_weaker p d fr a b ls _ w = alike
@@ -136,14 +130,10 @@ pub fits_age : (p : Image) (h h' : Sight) (o : Option Object) (k : Kind) → ((x
 fits_age p h h' x y g f = grind arith
 
 -- a thing and its claim move together
-pub keep_fits :
-    (image : Image) (h h' : Sight) (k k' : Place → Kind) (p q : Place) →
-    ((r : Place) → h'.holds r ≡ transfer p q h.holds r) →
-    ((n : ℕ) → h'.requests n ≡ h.requests n) →
-    ((r : Place) → k' r ≡ changed (changed k p Null) q (k p) r) →
+pub keep_fits : (image : Image) (h h' : Sight) (k k' : Place → Kind) (p q : Place) → ((r : Place) → h'.holds r ≡ transfer p q h.holds r) →
+    ((n : ℕ) → h'.requests n ≡ h.requests n) → ((r : Place) → k' r ≡ changed (changed k p Null) q (k p) r) →
     ((r : Place) (x : Object) → h.holds r ≡ Some x → is_ready_kind (k r) ≡ false → (f : ℕ) → same_place q (Field x.name f) ≡ false) →
-    ((r : Place) → Fits image h (h.holds r) (k r)) →
-    (r : Place) → Fits image h' (h'.holds r) (k' r)
+    ((r : Place) → Fits image h (h.holds r) (k r)) → (r : Place) → Fits image h' (h'.holds r) (k' r)
 keep_fits image h h' k k' p q eh requests ek apart fits r = rw (eh r) (rw (ek r) (go (same_place q r) (same_place p r)))
   where
     null : (s : Place) (x : Object) → h.holds s ≡ Some x → is_ready_kind (k s) ≡ false → (f : ℕ) → h.holds (Field x.name f) ≡ None → h'.holds (Field x.name f) ≡ None
@@ -174,12 +164,11 @@ length_objects (x ∷ es) items = omega (arith, length_objects es items)
 
 pub claim_entry_above : (p : Image) (cs : List Cell) (ls : List Layer) (k : ℕ) → length (items_of ls) ≤ k → claim p (declared p cs) ls (Entry k) ≡ Null
 claim_entry_above p cs [] k le = refl
-claim_entry_above p cs (Method fr sh ∷ ls) k le = grind (arith, nat_tests, entries_above, claim_entry_above p cs ls k, length_objects)
 claim_entry_above p cs (Mark gv ∷ ls) k le = claim_entry_above p cs ls k (omega arith)
 claim_entry_above p cs (Dispatching w seats ∷ ls) k le = claim_entry_above p cs ls k (omega arith)
 claim_entry_above p cs (Dying o ∷ ls) k le = claim_entry_above p cs ls k le
 claim_entry_above p cs (Ending o left ∷ ls) k le = claim_entry_above p cs ls k le
-claim_entry_above p cs (Unwinding code es ∷ ls) k le = grind (arith, nat_tests, entries_above, claim_entry_above p cs ls k, length_objects)
+claim_entry_above p cs (_ ∷ ls) k le = grind (arith, nat_tests, entries_above, claim_entry_above p cs ls k, length_objects)
 
 pub declared_moved : (p : Image) (cs : List Cell) (a b : Place) → declared p (moved a b cs) ≡ declared p cs
 declared_moved p cs a b = grind (arith, nat_tests, named_moved cs a b, service_moved cs a b)
@@ -192,14 +181,8 @@ Outside (Field n f) ls = NoneIn n ls
 Outside (Elsewhere w) ls = NoneFrom (Elsewhere w) ls
 Outside (Going k) ls = length (tasks_of ls) ≤ k
 
-none_in_less : (n : ℕ) (l : Layer) (ls : List Layer) → NoneIn n (l ∷ ls) → NoneIn n ls
-none_in_less n x ls h = grind arith
-
-none_from_less : (q : Place) (l : Layer) (ls : List Layer) → NoneFrom q (l ∷ ls) → NoneFrom q ls
-none_from_less q x ls h = grind arith
-
 pub outside_less : (q : Place) (l : Layer) (ls : List Layer) → Outside q (l ∷ ls) → Outside q ls
-outside_less x l ls h = grind (arith, nat_tests, length_objects, none_in_less, none_from_less)
+outside_less x l ls h = grind (arith, nat_tests, length_objects)
 
 -- then no seat is there
 pub no_seat_outside : (q : Place) (d : Dispatch) (seats : List Seat) (ls : List Layer) → Outside q (Dispatching d seats ∷ ls) → NoSeatHere q seats
@@ -309,11 +292,8 @@ pub claim_rel : (R : Kind → Kind → Type 0) → ((k : Kind) → R k k) → (p
 claim_rel R same p d d' [] r h = h
 claim_rel R same p d d' (l ∷ ls) r h = layer_rel R same p l _ _ r _ _ (claim_rel R same p d d' ls r h)
 
-full_ready : (b : Bool) (t : Option Thing) → is_ready_kind (cond b (filled t Full) Null) ≡ true
-full_ready x t = grind arith
-
 pub declared_ready : (p : Image) (cs : List Cell) (r : Place) → is_ready_kind (declared p cs r) ≡ true
-declared_ready p cs x = grind (arith, nat_tests, full_ready)
+declared_ready p cs x = grind (arith, nat_tests)
 
 -- declared fields are ready, so that a claim which is ready with nothing declared is ready
 pub claim_ready : (p : Image) (cs : List Cell) (ls : List Layer) (r : Place) → is_ready_kind (claim p (λ x. Null) ls r) ≡ true → is_ready_kind (claim p (declared p cs) ls r) ≡ true
@@ -335,11 +315,7 @@ claim_unnamed p t cs d (Dying o ∷ ls) back n f s e = grind (arith, nat_tests, 
 pub claim_register_above : (p : Image) (cs : List Cell) (ls : List Layer) (f i : ℕ) → length (tasks_of ls) ≤ f → claim p (declared p cs) ls (Register f i) ≡ Null
 claim_register_above p cs [] f i le = refl
 claim_register_above p cs (Method fr sh ∷ ls) f i le = grind (arith, nat_tests, ne_eqb, claim_register_above p cs ls f i)
-claim_register_above p cs (Mark gv ∷ ls) f i le = claim_register_above p cs ls f i (omega arith)
-claim_register_above p cs (Dispatching w seats ∷ ls) f i le = claim_register_above p cs ls f i (omega arith)
-claim_register_above p cs (Dying o ∷ ls) f i le = claim_register_above p cs ls f i (omega arith)
-claim_register_above p cs (Ending o left ∷ ls) f i le = claim_register_above p cs ls f i (omega arith)
-claim_register_above p cs (Unwinding code es ∷ ls) f i le = claim_register_above p cs ls f i (omega arith)
+claim_register_above p cs (_ ∷ ls) f i le = claim_register_above p cs ls f i (omega arith)
 
 -- of a cell of which the layers claim nothing more
 pub claim_unclaimed : (p : Image) (d : Place → Kind) (ls : List Layer) (n f : ℕ) (k : ℕ → Kind) → Unclaimed p k n ls → d (Field n f) ≡ k f → claim p d ls (Field n f) ≡ k f
@@ -352,12 +328,8 @@ claim_in_view p d ls n f k view u some e = claim_rel (λ x y. x ≡ y) (λ k. re
 
 pub claim_going_above : (p : Image) (cs : List Cell) (ls : List Layer) (k : ℕ) → length (tasks_of ls) ≤ k → claim p (declared p cs) ls (Going k) ≡ Null
 claim_going_above p cs [] k le = refl
-claim_going_above p cs (Method fr sh ∷ ls) k le = claim_going_above p cs ls k (omega arith)
-claim_going_above p cs (Mark gv ∷ ls) k le = claim_going_above p cs ls k (omega arith)
-claim_going_above p cs (Dispatching w seats ∷ ls) k le = claim_going_above p cs ls k (omega arith)
-claim_going_above p cs (Ending o left ∷ ls) k le = claim_going_above p cs ls k (omega arith)
-claim_going_above p cs (Unwinding code es ∷ ls) k le = claim_going_above p cs ls k (omega arith)
 claim_going_above p cs (Dying o ∷ ls) k le = grind (arith, nat_tests, ne_eqb, claim_going_above p cs ls k)
+claim_going_above p cs (_ ∷ ls) k le = claim_going_above p cs ls k (omega arith)
 
 -- a mark claims nothing
 pub mark_claims : (p : Image) (d : Place → Kind) (gv : Gives) (ls : List Layer) (r : Place) → claim p d (Mark gv ∷ ls) r ≡ claim p d ls r

@@ -7,10 +7,8 @@ use Rattle.std.proofs.Common.{[], List, None, Option, Some, ap, arith, length, r
 use Rattle.std.proofs.lemmas.Bool.{true≢false}
 use Rattle.std.specs.Prelude.{not}
 use Rattle.aom_image.specs.Image.{Image}
-use Rattle.aom_image.specs.Views.{is_quiet, method_class}
+use Rattle.aom_image.specs.Views.{method_class}
 use Rattle.aom_instructions.specs.declared.instr.Instr.{Instr}
-use Rattle.aom_instructions.specs.declared.instr.Instr.TheVariants.{Call}
-use Rattle.aom_instructions.specs.declared.instr.Target.{Target}
 use Rattle.aom_roles.specs.Tests.{AllTrue}
 use Rattle.aom_roles.specs.Families.{parent_by}
 use Rattle.aom_shape.specs.Kinds.{no_entry}
@@ -93,11 +91,9 @@ module _ (p : Image) (wired : IsWired p) (c : Choice) (fr : Frame) (sh : Shape) 
   same_items i x r f = grind (arith, nat_tests, no_trap p, no_entry_there)
 
   -- a quiet method calls quiet ones
-  call_quiet : (target : Target) (m first x : ℕ) → Ruled (Call target m first x) → is_quiet p m ≡ true
-  call_quiet target m first x r = grind (arith, nat_tests, all_parts, only_then)
-
   acts_kept : (i : Instr) (e : Effect) → Ruled i → Fits p c fr ts s i e → Kept (applied p fr ts s e)
-  acts_kept i x r f = grind (arith, nat_tests, same_items, body_quiet, call_quiet, cancel_quiet, receives, line_over, no_trap, begins_over, no_entry_there)
+  acts_kept i x r f =
+      grind (arith, nat_tests, same_items, body_quiet, all_parts, only_then, cancel_quiet, receives, line_over, no_trap, begins_over, no_entry_there)
 
 module _ (p : Image) (t : Typing) (wired : IsWired p) (typed : IsTyped p t) (c : Choice) (s u : State) (w : WellTyped p t s) (code : ℤ) (below : List Task)
     (over : IsOver p (length s.items) code below s.tasks) (other : s.tasks ≡ Unwind code ∷ below → ⊥) where

@@ -58,11 +58,9 @@ module _ (p : Image) (t : Typing) (s : State) where
       let before = Dispatching d seats ∷ [] in
       let below = Dispatching Of_root [] ∷ [] in
       let free = no_going p t s.cells o q before below good.fits there (omega arith) claims in
-      goes_well p t s.cells o q before below good.fits there (omega arith) claims wired typed good.tidy
-      (tt, refl, tt, refl, tt)
+      goes_well p t s.cells o q before below good.fits there (omega arith) claims wired typed good.tidy (tt, refl, tt, refl, tt)
       (record { some = λ x. ⊎_elim (λ y. y) (λ y. y) x; unclaimed = λ f. refl; none_in = (tt, tt); unworked = tt; sessions = λ d c. refl })
-      good.suits
-      (uprooted p o s) (length s.items) (ap length items) refl refl (ap forms items) (subst (λ is. AllUndo p is) (sym items) tt)
+      good.suits (uprooted p o s) (length s.items) (ap length items) refl refl (ap forms items) (subst (λ is. AllUndo p is) (sym items) tt)
     where
       claims : (r : Place) → claim p (declared p s.cells) (Dispatching Of_root [] ∷ []) r ≡ changed (claim p (declared p s.cells) (Dispatching d seats ∷ [])) (Elsewhere Root) Null r
       claims x = grind (arith, nat_tests, none_parts d plain, none_served d plain)

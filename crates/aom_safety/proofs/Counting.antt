@@ -2,14 +2,13 @@
 use Rattle.std.proofs.lemmas.Bool.Decides.{nat_tests}
 use Rattle.std.specs.Prelude.{◌⊎◌}
 use Rattle.aom_safety.proofs.Guarded.{guarded_goes}
-use Rattle.std.proofs.Common.{Bool, List, Option, ap, arith, cond, false, refl, true, ℕ, ◌+◌, ◌≤◌, ◌∙◌, ◌≡◌}
+use Rattle.std.proofs.Common.{Bool, List, ap, arith, cond, refl, ℕ, ◌+◌, ◌∙◌, ◌≡◌}
 use Rattle.aom_image.specs.Image.{Image}
 use Rattle.aom_safety.proofs.Moving.{steps_are_moves}
 use Rattle.aom_safety.proofs.Resting.{move_rest, IsEnd, Takes}
 use Rattle.aom_safety.specs.Counting.{DispatchesAreCounted, StepsAreCounted, ends_object, in_range, restarts, starts, steps_of, taken}
-use Rattle.aom_semantics.specs.Moves.{counted, dispatch_ends, handled, main_ends, object_ends, step}
-use Rattle.aom_semantics.specs.Places.{Elsewhere, Object, Root, held}
-use Rattle.aom_semantics.specs.State.{Choice, Dispatch, Goes, Counters, State, Task, raised}
+use Rattle.aom_semantics.specs.Moves.{counted, dispatch_ends, step}
+use Rattle.aom_semantics.specs.State.{Choice, Dispatch, Goes, Counters, State, raised}
 use Rattle.aom_semantics.specs.World.{Heard, Environment, Reaches, Turning, begins, boot_state, moves, turn, turned, turning, turns}
 use Rattle.aom_transcript.specs.declared.line.Line.{Line}
 
@@ -17,14 +16,8 @@ use Rattle.aom_transcript.specs.declared.line.Line.{Line}
 abbrev Counts : Bool → Counters → Counters → Type 0
 Counts ends r u = (u.steps ≡ cond ends 0 r.steps) × (u.dispatches ≡ cond ends (raised r.dispatches) r.dispatches)
 
-main_counts : (p : Image) (b : Bool) (o : Option Object) (s : State) → Counts false s.rest (main_ends p b o s).rest
-main_counts p x o s = grind arith
-
-object_counts : (p : Image) (s : State) → Counts true s.rest (object_ends p s).rest
-object_counts p s = main_counts p s.rest.stopped (held s.cells (Elsewhere Root)) (handled s)
-
 end_counts : (p : Image) (d : Dispatch) (s : State) → Counts (ends_object p d) s.rest (dispatch_ends p d s).rest
-end_counts p x s = grind (arith, nat_tests, main_counts p s.rest.stopped, object_counts p s)
+end_counts p x s = grind (arith, nat_tests)
 
 -- a move counts, and nothing else does
 move_counts : (p : Image) (c : Choice) (s u : State) → step p c s ≡ Goes u → Counts (restarts p s.tasks) (counted p s).rest u.rest
@@ -43,11 +36,7 @@ pub move_steps : (p : Image) (c : Choice) (s u : State) → step p c s ≡ Goes 
 move_steps p c s u e = (move_counts p c s u e).0
 
 -- the next count is that of all that is taken
-at_most_one : (ts : List Task) → steps_of ts ≤ 1
-at_most_one x = grind arith
-
-moves_count :
-    (p : Image) (c : Choice) (s u : State) → s.rest.steps ≡ in_range s.rest.steps → step p c s ≡ Goes u →
+moves_count : (p : Image) (c : Choice) (s u : State) → s.rest.steps ≡ in_range s.rest.steps → step p c s ≡ Goes u →
     u.rest.steps ≡ cond (restarts p s.tasks) 0 (in_range (s.rest.steps + steps_of s.tasks))
 moves_count p c s u within e = move_steps p c s u e ∙ ap (λ n. cond (restarts p s.tasks) 0 n) (grind arith)
 
@@ -70,8 +59,7 @@ anew x n = grind arith
 
 runs_count : (p : Image) (outside : Environment) {lines : List Line} {s : State} (reached : Reaches p outside (boot_state p) lines s) → s.rest.steps ≡ in_range (taken reached)
 runs_count p outside begins = refl
-runs_count p outside (moves {s = s} {u = u} c reached busy opened goes) =
-    grind (arith, nat_tests, runs_count p outside reached, moves_count p c s u, at_most_one s.tasks, anew)
+runs_count p outside (moves {s = s} {u = u} c reached busy opened goes) = grind (arith, nat_tests, runs_count p outside reached, moves_count p c s u, anew)
 runs_count p outside (turns {s = s} {u = u} heard reached between well goes) =
     grind (arith, nat_tests, turn_count p outside heard s u goes, runs_count p outside reached, anew)
 

@@ -26,9 +26,9 @@ use Rattle.aom_safety.specs.Claims.{declared, declared_field, home_claim, own_fi
 use Rattle.aom_semantics.specs.Effects.{applied, makes_unless, sets, Made}
 use Rattle.aom_semantics.specs.Objects.{no_words}
 use Rattle.aom_semantics.specs.Places.{Elsewhere, Session, Queued, service_of, unserved, Service, Cell, Field, Object, Place}
-use Rattle.aom_semantics.specs.Places.{Register, Request, Sight, held, named, requested, same_place, seen, with_new}
-use Rattle.aom_semantics.specs.State.{Dispatch, Seat, AtRoot, Choice, Frame, Home, Inside, State, Static, next, set_word, thing_holder, word}
-use Rattle.aom_safety.specs.WellTyped.{AllSit, SitsFirst, IsAttended, Back, Fits, HasAge, IsHoused, Returns, Stack, WellTyped, WordFits, seat_of}
+use Rattle.aom_semantics.specs.Places.{Register, Sight, held, named, requested, same_place, seen, with_new}
+use Rattle.aom_semantics.specs.State.{AtRoot, Choice, Frame, Home, Inside, State, Static, next, set_word, thing_holder, word}
+use Rattle.aom_safety.specs.WellTyped.{Back, Fits, HasAge, IsHoused, Returns, Stack, WellTyped, WordFits}
 use Rattle.aom_safety.proofs.Seats.{NoFieldHere, first_kept, sits_kept}
 use Rattle.aom_safety.specs.Requests.{AllSuit, Suits, Unworked, states_claim, thing_kind, works_at}
 use Rattle.aom_safety.proofs.Suiting.{suits_new, unworked_rests}
@@ -65,14 +65,9 @@ declared_new p cs n x ws owner e (Elsewhere (Queued m k)) = serves_new cs n x e 
 declared_new p cs n x ws owner e _ = alike
 
 -- what clients have at what there was is as it was
-service_new :
-    (cs : List Cell) (n : ℕ) (x : Thing) (ws : List ℤ) (owner : Place) (o : Object) → named cs n ≡ None → named cs o.name ≡ Some o →
+service_new : (cs : List Cell) (n : ℕ) (x : Thing) (ws : List ℤ) (owner : Place) (o : Object) → named cs n ≡ None → named cs o.name ≡ Some o →
     service_of (with_new n x ws owner cs) o.name ≡ service_of cs o.name
 service_new cs n x ws owner o e h = grind (arith, nat_tests, ne_eqb n o.name)
-
-attended_new : (p : Image) (cs : List Cell) (n : ℕ) (x : Thing) (ws : List ℤ) (owner : Place) (d : Dispatch) (seats : List Seat) →
-    named cs n ≡ None → AllSit cs seats → SitsFirst cs (seat_of d) seats → IsAttended p cs d → IsAttended p (with_new n x ws owner cs) d
-attended_new p cs n x ws owner d seats e sits first h = grind (arith, nat_tests, attended_at p cs, service_new cs n x ws owner, sits_lives cs seats)
 
 lives_new : (cs : List Cell) (n : ℕ) (x : Thing) (ws : List ℤ) (owner : Place) (o : Object) → named cs n ≡ None → named cs o.name ≡ Some o → named (with_new n x ws owner cs) o.name ≡ Some o
 lives_new cs n x ws owner o e h = search (arith, nat_tests, ne_eqb n o.name)
@@ -93,7 +88,7 @@ stack_new p t cs n x ws f i (Dispatching d seats ∷ ls) back e out s = (
   s.1,
   sits_kept cs cs' q q seats (λ r o other other' there lives. (grind (arith, nat_tests), lives_new cs n x ws q o e lives)) tt tt s.2,
   grind (arith, nat_tests, first_kept, ne_eqb),
-  attended_new p cs n x ws q d seats e s.2 s.3 s.4,
+  grind (arith, nat_tests, attended_at, service_new, sits_lives),
 )
   where
     q : Place
@@ -119,19 +114,13 @@ module _ (p : Image) (cs : List Cell) (o : Object) where
   unworked_unnamed : (t : Typing) (ls : List Layer) (back : Back) → Stack p t cs back ls → named cs o.name ≡ None → Unworked o.name ls
   unworked_unnamed t [] back s e = tt
   unworked_unnamed t (Method fr sh ∷ ls) back s e = (unworked_home ls fr.home s.2 e, unworked_unnamed t ls _ s.4 e)
-  unworked_unnamed t (Mark gv ∷ ls) back s e = unworked_unnamed t ls _ s.1 e
   unworked_unnamed t (Dying x ∷ ls) back s e = (grind (arith, nat_tests, ne_eqb x.name o.name), unworked_unnamed t ls _ s.2 e)
   unworked_unnamed t (Ending x left ∷ ls) back s e = unworked_unnamed t ls _ s.3 e
-  unworked_unnamed t (Unwinding code es ∷ ls) back s e = unworked_unnamed t ls _ s.1 e
   unworked_unnamed t (Dispatching d seats ∷ ls) back s e = subst (λ l. Unworked o.name l) (sym s.1) tt
-
--- what had no request has none beside a new cell
-unasked : (b : Bool) (r : Option Request) → r ≡ None → cond b None r ≡ None
-unasked x r e = grind arith
+  unworked_unnamed t (_ ∷ ls) back s e = unworked_unnamed t ls _ s.1 e
 
 -- a new cell in a register of the top method
-pub create :
-    (p : Image) (t : Typing) (cs : List Cell) (fr : Frame) (sh : Shape) (ls : List Layer) (n : ℕ) (x : Thing) (ws : List ℤ) (a : ℕ) (k : Kind) →
+pub create : (p : Image) (t : Typing) (cs : List Cell) (fr : Frame) (sh : Shape) (ls : List Layer) (n : ℕ) (x : Thing) (ws : List ℤ) (a : ℕ) (k : Kind) →
     Fitted p t cs fr sh ls →
     named cs n ≡ None →
     held cs (top ls a) ≡ None →
@@ -178,7 +167,7 @@ create p t cs fr sh ls n x ws a k g e free new word = record {
         go true = new (seen cs') no_field no_request
         go false = fits_weaker p (seen cs') (held cs r)
             (claim_rel Weaker (λ k. alike) p (declared p cs') (declared p cs) (Method fr sh ∷ ls) r (declared_new p cs n x ws (top ls a) e r))
-            (fits_age p (seen cs) (seen cs') (held cs r) _ (λ y e' fresh age. (age.0, unasked (n == y.name) (requested cs y.name) age.1)) (g.fits r))
+            (fits_age p (seen cs) (seen cs') (held cs r) _ (λ y e' fresh age. (age.0, grind arith)) (g.fits r))
 
     -- no layer works on what was not there
     suits : AllSuit p cs' (Method (next (set_word fr a None)) (set_register sh a k) ∷ ls)

@@ -79,8 +79,7 @@ module _ (p : Image) (t : Typing) (wired : IsWired p) (typed : IsTyped p t) (s :
       goes_well p t s.cells o q before below d.fits there deep less wired typed d.tidy
       (stack_moved p t s.cells q g below Gone free (omega arith) (omega arith) d.under_object)
       (untouched p t s.cells q o d.tidy there k below Gone (omega arith) d.under_object)
-      d.suits
-      (destroyed p (Some o) items (tasks_of below) s) (length items) high (ap (λ n. moved (Entry n) g s.cells) high) refl same undos
+      d.suits (destroyed p (Some o) items (tasks_of below) s) (length items) high (ap (λ n. moved (Entry n) g s.cells) high) refl same undos
 
   module _ (m : ℕ) (w : ℤ) (undo : IsUndo p m) (operation : entry_kind e ≡ Null) where
     -- what is known as an operation begins: its word
@@ -91,8 +90,7 @@ module _ (p : Image) (t : Typing) (wired : IsWired p) (typed : IsTyped p t) (s :
     fits_below : (r : Place) → Fits p (seen s.cells) (held s.cells r) (claim p (declared p s.cells) below r)
     fits_below r = grind (arith, nat_tests, less r)
 
-    runs_fitting :
-        (height : ℕ) (after : Shape) → SaysNoMore after (entry_shape p m) → (r : Place) →
+    runs_fitting : (height : ℕ) (after : Shape) → SaysNoMore after (entry_shape p m) → (r : Place) →
         Fits p (seen s.cells) (held s.cells r) (claim p (declared p s.cells) (Method (operation_frame m w height) after ∷ below) r)
     runs_fitting height after says (Register f i) = go (length (tasks_of below) == f) refl
       where
@@ -147,8 +145,7 @@ dealing p fr ts s (An_operation m w ∷ items) o at e there whole = grind (arith
 dealing p fr ts s _ o at e there whole = cc
 
 -- so it is there, and what follows is well typed
-pub deals :
-    (p : Image) (t : Typing) → IsWired p → IsTyped p t → (s : State) (e : Pushed) (before below : List Layer) → Dealing p t s e before below →
+pub deals : (p : Image) (t : Typing) → IsWired p → IsTyped p t → (s : State) (e : Pushed) (before below : List Layer) → Dealing p t s e before below →
     (top_is_whole s.cells s.items ≡ true) × WellTyped p t (dealt_with p s.items (tasks_of below) s)
 deals p t wired typed s e before below d = go e s.items d d.items d.undos
   where

@@ -12,7 +12,7 @@ use Rattle.aom_image.specs.declared.method.Role.TheVariants.{Destruct}
 use Rattle.aom_image.specs.declared.method.Thing.{Thing}
 use Rattle.aom_image.specs.declared.method.Thing.TheVariants.{Message, Object as An_object_of}
 use Rattle.aom_rules.specs.Calls.{is_destruct}
-use Rattle.aom_shape.specs.Kinds.{field, filled, is_object_or_null, may_be_destroyed, register, set_register}
+use Rattle.aom_shape.specs.Kinds.{field, filled, may_be_destroyed, register, set_register}
 use Rattle.aom_shape.specs.Order.{SaysNoMore, Weaker, WeakerFilling, alike, alike_filling}
 use Rattle.aom_shape.specs.Shape.{Shape}
 use Rattle.aom_roles.specs.Tables.{at}
@@ -21,7 +21,7 @@ use Rattle.aom_rules.specs.Typing.{IsTyped, Typing}
 use Rattle.aom_shape.specs.Arguments.{after_of, argument_kind, before_of, entry_fields, entry_shape}
 use Rattle.aom_shape.specs.declared.kind.Age.TheVariants.{Ready}
 use Rattle.aom_shape.specs.declared.kind.Filling.{Filling}
-use Rattle.aom_shape.specs.declared.kind.Filling.TheVariants.{Full, Perhaps}
+use Rattle.aom_shape.specs.declared.kind.Filling.TheVariants.{Perhaps}
 use Rattle.aom_shape.specs.declared.kind.Kind.{Kind}
 use Rattle.aom_shape.specs.declared.kind.Kind.TheVariants.{Null, Own, Unset}
 use Rattle.aom_safety.proofs.Claimed.{no_seat_outside, Outside, claim-set_register, claim_frame, claim_going_above, claim_register_above, claim_unclaimed}
@@ -35,7 +35,7 @@ use Rattle.aom_safety.proofs.Things.{stands_itself, stands_object}
 use Rattle.aom_safety.proofs.Housing.{counts_line, houses_role}
 use Rattle.aom_roles.proofs.Descending.{itself, through}
 use Rattle.aom_roles.specs.Families.{descends}
-use Rattle.aom_safety.specs.Claims.{Ending, by_close, Dispatching, Dying, Layer, Mark, Method, Unwinding, claim}
+use Rattle.aom_safety.specs.Claims.{Ending, Dispatching, Dying, Layer, Mark, Method, Unwinding, claim}
 use Rattle.aom_safety.specs.Claims.{declared, declared_field, forms, home_claim, items_of, own_field, tasks_of}
 use Rattle.aom_classes.specs.Roles.{destructor_of, role_of}
 use Rattle.aom_semantics.specs.Destruction.{destructor_frame, destructed, begun, begun_by}
@@ -43,17 +43,17 @@ use Rattle.aom_safety.specs.Laws.{IsWired}
 use Rattle.aom_semantics.specs.Effects.{applied, deletes}
 use Rattle.aom_semantics.specs.Objects.{is_no_message}
 use Rattle.aom_semantics.specs.Places.{In_service, Queued, service_of, Cell, Elsewhere, Entry, Field, Going, Object, Place, Register}
-use Rattle.aom_semantics.specs.Places.{Root, Sight, Tidy, changed, held, moved, named, requested, same_place, seen, Session}
-use Rattle.aom_semantics.specs.State.{Dispatch, Closing, Destroy, AtRoot, Choice, Frame, Home, Inside}
+use Rattle.aom_semantics.specs.Places.{Root, Tidy, changed, held, moved, named, requested, same_place, seen, Session}
+use Rattle.aom_semantics.specs.State.{Closing, Destroy, AtRoot, Choice, Frame, Home, Inside}
 use Rattle.aom_semantics.specs.State.{Run, Seat, State, Static, next, set_word, thing_holder, word}
-use Rattle.aom_safety.specs.WellTyped.{view_holder, SitsFirst, seat_of, IsOverDying, Now, AllSit, NoSeatAt, NoSeatIn, SitsIn, SomeSits}
-use Rattle.aom_safety.specs.WellTyped.{AllUndo, Back, Caught, Fits, Gone, Good, Houses, IsBelow, IsHoused, IsNoFieldOf, IsOfFamily}
+use Rattle.aom_safety.specs.WellTyped.{view_holder, IsOverDying, Now, AllSit, NoSeatAt, NoSeatIn, SomeSits}
+use Rattle.aom_safety.specs.WellTyped.{AllUndo, Back, Caught, Fits, Gone, Good, Houses, IsHoused, IsOfFamily}
 use Rattle.aom_safety.specs.WellTyped.{Leaves, NoneIn, NotIn, Returns, SomeIn, Stack, Unclaimed, WellTyped, WordFits, WorksOn}
 use Rattle.aom_roles.specs.Shapes.{kind_of}
 use Rattle.aom_safety.proofs.Suiting.{all_moved, known_plain, same_object, suits_less, unworked_rests}
 use Rattle.aom_safety.specs.Requests.{AllSuit, Suits, Unworked, resting_in, states_claim, thing_kind, works_at}
 use Rattle.aom_roles.specs.States.{last_of, states_of}
-use Rattle.aom_semantics.specs.Servers.{session_thing, is_server, has_session}
+use Rattle.aom_semantics.specs.Servers.{is_server}
 use Rattle.aom_roles.specs.Classes.{sessions_in, sessions_of}
 use Rattle.aom_image.specs.declared.class.ClassKind.{ClassKind}
 use Rattle.aom_roles.specs.Roles.{is_service, is_cancel}
@@ -85,15 +85,12 @@ module _ (p : Image) (t : Typing) (cs : List Cell) (q : Place) (o : Object) (tid
       Result : Home → Type 0
       Result home = (WorksOn o.name home → ⊥) × ((f : ℕ) → home_claim p (holder_of p fr.method) home sh o.name f (k f) ≡ k f) × NotIn o.name home × (works_at o.name home ≡ false)
 
-      not_in : (from : Place) → IsBelow from ls → IsNoFieldOf o.name from
-      not_in x b = grind arith
-
       of : (home : Home) → fr.home ≡ home → IsHoused p cs ls home → Result home
       of Static same h = (λ x. x, λ f. refl, tt, refl)
       of AtRoot same h = (λ x. x, λ f. refl, tt, refl)
       of (Inside x from) same h =
           let e = other_name from x h.there (outside_differs q from ls out (aside x from same) h.below) in
-          (λ same. true≢false (sym (eq-eqb x.name o.name same) ∙ e), λ f. ap (λ b. cond b (own_field (field_thing p (holder_of p fr.method) f) (field sh f) (k f)) (k f)) e, not_in from h.below, e)
+          (λ same. true≢false (sym (eq-eqb x.name o.name same) ∙ e), λ f. ap (λ b. cond b (own_field (field_thing p (holder_of p fr.method) f) (field sh f) (k f)) (k f)) e, grind arith, e)
 
       go : IsHoused p cs ls fr.home → Untouched p k o.name (Method fr sh ∷ ls)
       go h = let r = of fr.home refl h in record {
@@ -108,19 +105,13 @@ module _ (p : Image) (t : Typing) (cs : List Cell) (q : Place) (o : Object) (tid
   unseated : (xs : List Seat) → NoSeatHere q xs → AllSit cs xs → (SomeSits o.name xs → ⊥) × NoSeatIn o.name xs
   unseated xs h s = go xs (no_seat cs q xs h s) s
     where
-      not_in : (xs : List Seat) (r : Place) → SitsIn r xs → (SomeSits o.name xs → ⊥) → IsNoFieldOf o.name r
-      not_in xs x h none = grind arith
-
       go : (xs : List Seat) → NoSeatAt q xs → AllSit cs xs → (SomeSits o.name xs → ⊥) × NoSeatIn o.name xs
       go [] h s = (λ x. x, tt)
       go (x ∷ xs) h s =
           let above = go xs h.1 s.1 in
-          (λ some. ⊎_elim (λ same. true≢false (sym (eq-eqb x.object.name o.name same) ∙ other_name x.place x.object s.0.0 h.0)) above.0 some, (not_in xs x.place s.0.2 above.0, above.1))
+          (λ some. ⊎_elim (λ same. true≢false (sym (eq-eqb x.object.name o.name same) ∙ other_name x.place x.object s.0.0 h.0)) above.0 some, (grind arith, above.1))
 
   -- the close of a session with what sits is none with it
-  close_apart : (w : Dispatch) (seats : List Seat) → SitsFirst cs (seat_of w) seats → (SomeSits o.name seats → ⊥) → (c : ℕ) (k : Kind) → by_close w o.name c k ≡ k
-  close_apart x seats first none c k = grind (arith, nat_tests, ne_eqb)
-
   pub untouched : (k : ℕ → Kind) (ls : List Layer) (back : Back) → Outside q ls → Stack p t cs back ls → Untouched p k o.name ls
   untouched k [] back out s = record { some = λ x. x; unclaimed = λ f. refl; none_in = tt; unworked = tt; sessions = λ d c. refl }
   untouched k (Method fr sh ∷ ls) back out s = grind (
@@ -150,7 +141,7 @@ module _ (p : Image) (t : Typing) (cs : List Cell) (q : Place) (o : Object) (tid
         unclaimed = λ f. refl;
         none_in = (h.1, tt);
         unworked = tt;
-        sessions = λ d c. close_apart w seats s.3 h.0 c (d (Elsewhere (Session o.name c)));
+        sessions = λ d c. grind (arith, nat_tests, ne_eqb);
       })
   untouched k (Ending x left ∷ ls) back out s =
       let u = untouched k ls Now (outside_less q (Ending x left) ls out) s.3 in
@@ -211,9 +202,6 @@ undestructed : (p : Image) → IsWired p → (x : Thing) → destructor_of p x �
 unfolding kind_of last_of states_of
 undestructed p wired x e = grind arith
 
-no_fields_declared : (p : Image) → IsWired p → (x : Thing) → destructor_of p x ≡ None → (f : ℕ) → field_thing p (thing_holder x) f ≡ None
-no_fields_declared p wired x e f = grind arith
-
 -- with no arguments nothing is known of the registers as a method begins, and of the fields only where it constructs or is main
 pub entry_registers : (p : Image) (m : ℕ) → arguments_of p m ≡ [] → (i : ℕ) → register (entry_shape p m) i ≡ Unset
 entry_registers p m e i = ap (λ xs. at Unset (map argument_kind xs) i) e
@@ -228,9 +216,6 @@ destruct_fields p m e f = ap (λ r. at Perhaps (entry_fields r) f) e ∙ at_alik
 -- claimed once more at the place of a destruction
 abbrev Dies : Image → List Cell → Object → List Layer → Place → Kind
 Dies p cs o ls = changed (claim p (declared p cs) ls) (Going (length (tasks_of ls))) (Own o.thing Ready)
-
-null_of : (p : Image) (h : Sight) (x : Option Object) (k : Kind) → k ≡ Null → Fits p h x k → Fits p h x Null
-null_of p h x k e f = subst (λ k. Fits p h x k) e f
 
 pub unset_only : {k : Kind} → Weaker k Unset → k ≡ Unset
 unset_only alike = refl
@@ -255,10 +240,7 @@ unfolding last_of states_of sessions_in sessions_of
 server_last x e = grind arith
 
 module _ (p : Image) (t : Typing) (linked : IsWired p) (typed : IsTyped p t) (cs : List Cell) (o : Object) (ls : List Layer)
-    (tidy : Tidy cs)
-    (stack : Stack p t cs Gone ls)
-    (there : held cs (Going (length (tasks_of ls))) ≡ Some o)
-    (lives : named cs o.name ≡ Some o)
+    (tidy : Tidy cs) (stack : Stack p t cs Gone ls) (there : held cs (Going (length (tasks_of ls))) ≡ Some o) (lives : named cs o.name ≡ Some o)
     (apart : Untouched p (λ f. filled (field_thing p (thing_holder o.thing) f) Perhaps) o.name ls)
     (suits : AllSuit p cs ls) where
   fields_claim : (f : ℕ) → claim p (declared p cs) ls (Field o.name f) ≡ filled (field_thing p (thing_holder o.thing) f) Perhaps
@@ -275,7 +257,7 @@ module _ (p : Image) (t : Typing) (linked : IsWired p) (typed : IsTyped p t) (cs
 
     -- with no destructor
     bare : destructor_of p o.thing ≡ None → (r : Place) → Fits p (seen cs) (held cs r) (claim p (declared p cs) (Dying o ∷ ls) r)
-    bare none (Field n f) = grind (arith, nat_tests, no_fields_declared p linked o.thing none f, fields_fit n f)
+    bare none (Field n f) = grind (arith, nat_tests, fields_fit n f)
     bare none x = grind arith
 
     -- with one
@@ -283,7 +265,7 @@ module _ (p : Image) (t : Typing) (linked : IsWired p) (typed : IsTyped p t) (cs
         ((f : ℕ) → field_thing p (holder_of p m) f ≡ None → held cs (Field o.name f) ≡ None) → SaysNoMore after (entry_shape p m) → (r : Place) →
         Fits p (seen cs) (held cs r) (claim p (declared p cs) (Method (destructor_frame p m o (length (tasks_of ls)) height) after ∷ Dying o ∷ ls) r)
     clothed m height after is others w (Register f i) =
-        grind (arith, nat_tests, unset_only, entry_registers p m is.arguments i, fits_unowning p, null_of p, claim_register_above p cs ls f i, eqb-true)
+        grind (arith, nat_tests, unset_only, entry_registers p m is.arguments i, fits_unowning p, claim_register_above p cs ls f i, eqb-true)
     clothed m height after is others w (Field n f) = grind (arith, nat_tests, perhaps_only, destruct_fields p m is.role f, fields_fit n f, eqb-true o.name n)
     clothed m height after is others w (Elsewhere Root) = fits (Elsewhere Root)
     clothed m height after is others w (Elsewhere In_service) = grind (arith, nat_tests, plain_claim)
@@ -291,14 +273,6 @@ module _ (p : Image) (t : Typing) (linked : IsWired p) (typed : IsTyped p t) (cs
     clothed m height after is others w _ = grind (arith, nat_tests)
 
     -- and all others are as they were
-    bare_suits : last_of (thing_kind p o.thing) ≡ states_of (thing_kind p o.thing) → AllSuit p cs (Dying o ∷ ls)
-    bare_suits last x there = grind (arith, nat_tests, same_object cs o x lives there, there, rested)
-
-    clothed_suits :
-        (m height : ℕ) (after : Shape) → Destroys p o.thing m → SaysNoMore after (entry_shape p m) →
-        AllSuit p cs (Method (destructor_frame p m o (length (tasks_of ls)) height) after ∷ Dying o ∷ ls)
-    clothed_suits m height after is w x there = grind (arith, nat_tests, same_object cs o x lives there, there, known_plain p, suits_less, rested)
-
     -- so one of the line begins, where the fields that its class does not declare are null
     pub begins_line : (m : ℕ) → Destroys p o.thing m → ((f : ℕ) → field_thing p (holder_of p m) f ≡ None → held cs (Field o.name f) ≡ None) →
         (s : State) (height : ℕ) → height ≡ length (items_of ls) → s.cells ≡ cs → s.tasks ≡ Run
@@ -324,7 +298,7 @@ module _ (p : Image) (t : Typing) (linked : IsWired p) (typed : IsTyped p t) (cs
             ((lives, there), (d.stays, refl, ap is_destruct d.role, d.gives, d.ends, d.quiet, d.family.0, d.family.1, d.family.2), stack),
           );
           fits = clothed m height leads.0 d others w;
-          suits = clothed_suits m height leads.0 d w;
+          suits = grind (arith, nat_tests, same_object, there, known_plain, suits_less, rested);
           tidy = tidy;
         } in
         begins_well p t cs fr leads.0 (Dying o ∷ ls) s w.entries good cells tasks items undos
@@ -340,8 +314,13 @@ module _ (p : Image) (t : Typing) (linked : IsWired p) (typed : IsTyped p t) (cs
           tasks = tasks;
           items = items;
           undos = undos;
-          good = subst (λ cs. Good p t cs (Dying o ∷ ls))
-              (sym cells) (record { stack = ((lives, there), tt, stack); fits = bare e; suits = bare_suits (undestructed p linked o.thing e); tidy = tidy });
+          good = subst (λ cs. Good p t cs (Dying o ∷ ls)) (sym cells) (record {
+            stack = ((lives, there), tt, stack);
+            fits = bare e;
+            suits =
+                grind (arith, nat_tests, same_object, there, rested, undestructed p linked o.thing e);
+            tidy = tidy;
+          });
         }
         go (Some m) e tasks = begins_line m (destroys p linked o.thing m e) (others m e) s height high cells tasks items undos
           where
@@ -351,21 +330,6 @@ module _ (p : Image) (t : Typing) (linked : IsWired p) (typed : IsTyped p t) (cs
 
   -- with its sessions
   module _ (fits : (r : Place) → Fits p (seen cs) (held cs r) (Dies p cs o ls r)) where
-    -- what its clients have is a session each
-    sessions_fit : (c : ℕ) → Fits p (seen cs) (held cs (Elsewhere (Session o.name c))) (cond (has_session (service_of cs o.name) c) (filled (session_thing p (Some o)) Full) Null)
-    sessions_fit c = grind (arith, nat_tests)
-
-    -- what is no server has none
-    none_at : is_server p o.thing ≡ false → (c : ℕ) → Fits p (seen cs) (held cs (Elsewhere (Session o.name c))) Null
-    none_at plain c = grind arith
-
-    bare_fits : is_server p o.thing ≡ false → (r : Place) → Fits p (seen cs) (held cs r) (Bare p cs o ls r)
-    bare_fits plain x = grind (arith, nat_tests, eqb-true o.name, none_at plain)
-
-    -- all of them are left
-    ending_fits : (r : Place) → Fits p (seen cs) (held cs r) (claim p (declared p cs) (Ending o (service_of cs o.name).sessions ∷ Dying o ∷ ls) r)
-    ending_fits x = grind (arith, nat_tests, eqb-true o.name, fields_claim, sessions_fit)
-
     -- so a destruction begins
     pub begin : (s : State) (height : ℕ) → height ≡ length (items_of ls) → s.cells ≡ cs → s.tasks ≡ begun p o height (tasks_of ls) → forms s.items ≡ items_of ls → AllUndo p s.items → WellTyped p t s
     begin s height high cells tasks items undos = go (is_server p o.thing) refl tasks
@@ -383,7 +347,7 @@ module _ (p : Image) (t : Typing) (linked : IsWired p) (typed : IsTyped p t) (cs
             at_name false e = suits x lives'
 
         go : (b : Bool) → is_server p o.thing ≡ b → s.tasks ≡ cond b (Closing ∷ Destroy ∷ tasks_of ls) (destructed p o height (tasks_of ls)) → WellTyped p t s
-        go false plain tasks = destruct (bare_fits plain) s height high cells tasks items undos
+        go false plain tasks = destruct (grind (arith, nat_tests, eqb-true)) s height high cells tasks items undos
         go true server tasks = record {
           layers = Ending o left ∷ Dying o ∷ ls;
           tasks = tasks;
@@ -391,7 +355,7 @@ module _ (p : Image) (t : Typing) (linked : IsWired p) (typed : IsTyped p t) (cs
           undos = undos;
           good = subst (λ cs'. Good p t cs' (Ending o left ∷ Dying o ∷ ls)) (sym cells) (record {
             stack = (record { server = server; lives = lives; listed = λ c h. h }, tt, refl, ((lives, there), tt, stack));
-            fits = ending_fits;
+            fits = grind (arith, nat_tests, eqb-true, fields_claim);
             suits = rests server;
             tidy = tidy;
           });
@@ -399,8 +363,7 @@ module _ (p : Image) (t : Typing) (linked : IsWired p) (typed : IsTyped p t) (cs
 
 -- a thing goes from q to the place of its destruction
 module _ (p : Image) (t : Typing) (cs : List Cell) (o : Object) (q : Place) (ls ls' : List Layer)
-    (fits : (r : Place) → Fits p (seen cs) (held cs r) (claim p (declared p cs) ls r))
-    (there : held cs q ≡ Some o)
+    (fits : (r : Place) → Fits p (seen cs) (held cs r) (claim p (declared p cs) ls r)) (there : held cs q ≡ Some o)
     (same : length (tasks_of ls) ≤ length (tasks_of ls'))
     (claims : (r : Place) → claim p (declared p cs) ls' r ≡ changed (claim p (declared p cs) ls) q Null r) where
   pub no_going : held cs (Going (length (tasks_of ls'))) ≡ None
@@ -438,9 +401,6 @@ module _ (p : Image) (t : Typing) (c : Choice) (s : State) (fr : Frame) (sh : Sh
   pub law_delete : IsWired p → IsTyped p t → (a : ℕ) → Law p t c s fr sh ls at_hand (Delete a)
   law_delete linked typed a n leads = ((ap is_none none, (no_message (held s.cells (top ls a)) (register sh a) n.0 (kind_fits p t c s fr sh ls at_hand a), tt)), go (held s.cells (top ls a)) refl)
     where
-      destroyed_object : (k : Kind) → may_be_destroyed k ≡ true → is_object_or_null k ≡ true
-      destroyed_object x e = grind arith
-
       no_message : (o : Option Object) (k : Kind) → may_be_destroyed k ≡ true → Fits p (seen s.cells) o k → is_no_message o ≡ true
       no_message x k e f = grind (arith, nat_tests, stands_object p)
 
@@ -448,7 +408,7 @@ module _ (p : Image) (t : Typing) (c : Choice) (s : State) (fr : Frame) (sh : Sh
       cs = s.cells
 
       none : word fr a ≡ None
-      none = no_word p t c s fr sh ls at_hand a (destroyed_object (register sh a) n.0)
+      none = no_word p t c s fr sh ls at_hand a (grind arith)
 
       fr' : Frame
       fr' = set_word fr a None

@@ -32,7 +32,7 @@ use Rattle.aom_shape.specs.declared.kind.Filling.{Filling}
 use Rattle.aom_shape.specs.declared.kind.Filling.TheVariants.{Perhaps}
 use Rattle.aom_shape.specs.declared.kind.Kind.TheVariants.{Null}
 use Rattle.aom_safety.proofs.Claimed.{claim_unclaimed, claim_register_above}
-use Rattle.aom_safety.proofs.Finishing.{perhaps_fits, ended_plainly, no_entries, none_left, none_owns_at, return_needs, returnable, same_items}
+use Rattle.aom_safety.proofs.Finishing.{ended_plainly, no_entries, none_left, none_owns_at, return_needs, returnable, same_items}
 use Rattle.aom_safety.proofs.Going.{past_by}
 use Rattle.aom_safety.proofs.Straight.{At, Law, fits_unowning}
 use Rattle.aom_safety.specs.Claims.{forms, declared_field, Dying, Layer, claim, declared, items_of, own_field, tasks_of}
@@ -119,22 +119,14 @@ module _ (p : Image) (t : Typing) (c : Choice) (s : State) (fr : Frame) (sh : Sh
   -- with what the rule says of the registers, of the entries and of the fields
   module _ (entries : no_entry sh.entries ≡ true) (free : none_owns sh.registers ≡ true) (done : empty_past above (fields_of p line.class) sh.fields ≡ true)
       (ends : IsTrue (has (after_of p fr.method) sh.states)) where
-    -- what is claimed of a field of the cell
-    own_fits : (f : ℕ) → Fits p h (held cs (Field o.name f)) (own_field (field_thing p (holder_of p fr.method) f) (field sh f) Null)
-    own_fits f = grind (arith, nat_tests, home)
-
     -- nothing is left past the parent's
     past : (f : ℕ) → above ≤ f → held cs (Field o.name f) ≡ None
-    past f le = go (field_thing p (holder_of p fr.method) f) refl (own_fits f)
+    past f le = go (field_thing p (holder_of p fr.method) f) refl (grind (arith, nat_tests, home))
       where
         go : (x : Option Thing) → field_thing p (holder_of p fr.method) f ≡ x → Fits p h (held cs (Field o.name f)) (own_field x (field sh f) Null) → held cs (Field o.name f) ≡ None
         go None e fits = fits_unowning p h (held cs (Field o.name f)) Null refl fits
         go (Some y) e fits = empty_none p h (held cs (Field o.name f)) y
             (field sh f) (past_at above (fields_of p line.class) sh.fields f y done le (ap (λ k. field_thing p k f) (sym holder) ∙ e)) fits
-
-    -- and all are as they are declared
-    all_fit : (f : ℕ) → Fits p h (held cs (Field o.name f)) (filled (field_thing p (thing_holder o.thing) f) Perhaps)
-    all_fit f = grind (arith, nat_tests, own_fits f, fits_unowning p, perhaps_fits p)
 
     -- of all other places what stands below claims what is so
     abbrev IsBeside : Place → Type 0
@@ -144,8 +136,7 @@ module _ (p : Image) (t : Typing) (c : Choice) (s : State) (fr : Frame) (sh : Sh
     beside : (r : Place) → IsBeside r → Fits p h (held cs r) (claim p (declared p cs) (Dying o ∷ ls) r)
     beside (Register f i) u = go (length (tasks_of (Dying o ∷ ls)) == f) refl (at_hand.good.fits (Register f i))
       where
-        go :
-            (b : Bool) → (length (tasks_of (Dying o ∷ ls)) == f) ≡ b →
+        go : (b : Bool) → (length (tasks_of (Dying o ∷ ls)) == f) ≡ b →
             Fits p h (held cs (Register f i)) (cond b (register sh i) (claim p (declared p cs) ls (Register f i))) →
             Fits p h (held cs (Register f i)) (claim p (declared p cs) ls (Register f i))
         go true e fits = rw (claim_register_above p cs ls f i (omega (arith, eqb-true _ _ e)))
@@ -178,7 +169,7 @@ module _ (p : Image) (t : Typing) (c : Choice) (s : State) (fr : Frame) (sh : Sh
             (λ f. filled (field_thing p (thing_holder o.thing) f) Perhaps) apart.unclaimed (ap (λ x. declared_field p x f) at_hand.good.stack.4.0.0)
 
         go : (b : Bool) → (o.name == n) ≡ b → Fits p h (held cs (Field n f)) (claim p (declared p cs) ls (Field n f))
-        go true e = subst (λ n. Fits p h (held cs (Field n f)) (claim p (declared p cs) ls (Field n f))) (eqb-true o.name n e) (grind (arith, nat_tests, declares, all_fit))
+        go true e = subst (λ n. Fits p h (held cs (Field n f)) (claim p (declared p cs) ls (Field n f))) (eqb-true o.name n e) (grind (arith, nat_tests, declares))
         go false e = subst (λ b. Fits p h (held cs (Field n f)) (cond b Null (claim p (declared p cs) ls (Field n f)))) e (beside (Field n f) e)
     bare (Going k) = grind (arith, nat_tests, beside (Going k))
     bare (Register f i) = beside (Register f i) tt
@@ -212,11 +203,7 @@ module _ (p : Image) (t : Typing) (c : Choice) (s : State) (fr : Frame) (sh : Sh
         none (Field m f) e = of_name m f (o.name == m) refl e
         none (Elsewhere (Session m client)) e = session m client e
         none (Elsewhere (Queued m k)) e = queued m k (m == o.name) refl (eqb_comm m o.name ∙ e)
-        none (Elsewhere Root) e = cc
-        none (Elsewhere In_service) e = cc
-        none (Register f i) e = cc
-        none (Entry k) e = cc
-        none (Going k) e = cc
+        none _ e = cc
 
     -- the next of the line begins, or there is none and the parent has no fields
     module _ (wired : IsWired p) (typed : IsTyped p t) (items : forms s.items ≡ items_of ls) where
@@ -255,9 +242,7 @@ module _ (p : Image) (t : Typing) (c : Choice) (s : State) (fr : Frame) (sh : Sh
       let free : none_owns sh.registers ≡ true = ap (λ g. none_owns (result_moved p fr.method fr.place sh g a).registers) (sym its.3) ∙ r.free in
       let entries : no_entry sh.entries ≡ true = none_left p fr sh a its.3 r in
       let items = same_items p t c s fr sh (Dying o ∷ ls) at_hand entries in (
-        return_needs p t c s fr sh (Dying o ∷ ls) at_hand a r
-            (rw its.3 tt)
-            (rw home (rw line.of (left entries free done r.ends))),
+        return_needs p t c s fr sh (Dying o ∷ ls) at_hand a r (rw its.3 tt) (rw home (rw line.of (left entries free done r.ends))),
         grind (
           arith,
           nat_tests,

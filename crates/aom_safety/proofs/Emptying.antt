@@ -34,8 +34,7 @@ none_first : (cs : List Cell) (n : ℕ) (ss : List ℕ) → first_session cs n s
 none_first cs n [] e c among = cc
 none_first cs n (d ∷ ss) e c among = go (held cs (Elsewhere (Session n d))) refl e (λ e h. none_first cs n ss e c h)
   where
-    go :
-        (o : Option Object) → held cs (Elsewhere (Session n d)) ≡ o → seat_or o (Elsewhere (Session n d)) (first_session cs n ss) ≡ None →
+    go : (o : Option Object) → held cs (Elsewhere (Session n d)) ≡ o → seat_or o (Elsewhere (Session n d)) (first_session cs n ss) ≡ None →
         (first_session cs n ss ≡ None → is_among c ss ≡ true → held cs (Elsewhere (Session n c)) ≡ None) → held cs (Elsewhere (Session n c)) ≡ None
     go o there e later = grind arith
 
@@ -111,15 +110,11 @@ module _ (p : Image) (t : Typing) (wired : IsWired p) (typed : IsTyped p t) (s :
       where
         go : (b : Bool) → (o.name == x.name) ≡ b → Suits (thing_kind p x.thing) (cond b (resting_in (last_of (thing_kind p x.thing))) (states_claim p x ls))
             (requested cs x.name) → Suits (thing_kind p x.thing) (states_claim p x ls) (requested cs x.name)
-        go true e h =
-            subst (λ y. Suits (thing_kind p y.thing) (states_claim p y ls) (requested cs y.name)) (same_object cs o x lives lives' e)
+        go true e h = subst (λ y. Suits (thing_kind p y.thing) (states_claim p y ls) (requested cs y.name)) (same_object cs o x lives lives' e)
             (subst (λ k. Suits (thing_kind p o.thing) k (requested cs o.name)) (sym (unworked_rests p o ls own.unworked))
             (subst (λ n. Suits (thing_kind p o.thing) (resting_in n) (requested cs o.name)) (server_last (thing_kind p o.thing) good.stack.0.server)
             (subst (λ y. Suits (thing_kind p y.thing) (resting_in (last_of (thing_kind p y.thing))) (requested cs y.name)) (sym (same_object cs o x lives lives' e)) h)))
         go false e h = h
-
-    last_gone : WellTyped p t (parting p o None (tasks_of ls) s)
-    last_gone = grind (arith, nat_tests, destruct, there, lives, own, suits_below, bare, high)
 
   -- one more goes
   module _ (c : ℕ) (so : Object) (holds : held cs (Elsewhere (Session o.name c)) ≡ Some so) where
@@ -151,13 +146,11 @@ module _ (p : Image) (t : Typing) (wired : IsWired p) (typed : IsTyped p t) (s :
     session_gone =
         let k : ℕ → Kind = λ f. filled (field_thing p (thing_holder so.thing) f) Perhaps in
         goes_well p t cs so q before over good.fits holds (omega arith) claims wired typed good.tidy
-        (stack_moved p t cs q g over Gone free outside (omega arith) stack_over)
-        (untouched p t cs q so good.tidy holds k over Gone outside stack_over)
-        good.suits
-        (parting p o (Some (record { object = so; place = q })) (tasks_of ls) s) (length s.items) high refl refl items undos
+        (stack_moved p t cs q g over Gone free outside (omega arith) stack_over) (untouched p t cs q so good.tidy holds k over Gone outside stack_over)
+        good.suits (parting p o (Some (record { object = so; place = q })) (tasks_of ls) s) (length s.items) high refl refl items undos
 
   closing_well : (x : Option Seat) → first_session cs o.name (service_of cs o.name).sessions ≡ x → WellTyped p t (parting p o x (tasks_of ls) s)
-  closing_well None e = grind (arith, nat_tests, last_gone, none_first, fits_unowning p)
+  closing_well None e = grind (arith, nat_tests, destruct, there, lives, own, suits_below, bare, high, none_first, fits_unowning p)
   closing_well (Some x) e =
       let f = found_first cs o.name (service_of cs o.name).sessions x e in
       subst (λ (y : Seat). WellTyped p t (parting p o (Some y) (tasks_of ls) s)) (ap (λ q. record { object = x.object; place = q }) (sym f.place)) (grind (arith, nat_tests, session_gone))

@@ -81,12 +81,7 @@ module _ (p : Image) (t : Typing) (typed : IsTyped p t) (cs : List Cell) (x : Se
       below x h = grind arith
 
   apart : IsApart p (thing_view x.object.thing) m (Inside x.object x.place) over
-  apart = (
-    own_place,
-    e.none_in x.object.name (own_place, no_fields cs x.object.name above e.sits.0.3 e.sits.1),
-    grind (arith, nat_tests),
-    e.joins,
-  )
+  apart = (own_place, e.none_in x.object.name (own_place, no_fields cs x.object.name above e.sits.0.3 e.sits.1), grind (arith, nat_tests), e.joins)
     where
       own_place : IsNoFieldOf x.object.name x.place
       own_place = no_field x.object.name x.place above e.sits.0.3 e.sits.0.2
@@ -112,8 +107,7 @@ module _ (p : Image) (t : Typing) (typed : IsTyped p t) (cs : List Cell) (x : Se
 
       go : (b : Bool) → (x.object.name == n) ≡ b → (own : Option Thing) → field_thing p (holder_of p m) f ≡ own → Fits p (seen cs)
           (held cs (Field n f)) (cond b (own_field own (field after f) (claim p (declared p cs) over (Field n f))) (claim p (declared p cs) over (Field n f)))
-      go true same (Some z) is =
-          subst (λ k. Fits p (seen cs) (held cs (Field k f)) (filled (Some z) (field after f))) (eqb-true x.object.name n same)
+      go true same (Some z) is = subst (λ k. Fits p (seen cs) (held cs (Field k f)) (filled (Some z) (field after f))) (eqb-true x.object.name n same)
           (subst (λ y. Fits p (seen cs) (held cs (Field x.object.name f)) (filled y (field after f))) (e.holder.fields f z is)
           (subst (λ y. Fits p (seen cs) (held cs (Field x.object.name f)) (filled (field_thing p (thing_holder x.object.thing) f) y)) (sym unfilled) (grind arith)))
       go true same None is = base (Field n f)

@@ -1,16 +1,14 @@
 -- The laws of the cleanup stack's instructions.
 use Rattle.std.proofs.lemmas.Bool.Decides.{nat_tests}
 use Rattle.std.proofs.Common.{Bool, List, None, Option, Some, [], ap, arith, cond, false, length, refl, subst, suc, sym, true, ℕ, ℤ, ◌∙◌, ◌∷◌, ◌≡◌}
-use Rattle.std.proofs.lemmas.Bool.{true≢false}
 use Rattle.std.specs.Prelude.{is_none, is_some, not}
 use Rattle.aom_image.specs.Image.{Image}
 use Rattle.aom_image.specs.Views.{instr_at}
 use Rattle.aom_instructions.specs.declared.instr.Instr.TheVariants.{NewOrLeave, Pop, PopDelete, PopOperation, Push, PushOperation}
 use Rattle.aom_image.specs.declared.method.Thing.TheVariants.{Object as An_object_of}
-use Rattle.aom_rules.specs.Calls.{brought}
 use Rattle.aom_rules.specs.Cleanup.{entry_of, owns_object, top_kind, tops_object as tops_object_entry, tops_operation as tops_operation_entry}
 use Rattle.aom_shape.specs.Entries.{with_entry, without_top}
-use Rattle.aom_shape.specs.Kinds.{entry_kind, is_object_or_null, no_entry, register, set_register}
+use Rattle.aom_shape.specs.Kinds.{entry_kind, no_entry, register, set_register}
 use Rattle.aom_rules.specs.Objects.{new_age}
 use Rattle.aom_shape.specs.Shape.{Shape}
 use Rattle.aom_rules.specs.Typing.{IsTyped, Leads, Typing}
@@ -28,15 +26,15 @@ use Rattle.aom_safety.proofs.Straight.{frames_reworded, At, Fitted, Law, claim_r
 use Rattle.aom_safety.proofs.Straight.{no_word, no_word_fits, relabel, relocate, settle, top, well, words_set}
 use Rattle.aom_safety.proofs.Things.{stands_itself, stands_object}
 use Rattle.aom_safety.proofs.Words.{has_word}
-use Rattle.aom_semantics.specs.Calls.{below_top, result_register}
+use Rattle.aom_semantics.specs.Calls.{below_top}
 use Rattle.aom_safety.specs.Claims.{Form, Layer, Method, Object_form, Operation_form, claim, declared, entry_form, forms, items_of, objects, tasks_of}
 use Rattle.aom_semantics.specs.Cleanup.{leave_needs, no_memory, pushed_cells, top_place, tops_entry, tops_object, tops_operation}
 use Rattle.aom_safety.specs.Laws.{IsWired}
 use Rattle.aom_semantics.specs.Moves.{does, needs}
 use Rattle.aom_semantics.specs.Objects.{is_no_message}
 use Rattle.aom_semantics.specs.Places.{Cell, Entry, Object, Place, Sight, changed, held, moved, same_place, seen}
-use Rattle.aom_semantics.specs.State.{An_object, An_operation, Choice, Frame, Item, Run, State, Static, next, set_word}
-use Rattle.aom_safety.specs.WellTyped.{AllUndo, Awaits, Fits, Gone, IsUndo, Returns, Stack, WellTyped}
+use Rattle.aom_semantics.specs.State.{An_object, An_operation, Choice, Frame, Item, Run, State, next, set_word}
+use Rattle.aom_safety.specs.WellTyped.{AllUndo, Fits, Gone, IsUndo, Stack, WellTyped}
 use Rattle.aom_semantics.specs.Effects.{Made, Pushed as Object_pushed, Pushed_operation as Operation_pushed, Same, applied, sets, unless_refused, updates}
 use Rattle.aom_semantics.specs.Words.{read}
 use Rattle.aom_instructions.specs.declared.instr.Instr.{Instr}
@@ -44,22 +42,12 @@ use Rattle.aom_roles.specs.Tests.{AllTrue}
 
 -- ---- kinds of objects that may be pushed
 
-entry_again : (k : Kind) → owns_object k ≡ true → entry_kind (entry_of k) ≡ k
-entry_again x e = grind arith
-
 object_again : (k : Kind) → owns_object k ≡ true → entry_form (entry_of k) ≡ Object_form
 object_again x e = grind arith
-
-owned_or_null : (k : Kind) → owns_object k ≡ true → is_object_or_null k ≡ true
-owned_or_null x e = grind arith
 
 -- such a place holds an object, and no message
 owned_met : (p : Image) (h : Sight) (o : Option Object) (k : Kind) → owns_object k ≡ true → Fits p h o k → (is_some o ≡ true) × (is_no_message o ≡ true)
 owned_met p h x y e f = grind (arith, nat_tests, stands_object p)
-
--- an entry's register holds no word
-entry_object : (x : Pushed) → is_object_or_null (entry_kind x) ≡ true
-entry_object x = grind arith
 
 -- ---- the last item
 
@@ -128,18 +116,17 @@ module _ (p : Image) (t : Typing) (c : Choice) (s : State) (fr : Frame) (sh : Sh
       let claims = λ (r : Place).
       claim_push p d fr (set_register sh a Null) ls (entry_of k) r
       ∙ ap (λ x. changed (claim p d (Method fr (set_register sh a Null) ∷ ls)) x (entry_kind (entry_of k)) r) next_place
-      ∙ ap (λ v. changed (claim p d (Method fr (set_register sh a Null) ∷ ls)) q v r) (entry_again k owns)
+      ∙ ap (λ v. changed (claim p d (Method fr (set_register sh a Null) ∷ ls)) q v r) (grind arith)
       ∙ ap (λ x. cond (same_place q r) k x) (claim-set_register p d fr sh ls a Null r)
       ∙ ap (λ x. changed (changed (claim p d (Method fr sh ∷ ls)) (top ls a) Null) q x r) (sym (claim_register p d fr sh ls a)) in
       relocate p t s.cells fr (next (set_word fr a None)) sh (pushed_shape a) ls (top ls a) q
       g refl refl refl refl no_entry_yet (omega arith) (omega (arith, height, length_objects sh.entries (items_of ls)))
-      (λ o from e. (tt, tt)) (λ r x e k f. refl) claims
-      (words_set fr.words sh a None Null at_hand.good.stack.1.words refl)
+      (λ o from e. (tt, tt)) (λ r x e k f. refl) claims (words_set fr.words sh a None Null at_hand.good.stack.1.words refl)
 
   pub law_push : IsWired p → (a : ℕ) → Law p t c s fr sh ls at_hand (Push a)
   law_push wired a n leads = (
     (
-      ap is_none (no_word p t c s fr sh ls at_hand a (owned_or_null (register sh a) n.0)),
+      ap is_none (no_word p t c s fr sh ls at_hand a (grind arith)),
       (met.0, (met.1, (trap_is_there p t cells fr' (pushed_shape a) ls there n.1.0 n.1.1.0, needed c.refused))),
     ),
     goes c.refused,
@@ -223,8 +210,7 @@ module _ (p : Image) (t : Typing) (c : Choice) (s : State) (fr : Frame) (sh : Sh
           ∙ ap (λ y. cond (same_place (top ls a) r) k y) (entry_less p s.cells fr sh ls x es e rest known r)
           ∙ ap (λ y. changed (changed (claim p d (Method fr sh ∷ ls)) q Null) (top ls a) y r) (sym (entry_here p s.cells fr sh ls x es e rest known)) in
           let there = relocate p t s.cells fr fr' sh sh' ls q (top ls a) g refl refl refl refl free (omega (arith, high, length_objects es (items_of ls))) (omega arith)
-          (λ o from e. (tt, tt)) (λ r x e k f. refl) claims
-          (words_set fr.words sh a None k at_hand.good.stack.1.words (no_word_fits k (entry_object x))) in
+          (λ o from e. (tt, tt)) (λ r x e k f. refl) claims (words_set fr.words sh a None k at_hand.good.stack.1.words (no_word_fits k (grind arith))) in
           let lead : Leads t fr.method (suc fr.place) sh' = subst (λ es. Leads t fr.method (suc fr.place) (set_register (record sh { entries = without_top es }) a (top_kind es))) e leads.0 in
           let undos : AllUndo p rest = subst (λ i. AllUndo p i) is at_hand.undos in (
             (ap is_none free, (ap tops_entry is, (ap tops_object is, tt))),
@@ -273,24 +259,6 @@ module _ (p : Image) (t : Typing) (c : Choice) (s : State) (fr : Frame) (sh : Sh
       waits x es e = (lead x es e, frames_reworded at_hand.good.stack.1 at_hand.good.stack.1.words, at_hand.good.stack.2, at_hand.good.stack.3, at_hand.good.stack.4)
 
       -- for a method that gives nothing and does not leave
-      awaits : (x : Pushed) (es : List Pushed) → sh.entries ≡ x ∷ es → (m : ℕ) → IsUndo p m → Stack p t s.cells (Returns m Static) (Method fr (record sh { entries = es }) ∷ ls)
-      awaits x es e m is =
-          let r = result_register (instr_at p fr.method fr.place) in
-          let less = record sh { entries = es } in
-          let below = waits x es e in (
-            (
-              λ may. absurd (true≢false (sym may ∙ is.leaves)),
-              subst (λ gives. Awaits gives r less) (sym is.gives) tt,
-              subst (λ gives. Leads t fr.method (suc fr.place) (brought gives r less)) (sym is.gives) (lead x es e),
-              tt,
-              λ q. is.quiet,
-            ),
-            below.1,
-            below.2,
-            below.3,
-            below.4,
-          )
-
       known : (x : Pushed) (es : List Pushed) → sh.entries ≡ x ∷ es → forms s.items ≡ entry_form x ∷ objects es (items_of ls)
       known x es e = at_hand.items ∙ ap (λ es. objects es (items_of ls)) e
 
@@ -313,7 +281,7 @@ module _ (p : Image) (t : Typing) (c : Choice) (s : State) (fr : Frame) (sh : Sh
             undos = at_hand.undos;
             under_object = waits x es e;
             unserved = λ x. x;
-            under_operation = awaits x es e;
+            under_operation = grind (arith, nat_tests, waits, lead);
           } in
           let w = deals p t wired typed s x (Method fr sh ∷ ls) (Method fr less ∷ ls) d in
           let topped = tops x (objects es (items_of ls)) s.items (known x es e) in

@@ -41,8 +41,7 @@ module _ (p : Image) (linked : IsLinked p) where
 
   owned_before : (c d f : ℕ) → field_thing p (Member c) f ≡ Some (An_object_of d) → d < c
   unfolding fields_in class_at
-  owned_before c d f e =
-      some_given (λ o. slice_get (fields_in o) f ≡ Some (An_object_of d)) (class_at p c) e (λ e. cc)
+  owned_before c d f e = some_given (λ o. slice_get (fields_in o) f ≡ Some (An_object_of d)) (class_at p c) e (λ e. cc)
       (λ k g e. (all_there (OwnsBefore p c) k.fields f (An_object_of d) (at_place (ClassOrdered p) p.classes c k linked.classes.classes g).fields e).0)
 
   -- a class with a field, or with sessions, is there, and so is what descends from one
@@ -59,8 +58,7 @@ module _ (p : Image) (linked : IsLinked p) where
 
   words_so : (c d : ℕ) → descends p c d ≡ true → word_count p (Member d) ≤ word_count p (Member c)
   unfolding words_in
-  words_so c d h =
-      along p (λ x. word_count p (Member d) ≤ word_count p (Member x)) d
+  words_so c d h = along p (λ x. word_count p (Member d) ≤ word_count p (Member x)) d
       (λ x e is up. let k = continued p linked.parents x e is in omega (arith, up, k.continues.words, ap words_in k.at, ap words_in k.above)) (omega arith) c h
 
   -- what descends from a class is of its kind

@@ -32,8 +32,8 @@ use Rattle.aom_safety.proofs.Items.{length_forms}
 use Rattle.aom_semantics.proofs.Maps.{at-put_at, front_free}
 use Rattle.aom_safety.proofs.Straight.{At, fits_unowning, free_register, top}
 use Rattle.aom_semantics.specs.Calls.{end_needs, is_level, is_register_but, leaves_object, none_owns_but, result_needs, result_source, returned}
-use Rattle.aom_safety.specs.Claims.{own_field, serves, delivered, Dispatching, Dying, Layer, Mark, Method, Object_form, Unwinding, claim}
-use Rattle.aom_safety.specs.Claims.{declared, declared_field, entry_claim, forms, home_claim, items_of, objects, tasks_of, Ending}
+use Rattle.aom_safety.specs.Claims.{own_field, serves, delivered, Dispatching, Layer, Method, Object_form, claim}
+use Rattle.aom_safety.specs.Claims.{declared, declared_field, entry_claim, forms, home_claim, items_of, objects, tasks_of}
 use Rattle.aom_semantics.specs.Moves.{does, needs}
 use Rattle.aom_semantics.specs.Objects.{is_thing}
 use Rattle.aom_semantics.specs.Places.{In_service, Cell, Elsewhere, Entry, Field, Object, Place, Register, Root, Sight, held, requested, same_place, seen}
@@ -99,11 +99,8 @@ perhaps_fits p h o x y g = grind (arith, nat_tests, fits_unowning p h o Null)
 pub claim_root : (p : Image) (d : Place → Kind) (ls : List Layer) → RootUnclaimed ls → claim p d ls (Elsewhere Root) ≡ d (Elsewhere Root)
 claim_root p d [] u = refl
 claim_root p d (Method fr sh ∷ ls) u = grind (arith, nat_tests, claim_root p d ls u.1)
-claim_root p d (Mark gv ∷ ls) u = claim_root p d ls u
-claim_root p d (Dying o ∷ ls) u = claim_root p d ls u
-claim_root p d (Ending o left ∷ ls) u = claim_root p d ls u
-claim_root p d (Unwinding code es ∷ ls) u = claim_root p d ls u
 claim_root p d (Dispatching x seats ∷ ls) u = ap (λ b. cond b Null (claim p d ls (Elsewhere Root))) u.0 ∙ claim_root p d ls u.1
+claim_root p d (_ ∷ ls) u = claim_root p d ls u
 
 -- a method ends
 pub ended : (p : Image) (cs : List Cell) (fr : Frame) (sh : Shape) (ls : List Layer) →
@@ -140,8 +137,7 @@ ended p cs fr sh ls houses counts housed apart at_top e n message (Field m f) h 
 ended p cs fr sh ls houses counts housed apart at_top e n message (Elsewhere Root) h o fits = grind (arith, nat_tests, claim_root p, perhaps_fits p h o)
 ended p cs fr sh ls houses counts housed apart at_top e n message (Elsewhere In_service) h o fits = go (serves p fr.method) refl fits
   where
-    go :
-        (b : Bool) → serves p fr.method ≡ b → Fits p h o (cond b (delivered sh.delivery) (claim p (declared p cs) ls (Elsewhere In_service))) →
+    go : (b : Bool) → serves p fr.method ≡ b → Fits p h o (cond b (delivered sh.delivery) (claim p (declared p cs) ls (Elsewhere In_service))) →
         Fits p h o (claim p (declared p cs) ls (Elsewhere In_service))
     go true serving fits = subst (λ k. Fits p h o k) (sym (message serving)) fits
     go false plain fits = fits

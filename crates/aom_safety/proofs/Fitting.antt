@@ -20,7 +20,7 @@ use Rattle.aom_classes.specs.Loops.{loop_in}
 use Rattle.aom_safety.proofs.Finishing.{all_parts}
 use Rattle.aom_semantics.specs.Calls.{below_top, needs_entering}
 use Rattle.aom_semantics.specs.Cleanup.{has_trap, leave_needs, no_memory, top_is_whole, top_place, tops_entry, tops_operation}
-use Rattle.aom_semantics.specs.Effects.{The_message, Calls, Cancels, Carried, Destroys, Destroys_last, Effect, Goes_on, In_field, In_register}
+use Rattle.aom_semantics.specs.Effects.{Calls, Cancels, Carried, Destroys, Destroys_last, Effect, Goes_on, In_register}
 use Rattle.aom_semantics.specs.Effects.{Leaves, Handed, Made, Operates, Popped, Pushed, Pushed_operation, Same, Sets_trap, Spot, Update, cancels_if}
 use Rattle.aom_semantics.specs.Effects.{deals, deletes, effect, hands_unless, jumps_if, jumps_unless, makes_unless, round, sets}
 use Rattle.aom_semantics.specs.Enlisted.{cancel_method, in_phase, is_active, is_busy, own_request}
@@ -45,8 +45,7 @@ module _ (p : Image) where
   -- what is carried to a register, or made in one, comes to one that a method has
   abbrev pub SpotFits : Spot → Type 0
   SpotFits (In_register a) = IsRegister a
-  SpotFits (In_field f) = Unit {0}
-  SpotFits The_message = Unit {0}
+  SpotFits _ = Unit {0}
 
   abbrev pub UpdateFits : Update → Type 0
   UpdateFits (Carried from to) = SpotFits to

@@ -8,7 +8,7 @@ use Rattle.aom_image.specs.Image.{Image}
 use Rattle.aom_rules.specs.Typing.{Typing}
 use Rattle.aom_shape.specs.declared.kind.Kind.TheVariants.{Null}
 use Rattle.std.specs.Prelude.{is_some}
-use Rattle.aom_safety.proofs.Seats.{no_seat, NoFieldHere, first_kept, sits_kept}
+use Rattle.aom_safety.proofs.Seats.{NoFieldHere, first_kept, sits_kept}
 use Rattle.aom_safety.proofs.Claimed.{no_seat_outside, Outside, claim_frame, claim_going_above, claim_rel, claim_unclaimed}
 use Rattle.aom_safety.proofs.Claimed.{fits_age, going_differs, outside_differs, outside_less}
 use Rattle.aom_safety.proofs.Destroying.{eqb_comm, Untouched, other_name, untouched}
@@ -21,8 +21,8 @@ use Rattle.aom_safety.specs.Claims.{declared, declared_field, forms, items_of, o
 use Rattle.aom_semantics.specs.Destruction.{needs_past, owns_none_past, is_past, gone, is_at_rest, is_field_of, owns_nothing}
 use Rattle.aom_semantics.specs.Places.{Session, Queued, service_of, Cell, Elsewhere, Field, Going, Object, Place}
 use Rattle.aom_semantics.specs.Places.{Request, Tidy, held, named, requested, same_place, seen, without}
-use Rattle.aom_semantics.specs.State.{Of_server, Parts, Seat, Home, Of_root, State, next, resumed}
-use Rattle.aom_safety.specs.WellTyped.{IsOverDying, SitsFirst, NoSeatAt, seat_of, AllUndo, Back, Caught, Fits, Gone}
+use Rattle.aom_semantics.specs.State.{Of_server, Parts, Home, Of_root, State, next, resumed}
+use Rattle.aom_safety.specs.WellTyped.{IsOverDying, SitsFirst, seat_of, AllUndo, Back, Caught, Fits, Gone}
 use Rattle.aom_safety.specs.WellTyped.{Good, Holds, IsHoused, Keeps, Leaves, Now, Returns, Stack, WellTyped}
 use Rattle.aom_safety.specs.Requests.{AllSuit, Suits, resting_in, states_claim, thing_kind}
 use Rattle.aom_roles.specs.States.{last_of}
@@ -69,9 +69,6 @@ module _ (p : Image) (t : Typing) (cs : List Cell) (g : Place) (o : Object) (tid
   ending_other : (x : Object) (ls : List Layer) → Outside g ls → IsOverDying x ls → Stack p t cs Now ls → (o.name == x.name) ≡ false
   ending_other x y out same s = grind (arith, ne_eqb, eq-eqb, other_name, going_differs)
 
-  first_apart : (xs : List Seat) (y : Seat) → SitsFirst cs (Some y) xs → NoSeatAt g xs → same_place g y.place ≡ false
-  first_apart x y f none = grind arith
-
   pub stack_without : (ls : List Layer) (back : Back) → Outside g ls → ((from : Place) → NoFieldHere g from) → Stack p t cs back ls → Stack p t (without g cs) back ls
   stack_without [] back out plain s = s
   stack_without (Method fr sh ∷ ls) back out plain s =
@@ -88,7 +85,7 @@ module _ (p : Image) (t : Typing) (cs : List Cell) (g : Place) (o : Object) (tid
         first_kept cs (without g cs) g (seat_of d) seats (λ r x other there lives some. ap is_some (requested_without cs g o x.name tidy there_it (another r x other there)) ∙ some) none s.2 s.3,
         attended_at p cs (without g cs) d (λ y first.
             let f = subst (λ o. SitsFirst cs o seats) first s.3 in
-            service_without cs g o y.object.name tidy there_it (another y.place y.object (first_apart seats y f (no_seat cs g seats none s.2)) (sits_there cs seats y s.2 f).0)) s.4,
+            service_without cs g o y.object.name tidy there_it (another y.place y.object (grind arith) (sits_there cs seats y s.2 f).0)) s.4,
       )
     where
       there_it : held cs g ≡ Some o
@@ -158,8 +155,7 @@ module _ (p : Image) (t : Typing) (cs : List Cell) (o : Object) (ls : List Layer
       name_gone : named (without (Going (length (tasks_of ls))) cs) o.name ≡ None
       name_gone = unnamed cs g o tidy stack.0.1
 
-      keep :
-          (r : Place) → is_queue_of o.name r ≡ false → claim p (declared p cs) (Dying o ∷ ls) r ≡ claim p (declared p cs) ls r →
+      keep : (r : Place) → is_queue_of o.name r ≡ false → claim p (declared p cs) (Dying o ∷ ls) r ≡ claim p (declared p cs) ls r →
           declared p cs r ≡ declared p (without (Going (length (tasks_of ls))) cs) r → Fits p (seen cs') (held cs r) (claim p (declared p cs') ls r)
       keep r plain e h = fits_age p (seen cs) (seen cs') (held cs r) _ (λ x e' fresh age. (λ f. fewer (Field x.name f) (age.0 f), unrequested cs g x.name tidy age.1))
           (subst (λ k. Fits p (seen cs) (held cs r) k) (e ∙ claim_rel (λ x y. x ≡ y) (λ k. refl) p (declared p cs) (declared p cs') ls r h) (fits r plain))

@@ -4,7 +4,6 @@ use Rattle.aom_semantics.specs.World.{heard_one, taken_from, Heard, Environment,
 use Rattle.aom_safety.proofs.Turned.{obeys, handles, accepts, attends, parts, completes, keeps_all, kills, picks, turns_so}
 use Rattle.std.proofs.Common.{Bool, List, Option, [], arith, cond, length, subst, suc, ℕ, ℤ, ◌+◌, ◌∷◌, ◌≡◌, ◌≤◌, sym}
 use Rattle.aom_image.specs.Image.{Image}
-use Rattle.aom_instructions.specs.Operands.{IsRegister}
 use Rattle.aom_image.specs.declared.method.Argument.{Argument}
 use Rattle.aom_image.specs.declared.method.Argument.TheVariants.{Own as Takes_own, Word as Takes_word}
 use Rattle.aom_image.specs.declared.method.Gives.{Gives}
@@ -12,22 +11,19 @@ use Rattle.aom_safety.proofs.Fitting.{EffectFits, UpdateFits, fits}
 use Rattle.aom_safety.proofs.Moving.{steps_are_moves}
 use Rattle.aom_safety.specs.Steps.{Acts, Arrives, Clears, Comes_out, Empties, Ends, Move, Rests, Undoes, Vanishes}
 use Rattle.aom_safety.proofs.Guarded.{acts_at}
-use Rattle.aom_semantics.specs.Calls.{passed_cells, result_cells, returned}
-use Rattle.aom_semantics.specs.Tokens.{all_redeemed, redeemed_by}
+use Rattle.aom_semantics.specs.Calls.{passed_cells, returned}
+use Rattle.aom_semantics.specs.Tokens.{all_redeemed}
 use Rattle.aom_semantics.specs.Effects.{Effect, Update, applied, cells_after}
 use Rattle.aom_semantics.specs.Enlisted.{rerequested}
 use Rattle.aom_safety.specs.Laws.{IsWired, RegistersKeep}
-use Rattle.aom_semantics.specs.Moves.{counted, dispatch_ends, main_ends, step, handled, object_ends}
-use Rattle.aom_semantics.specs.Places.{Service, set_service, Session, In_service, Queued, Cell, Elsewhere, Entry, Going, Object, Place}
-use Rattle.aom_semantics.specs.Places.{Request, Root, held, moved, set_request, set_word_field, without, set_session}
+use Rattle.aom_semantics.specs.Moves.{counted, dispatch_ends, step}
+use Rattle.aom_semantics.specs.Places.{Service, set_service, Session, In_service, Queued, Cell, Elsewhere, Entry, Going, Place}
+use Rattle.aom_semantics.specs.Places.{Request, moved, set_request, set_word_field, without, set_session}
 use Rattle.aom_safety.specs.Registers.{AllInRange, IsInRange}
 use Rattle.aom_semantics.specs.State.{Choice, Dispatch, Frame, Goes, Home, State, Task, field_place}
-use Rattle.aom_semantics.specs.Words.{stored}
 use Rattle.aom_semantics.specs.Natives.{all_bereaved, resessioned}
 use Rattle.aom_semantics.specs.Servers.{withdrawn, without_queue, is_queue_of, all_unslotted}
-use Rattle.aom_semantics.specs.Clients.{each_unslotted, commanded, sending, leaving}
-use Rattle.aom_clients.specs.declared.client.Client.{Client}
-use Rattle.aom_clients.specs.declared.refusal.Refusal.{Refusal}
+use Rattle.aom_semantics.specs.Clients.{each_unslotted, commanded}
 use Rattle.aom_transcript.specs.declared.event.Command.{Command}
 
 move_in_range : (p q : Place) (cs : List Cell) → IsInRange q → AllInRange cs → AllInRange (moved p q cs)
@@ -58,9 +54,6 @@ redeemed_in_range : (order : ℕ) (code : ℤ) (cs : List Cell) → AllInRange c
 redeemed_in_range order code [] all = tt
 redeemed_in_range order code (c ∷ cs) all = (all.0, redeemed_in_range order code cs all.1)
 
-redeems_in_range : (order : Option ℕ) (code : ℤ) (cs : List Cell) → AllInRange cs → AllInRange (redeemed_by order code cs)
-redeems_in_range x code cs all = grind (arith, nat_tests, redeemed_in_range)
-
 -- what clients have at cells changes no owner but where a message goes
 serve_in_range : (n : ℕ) (v : Service) (cs : List Cell) → AllInRange cs → AllInRange (set_service n v cs)
 serve_in_range n v [] all = tt
@@ -90,9 +83,6 @@ field_in_range x f = grind arith
 
 -- the result of a call comes to a register that the call names
 module _ (p : Image) (wired : IsWired p) (fr : Frame) (ts : List Task) (s : State) (all : AllInRange s.cells) where
-  store_in_range : (home : Home) (w : ℕ) (v : ℤ) → AllInRange (stored s.cells home w v)
-  store_in_range x w v = grind (arith, nat_tests, write_in_range)
-
   request_in_range : (home : Home) (r : Option Request) → AllInRange (rerequested s.cells home r)
   request_in_range x r = grind (arith, nat_tests, asks_in_range)
 
@@ -100,43 +90,28 @@ module _ (p : Image) (wired : IsWired p) (fr : Frame) (ts : List Task) (s : Stat
   session_in_range x session = grind (arith, nat_tests, opens_in_range)
 
   update_in_range : (u : Update) → UpdateFits p u → AllInRange (cells_after p fr ts s u)
-  update_in_range x fits = grind (arith, nat_tests, move_in_range, fits, store_in_range, request_in_range, session_in_range, end_in_range, redeems_in_range)
+  update_in_range x fits = grind (arith, nat_tests, move_in_range, fits, write_in_range, request_in_range, session_in_range, end_in_range, redeemed_in_range)
 
   pass_in_range : (depth : ℕ) (xs : List Argument) (first to : ℕ) (cs : List Cell) → to + length xs ≤ 16 → AllInRange cs → AllInRange (passed_cells p fr ts s depth xs first to cs)
   pass_in_range depth [] first to cs few all = all
   pass_in_range depth (Takes_word ∷ xs) first to cs few all = pass_in_range depth xs (suc first) (suc to) cs (omega arith) all
   pass_in_range depth (Takes_own t ∷ xs) first to cs few all = grind (arith, nat_tests, pass_in_range depth xs, move_in_range)
 
-  bring_in_range : (g : Gives) (a x : ℕ) (below : List Task) → IsRegister x → AllInRange (result_cells p fr ts s g a x below)
-  bring_in_range x a y below fits = grind (arith, nat_tests, move_in_range, fits)
-
   return_in_range : (g : Gives) (a : ℕ) (below : List Task) → AllInRange (returned p fr ts s g a below).cells
-  return_in_range g a x = grind (arith, nat_tests, bring_in_range, serve_in_range, move_in_range)
+  return_in_range g a x = grind (arith, nat_tests, serve_in_range, move_in_range)
 
 module _ (p : Image) (wired : IsWired p) (fr : Frame) (ts : List Task) (s : State) (all : AllInRange s.cells) where
   apply_in_range : (e : Effect) → EffectFits p e → AllInRange (applied p fr ts s e).cells
   apply_in_range x fits = grind (arith, nat_tests, update_in_range, fits, pass_in_range, request_in_range, return_in_range, move_in_range)
 
 -- a session goes before its server
-close_in_range : (p : Image) (s : State) (b : Bool) (root : Option Object) → AllInRange s.cells → AllInRange (main_ends p b root s).cells
-close_in_range p s x root all = grind (arith, nat_tests, move_in_range (Elsewhere Root) (Going 1) s.cells)
-
-object_in_range : (p : Image) (s : State) → AllInRange s.cells → AllInRange (object_ends p s).cells
-object_in_range p s all = close_in_range p (handled s) s.rest.stopped (held s.cells (Elsewhere Root)) all
-
 dispatch_in_range : (p : Image) (d : Dispatch) (s : State) → AllInRange s.cells → AllInRange (dispatch_ends p d s).cells
-dispatch_in_range p x s all = grind (arith, nat_tests, close_in_range, object_in_range, end_in_range, serve_in_range)
+dispatch_in_range p x s all = grind (arith, nat_tests, move_in_range, end_in_range, serve_in_range)
 
 -- what clients do
 module _ (p : Image) (client : ℕ) (s : State) (all : AllInRange s.cells) where
-  sends_in_range : (refused : Option Refusal) (c : Client) (name : ℕ) (words : List ℤ) → AllInRange (sending p client s refused c name words).cells
-  sends_in_range x y name words = grind (arith, nat_tests, serve_in_range)
-
-  leaves_in_range : (to : Option Client) → AllInRange (leaving p client s to).cells
-  leaves_in_range x = grind (arith, nat_tests, serve_in_range, withdrawn_in_range client s.cells all)
-
   commands_in_range : (command : Command) (name : ℕ) → AllInRange (commanded p client s command name).cells
-  commands_in_range x name = grind (arith, nat_tests, serve_in_range, sends_in_range, leaves_in_range)
+  commands_in_range x name = grind (arith, nat_tests, serve_in_range, withdrawn_in_range)
 
 moves : (p : Image) → IsWired p → (c : Choice) (s u : State) → AllInRange s.cells → step p c s ≡ Goes u → AllInRange u.cells
 moves p wired c s u all e = of (steps_are_moves p c s u e)
@@ -149,8 +124,7 @@ moves p wired c s u all e = of (steps_are_moves p c s u e)
         let a = acts_at p c s u fr ts i at there e in
         let named = wired.operands fr.method fr.place i there in
         along _ (sym a.1) (grind (arith, nat_tests, apply_in_range, fits))
-    of (Vanishes ts o at there none same) =
-        along _ same (grind (arith, nat_tests, each_unslotted_in_range, end_in_range, dequeued_in_range))
+    of (Vanishes ts o at there none same) = along _ same (grind (arith, nat_tests, each_unslotted_in_range, end_in_range, dequeued_in_range))
     of (Empties ts o at there same) = along _ same (grind (arith, nat_tests, move_in_range))
     of (Clears code ts items o at top there same) = along _ same (move_in_range (Entry (length items)) (Going (suc (length ts))) s.cells tt all)
     of (Ends d ts at same) = along _ same (dispatch_in_range p d (counted p s) all)

@@ -9,14 +9,14 @@ use Rattle.aom_roles.specs.Shapes.{kind_of}
 use Rattle.aom_image.specs.declared.method.Thing.TheVariants.{Message}
 use Rattle.aom_roles.specs.Families.{descends_in, parent_in}
 use Rattle.aom_safety.proofs.Seated.{seats_none}
-use Rattle.aom_safety.proofs.Sources.{has_sender, sources_at}
-use Rattle.aom_semantics.specs.Cases.Building.{a_cell, keeper, leaf, pair}
+use Rattle.aom_safety.proofs.Sources.{has_sender}
+use Rattle.aom_semantics.specs.Cases.Building.{a_cell, keeper, pair}
 use Rattle.aom_safety.specs.Apart.{Fit, KeptNeedsFail, opened, serves, waits}
 use Rattle.aom_semantics.specs.Cases.Moves.{an_image}
 use Rattle.aom_semantics.specs.Cases.Servers.{a_session}
 use Rattle.aom_semantics.specs.Clients.{client_at}
 use Rattle.aom_semantics.specs.Enlisted.{thing_kind}
-use Rattle.aom_safety.specs.Kept.{HasSources, QueueFits, is_message_of, sources_of}
+use Rattle.aom_safety.specs.Kept.{QueueFits, is_message_of, sources_of}
 use Rattle.aom_semantics.specs.Clients.{most_of}
 use Rattle.aom_semantics.specs.Places.{Cell, Connect_of, Elsewhere, In_service, Message_of, Object, Place, Queued}
 use Rattle.aom_semantics.specs.Places.{Service, held, named, requested, same_place, service_of, unserved}
@@ -51,9 +51,6 @@ unserved_at : (n : ℕ) → (5 == n) ≡ false → (7 == n) ≡ false → (2 == 
 unserved_at n e f g = grind (arith, nat_tests)
 
 -- one number is another, where both tests say so
-is_listed : (n c : ℕ) → server_of (client_at opened c) ≡ Some n → has_session (service_of cells n) c ≡ true
-is_listed n x e = grind arith
-
 has_its_own : (n c : ℕ) → has_session (service_of cells n) c ≡ true → server_of (client_at opened c) ≡ Some n
 has_its_own n c h = grind (arith, nat_tests, by_name, unserved_at)
 
@@ -84,13 +81,6 @@ seats_so o there = by_name (λ n. named cells n ≡ Some o → seats_taken (serv
 
 abbrev Counts : ℕ → Object → Type 0
 Counts n o = n ≡ cond (is_object o.thing) 0 1
-
-has_sources : HasSources cells
-has_sources o there = by_name (λ n. named cells n ≡ Some o → sources_at cells n ≡ cond (is_object o.thing) 0 1)
-    (λ h. let same : record { name = 5; thing = keeper } ≡ o = cc in subst (Counts 0) same refl)
-    (λ h. let same : record { name = 7; thing = Message } ≡ o = cc in subst (Counts 1) same refl)
-    (λ h. let same : record { name = 2; thing = leaf } ≡ o = cc in subst (Counts 0) same refl)
-    (λ n e f g h. let clash : None ≡ Some o = sym (grind arith) ∙ h in cc) o.name there
 
 -- ---- one message in all, of which servers have nothing
 
@@ -129,7 +119,7 @@ module _ (v : Service) (owner : Place) (queue : v.queue ≡ []) (sessions : v.se
 pub kept_needs_fail : KeptNeedsFail
 unfolding class_at kind_in kind_of sessions_in sessions_of descends_in parent_in
 kept_needs_fail = record {
-  kept = grind (arith, nat_tests, by_name, unserved_at, has_its_own, is_listed, none_else, none_unlisted, stands_there, sent_so, has_sources);
+  kept = grind (arith, nat_tests, by_name, unserved_at, has_its_own, none_else, none_unlisted, stands_there, sent_so);
   twice_connected = λ fit. let clash : true ≡ false = (fit.queues 5).0.1 in cc;
   twice_closed = λ fit. let clash : true ≡ false = (fit.queues 5).0.1 in cc;
   twice_sent = λ fit. let clash : true ≡ false = (fit.queues 5).0.1 in cc;

@@ -41,13 +41,11 @@ module _ {G : Type 0} (P : List Layer → Type 0) where
       tasks_of ls ≡ Closing ∷ ts → P ls → ((o : Object) (left : List ℕ) (below : List Layer) → tasks_of below ≡ ts → P (Ending o left ∷ below) → G) → G
   closing_layer ts ls e h gives = top_layer Closing ts ls e h (λ l below task rest h. let f = closing_of l task in gives f.0 f.1 below rest (subst (λ l. P (l ∷ below)) f.2 h))
 
-  pub leave_layer :
-      (code : ℤ) (ts : List Task) (ls : List Layer) → tasks_of ls ≡ Unwind code ∷ ts → P ls →
+  pub leave_layer : (code : ℤ) (ts : List Task) (ls : List Layer) → tasks_of ls ≡ Unwind code ∷ ts → P ls →
       ((es : List Pushed) (below : List Layer) → tasks_of below ≡ ts → P (Unwinding code es ∷ below) → G) → G
   leave_layer code ts ls e h gives = top_layer (Unwind code) ts ls e h (λ l below task rest h. let f = leave_of l code task in gives f.0 below rest (subst (λ l. P (l ∷ below)) f.1 h))
 
-  pub dispatch_layer :
-      (d : Dispatch) (ts : List Task) (ls : List Layer) → tasks_of ls ≡ Dispatched d ∷ ts → P ls →
+  pub dispatch_layer : (d : Dispatch) (ts : List Task) (ls : List Layer) → tasks_of ls ≡ Dispatched d ∷ ts → P ls →
       ((seats : List Seat) (below : List Layer) → tasks_of below ≡ ts → P (Dispatching d seats ∷ below) → G) → G
   dispatch_layer d ts ls e h gives = top_layer (Dispatched d) ts ls e h (λ l below task rest h. let f = dispatch_of l d task in gives f.0 below rest (subst (λ l. P (l ∷ below)) f.1 h))
 

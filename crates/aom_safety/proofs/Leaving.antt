@@ -72,8 +72,7 @@ entries_join : (es fs : List Pushed) (items : List Form) (k : ℕ) (below : Kind
 entries_join [] fs items k below = refl
 entries_join (e ∷ es) fs items k below = grind (arith, nat_tests, objects_append es fs items, entries_join es fs items k below)
 
-join_claims :
-    (p : Image) (d : Place → Kind) (code : ℤ) (es fs : List Pushed) (ls : List Layer) (r : Place) →
+join_claims : (p : Image) (d : Place → Kind) (code : ℤ) (es fs : List Pushed) (ls : List Layer) (r : Place) →
     claim p d (Unwinding code es ∷ Unwinding code fs ∷ ls) r ≡ claim p d (Unwinding code (es ++ fs) ∷ ls) r
 join_claims p d code es fs ls x = grind (arith, nat_tests, entries_join es fs)
 
@@ -102,8 +101,7 @@ ended_by_leave p cs fr sh ls code houses counts housed apart at_top n here serve
     go (Register f i) fits = ended p cs fr bare ls houses counts housed apart at_top refl n message (Register f i) h o fits
     go (Entry k) fits = fits
     go (Field m f) fits = ended p cs fr bare ls houses counts housed apart at_top refl n message (Field m f) h o (grind (arith, nat_tests))
-    go (Elsewhere Root) fits =
-        ended p cs fr bare ls houses counts housed apart at_top refl n message (Elsewhere Root) h o (grind (arith, nat_tests))
+    go (Elsewhere Root) fits = ended p cs fr bare ls houses counts housed apart at_top refl n message (Elsewhere Root) h o (grind (arith, nat_tests))
     go (Elsewhere In_service) fits = ended p cs fr bare ls houses counts housed apart at_top refl n message (Elsewhere In_service) h o fits
     go _ fits = fits
 
@@ -190,8 +188,7 @@ module _ (p : Image) (t : Typing) (wired : IsWired p) (cs : List Cell) (x : Obje
     works_left : (fr : Frame) (sh : Shape) (ls : List Layer) → leaves p fr.method ≡ true →
         unissued sh.states ≡ true → IsHoused p cs ls fr.home → IsApart p fr.view fr.method fr.home ls → Stack p t cs (Returns fr.method fr.home) ls →
         works_at x.name fr.home ≡ true → Suits k (known_at p fr sh.states (states_claim p x ls)) r → Suits k (states_claim p x (from_trap ls)) r
-    works_left fr sh ls may u housed apart s w h =
-        rested_left ls fr.method fr.home may s (on_it p cs ls x fr.view fr.method fr.home lives w housed apart)
+    works_left fr sh ls may u housed apart s w h = rested_left ls fr.method fr.home may s (on_it p cs ls x fr.view fr.method fr.home lives w housed apart)
         (suits_rests k sh.states r u (subst (λ n. Suits k n r) (grind (arith, nat_tests, known_plain, loud_cancels, none_cancels)) h))
 
     suits_left : (ls : List Layer) (m : ℕ) (home : Home) → leaves p m ≡ true → Stack p t cs (Returns m home) ls → Suits k (states_claim p x ls) r → Suits k (states_claim p x (from_trap ls)) r
@@ -214,8 +211,7 @@ all_left p t wired cs code es fr sh ls g may u x lives = go (works_at x.name fr.
     below : Known
     below = states_claim p x ls
 
-    go :
-        (b : Bool) → works_at x.name fr.home ≡ b → Suits (thing_kind p x.thing) (cond b (known_at p fr sh.states below) below) (requested cs x.name) →
+    go : (b : Bool) → works_at x.name fr.home ≡ b → Suits (thing_kind p x.thing) (cond b (known_at p fr sh.states below) below) (requested cs x.name) →
         Suits (thing_kind p x.thing) (states_claim p x (from_trap ls)) (requested cs x.name)
     go true w h = works_left p t wired cs x lives fr sh ls may u g.housed g.apart g.stack w h
     go false w h = suits_left p t wired cs x lives ls fr.method fr.home may g.stack h
@@ -279,8 +275,7 @@ module _ (p : Image) (t : Typing) (wired : IsWired p) (c : Choice) (s : State) (
   met : leaves p fr.method ≡ true → none_owns sh.registers ≡ true → AllTrue (leave_needs s.cells (Run fr ∷ tasks_of ls))
   met may n = leave_is_met p t s.cells fr fr sh ls (fitted p t s.cells fr sh ls at_hand.good) may n
 
-  leaves_here :
-      (code : ℤ) → leaves p fr.method ≡ true → none_owns sh.registers ≡ true → unissued sh.states ≡ true → is_here sh.delivery ≡ true →
+  leaves_here : (code : ℤ) → leaves p fr.method ≡ true → none_owns sh.registers ≡ true → unissued sh.states ≡ true → is_here sh.delivery ≡ true →
       WellTyped p t (applied p fr (tasks_of ls) s (Leaves code Same))
   leaves_here code may n u here = leave_keeps p t wired s code fr sh ls at_hand.items at_hand.undos (fitted p t s.cells fr sh ls at_hand.good) may n u here
 
@@ -299,8 +294,7 @@ module _ (p : Image) (t : Typing) (wired : IsWired p) (c : Choice) (s : State) (
 
       goes : (b : Bool) → WellTyped p t (applied p fr (tasks_of ls) s (cond b (Leaves w Same) (updates fr Same)))
       goes true = leaves_here w n.1.0 n.1.1.0 n.1.1.1.0 n.1.1.1.1.0
-      goes false =
-          well p t c s fr sh ls at_hand (applied p fr (tasks_of ls) s (updates fr Same)) (next fr) sh refl at_hand.items at_hand.undos
+      goes false = well p t c s fr sh ls at_hand (applied p fr (tasks_of ls) s (updates fr Same)) (next fr) sh refl at_hand.items at_hand.undos
           (settle p t s.cells (next fr) sh ls (stepped p t s.cells fr sh ls (fitted p t s.cells fr sh ls at_hand.good)) leads.0)
 
   -- each instruction of this file by its law

@@ -12,7 +12,7 @@ use Rattle.aom_instructions.specs.declared.instr.Instr.TheVariants.{Reply, TakeM
 use Rattle.aom_classes.specs.Roles.{role_number}
 use Rattle.aom_roles.specs.Shapes.{is_role}
 use Rattle.aom_rules.specs.Typing.{Leads, Typing}
-use Rattle.aom_shape.specs.Kinds.{is_here, is_object_or_null, is_own_for, is_word, register, set_register}
+use Rattle.aom_shape.specs.Kinds.{is_here, is_own_for, is_word, register, set_register}
 use Rattle.aom_shape.specs.Shape.{Shape}
 use Rattle.aom_roles.specs.Things.{stands_for}
 use Rattle.aom_shape.specs.declared.kind.Age.TheVariants.{Ready}
@@ -28,13 +28,13 @@ use Rattle.aom_safety.proofs.Picking.{own_held}
 use Rattle.aom_safety.proofs.Redeeming.{redeemable, redeemed_by_alike, redeemed_good}
 use Rattle.aom_safety.proofs.Straight.{frames_reworded, At, Fitted, Law, fitted, free_register, kind_fits}
 use Rattle.aom_safety.proofs.Straight.{no_word, relocate, same_suits, settle, top, well, words_set}
-use Rattle.aom_safety.specs.Claims.{Layer, Method, claim, declared, delivered, serves, tasks_of}
+use Rattle.aom_safety.specs.Claims.{Layer, Method, claim, declared, delivered, tasks_of}
 use Rattle.aom_semantics.specs.Moves.{does}
 use Rattle.aom_semantics.specs.Objects.{is_thing}
 use Rattle.aom_semantics.specs.Places.{Cell, Elsewhere, In_service, Object, Place, Sight, changed, held, moved, same_place, seen, without}
-use Rattle.aom_semantics.specs.State.{Choice, Frame, Home, Inside, Run, Seat, State, next, set_word, word}
+use Rattle.aom_semantics.specs.State.{Choice, Frame, Run, Seat, State, next, set_word, word}
 use Rattle.aom_semantics.specs.Tokens.{redeemed_by, token_of}
-use Rattle.aom_safety.specs.WellTyped.{AllSit, Back, Fits, IsBelow, IsHoused, IsServed, NoSeatAt, NoneFrom, Returns, SitsIn, Stack, WellTyped, WordFits}
+use Rattle.aom_safety.specs.WellTyped.{AllSit, Fits, IsHoused, IsServed, NoSeatAt, Returns, Stack, WellTyped, WordFits}
 use Rattle.aom_semantics.specs.Words.{read}
 use Rattle.aom_instructions.specs.declared.instr.Instr.{Instr}
 use Rattle.aom_roles.specs.Roles.{is_service}
@@ -42,29 +42,11 @@ use Rattle.aom_roles.specs.Roles.{is_service}
 -- ---- the message in service
 
 -- it holds no object of a seat, or of a method
-served_apart : (q : Place) (ls : List Layer) → IsBelow q ls → same_place (Elsewhere In_service) q ≡ false
-served_apart q ls b = grind arith
-
 served_unseated : (cs : List Cell) (xs : List Seat) → AllSit cs xs → NoSeatAt (Elsewhere In_service) xs
 served_unseated cs [] s = tt
-served_unseated cs (x ∷ xs) s = (apart x.place s.0.2, served_unseated cs xs s.1)
-  where
-    apart : (q : Place) → SitsIn q xs → same_place (Elsewhere In_service) q ≡ false
-    apart q sits = grind arith
-
-served_outside : (p : Image) (t : Typing) (cs : List Cell) (ls : List Layer) (back : Back) → IsServed ls → Stack p t cs back ls → NoneFrom (Elsewhere In_service) ls
-served_outside p t cs ls back served s = grind (arith, served_unseated)
-
-served_elsewhere : (p : Image) (cs : List Cell) (ls : List Layer) (home : Home) →
-    IsHoused p cs ls home → (o : Object) (from : Place) → home ≡ Inside o from → same_place (Elsewhere In_service) from ≡ false
-served_elsewhere p cs ls home h o from e = grind (arith, nat_tests, served_apart)
+served_unseated cs (x ∷ xs) s = (grind arith, served_unseated cs xs s.1)
 
 -- once it is taken no claim of it is left
-claim_taken :
-    (p : Image) (d : Place → Kind) (fr : Frame) (sh : Shape) (ls : List Layer) (r : Place) → serves p fr.method ≡ true →
-    claim p d (Method fr (record sh { delivery = Gone }) ∷ ls) r ≡ changed (claim p d (Method fr sh ∷ ls)) (Elsewhere In_service) Null r
-claim_taken p d fr sh ls x serving = grind arith
-
 delivered_here : (x : Delivery) → is_here x ≡ true → delivered x ≡ Own Message Ready
 delivered_here x e = grind arith
 
@@ -79,9 +61,6 @@ module _ (p : Image) (h : Sight) where
 
 message_stands : (p : Image) (x : Thing) → x ≡ Message → stands_for p x Message ≡ true
 message_stands p x e = ap (λ y. stands_for p y Message) e
-
-own_object : (p : Image) (k : Kind) → is_own_for p Message k ≡ true → is_object_or_null k ≡ true
-own_object p k e = grind arith
 
 word_there : (w : Option ℤ) (k : Kind) → is_word k ≡ true → WordFits w k → is_some w ≡ true
 word_there w k e f = grind arith
@@ -116,16 +95,14 @@ module _ (p : Image) (t : Typing) (c : Choice) (s : State) (fr : Frame) (sh : Sh
 
       claims : (r : Place) → claim p d (Method fr after ∷ ls) r ≡ changed
           (changed (claim p d (Method fr sh ∷ ls)) (Elsewhere In_service) Null) (top ls a) (claim p d (Method fr sh ∷ ls) (Elsewhere In_service)) r
-      claims r =
-          claim-set_register p d fr (record sh { delivery = Gone }) ls a (Own Message Ready) r
-          ∙ ap (λ x. cond (same_place (top ls a) r) (Own Message Ready) x) (claim_taken p d fr sh ls r n.1.0)
+      claims r = claim-set_register p d fr (record sh { delivery = Gone }) ls a (Own Message Ready) r
+          ∙ ap (λ x. cond (same_place (top ls a) r) (Own Message Ready) x) (grind arith)
           ∙ ap (λ x. changed (changed (claim p d (Method fr sh ∷ ls)) (Elsewhere In_service) Null) (top ls a) x r) (sym claimed)
 
       taken : Fitted p t (moved (Elsewhere In_service) (top ls a) s.cells) (next (set_word fr a None)) after ls
       taken = relocate p t s.cells fr (next (set_word fr a None)) sh after ls (Elsewhere In_service) (top ls a)
-          (fitted p t s.cells fr sh ls at_hand.good) refl refl refl refl free (served_outside p t s.cells ls _ served at_hand.good.stack.4) (omega arith)
-          (λ o from e. (served_elsewhere p s.cells ls fr.home at_hand.good.stack.2 o from e, tt))
-          (λ r x e k f. refl) claims
+          (fitted p t s.cells fr sh ls at_hand.good) refl refl refl refl free (grind (arith, nat_tests, served_unseated)) (omega arith)
+          (λ o from e. (grind (arith, nat_tests), tt)) (λ r x e k f. refl) claims
           (words_set fr.words sh a None (Own Message Ready) at_hand.good.stack.1.words refl)
 
 -- ---- a message goes from a register
@@ -199,7 +176,7 @@ module _ (p : Image) (t : Typing) (c : Choice) (s : State) (fr : Frame) (sh : Sh
       it = message_held p (seen s.cells) (held s.cells (top ls a)) (register sh a) n.0 (kind_fits p t c s fr sh ls at_hand a)
 
       none : word fr a ≡ None
-      none = no_word p t c s fr sh ls at_hand a (own_object p (register sh a) n.0)
+      none = no_word p t c s fr sh ls at_hand a (grind arith)
 
   -- each instruction of this file by its law
   abbrev pub of_messages : (i : Instr) → Option (Law p t c s fr sh ls at_hand i)

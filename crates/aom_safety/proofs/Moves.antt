@@ -41,9 +41,7 @@ module _ (p : Image) (t : Typing) (c : Choice) (s : State) (fr : Frame) (sh : Sh
       ∙ ap (λ x. cond (same_place (top ls a) r) (register sh b) x) (claim-set_register p (declared p s.cells) fr sh ls b Null r)
       ∙ ap (λ x. changed (changed (claim p (declared p s.cells) (Method fr sh ∷ ls)) (top ls b) Null) (top ls a) x r) (sym (claim_register p (declared p s.cells) fr sh ls b)) in
       let h = relocate p t s.cells fr (next (set_word fr a None)) sh (set_register (set_register sh b Null) a (register sh b)) ls (top ls b) (top ls a)
-      (fitted p t s.cells fr sh ls at_hand.good) refl refl refl refl free (omega arith) (omega arith)
-      (λ o from e. (tt, tt))
-      (λ r x e k f. refl) claims
+      (fitted p t s.cells fr sh ls at_hand.good) refl refl refl refl free (omega arith) (omega arith) (λ o from e. (tt, tt)) (λ r x e k f. refl) claims
       (words_set fr.words (set_register sh b Null) a None (register sh b) (words_null fr.words sh b at_hand.good.stack.1.words no) (no_word_fits (register sh b) n.0)) in
       let g = settle p t (moved (top ls b) (top ls a) s.cells) (next (set_word fr a None)) (set_register (set_register sh b Null) a (register sh b)) ls h leads.0 in (
         (ap is_none no, (ap is_none free, tt)),
@@ -100,12 +98,9 @@ module _ (p : Image) (t : Typing) (c : Choice) (s : State) (fr : Frame) (sh : Sh
       register_wide : register wide b ≡ l
       register_wide = at-put_at Unset sh.registers b b l ∙ ap (λ same. cond same l (register sh b)) (eq-eqb b b refl)
 
-      claims :
-          (r : Place) →
-          claim p d (Method fr (set_field (set_register wide b Null) f (filling_of k)) ∷ ls) r
+      claims : (r : Place) → claim p d (Method fr (set_field (set_register wide b Null) f (filling_of k)) ∷ ls) r
           ≡ changed (changed (claim p d (Method fr wide ∷ ls)) (top ls b) Null) q (claim p d (Method fr wide ∷ ls) (top ls b)) r
-      claims r =
-          claim-set_field p d fr fr.home (set_register wide b Null) ls f (filling_of k) l r refl same some refl
+      claims r = claim-set_field p d fr fr.home (set_register wide b Null) ls f (filling_of k) l r refl same some refl
           ∙ ap (λ y. cond (same_place q r) l y) (claim-set_register p d fr wide ls b Null r)
           ∙ ap (λ y. changed (changed (claim p d (Method fr wide ∷ ls)) (top ls b) Null) q y r) (sym (claim_register p d fr wide ls b ∙ register_wide))
 
@@ -128,8 +123,7 @@ module _ (p : Image) (t : Typing) (c : Choice) (s : State) (fr : Frame) (sh : Sh
           (relocate p t s.cells fr (next fr) wide (set_field (set_register wide b Null) f (filling_of k)) ls (top ls b) q
           wider refl refl refl refl free (omega arith) (field_outside p t c s fr sh ls at_hand fr.home f refl some)
           (λ o from e. (tt, field_not_from p t c s fr sh ls at_hand fr.home f refl o from e))
-          fresh_aside claims
-          (words_null fr.words wide b wider.frames.words no))
+          fresh_aside claims (words_null fr.words wide b wider.frames.words no))
 
   pub law_take : (a f : ℕ) → Law p t c s fr sh ls at_hand (Take a f)
   law_take a f n leads = (
@@ -163,16 +157,14 @@ module _ (p : Image) (t : Typing) (c : Choice) (s : State) (fr : Frame) (sh : Sh
 
       claims : (r : Place) → claim p d (Method fr (set_register (set_field sh f Empty) a k) ∷ ls) r ≡ changed
           (changed (claim p d (Method fr sh ∷ ls)) q Null) (top ls a) (claim p d (Method fr sh ∷ ls) q) r
-      claims r =
-          claim-set_register p d fr (set_field sh f Empty) ls a k r
+      claims r = claim-set_register p d fr (set_field sh f Empty) ls a k r
           ∙ ap (λ x. cond (same_place (top ls a) r) k x) (grind (arith, nat_tests, claim-set_field, d, same, some, null_filled))
           ∙ ap (λ x. changed (changed (claim p d (Method fr sh ∷ ls)) q Null) (top ls a) x r) (grind (arith, nat_tests, same, claim_field, d, some))
 
       goes : Fitted p t (moved (field_place fr.home f) (top ls a) s.cells) (next (set_word fr a None)) (set_register (set_field sh f Empty) a k) ls
       goes = relocate p t s.cells fr (next (set_word fr a None)) sh (set_register (set_field sh f Empty) a k) ls q (top ls a)
           (fitted p t s.cells fr sh ls at_hand.good) refl refl refl refl free (field_outside p t c s fr sh ls at_hand fr.home f refl some) (omega arith)
-          (λ o from e. (field_not_from p t c s fr sh ls at_hand fr.home f refl o from e, tt))
-          (λ r x e k f. refl) claims
+          (λ o from e. (field_not_from p t c s fr sh ls at_hand fr.home f refl o from e, tt)) (λ r x e k f. refl) claims
           (words_set fr.words (set_field sh f Empty) a None k at_hand.good.stack.1.words (no_word_in _ (field sh f)))
 
   -- each instruction of this file by its law

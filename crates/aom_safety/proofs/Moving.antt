@@ -50,8 +50,7 @@ unwinds p c code ts (An_operation m w ∷ items) s u at top e = Undoes code ts i
 unwinds p c code ts (A_mark ∷ items) s u at top e = arrives p c code ts items s u at top e
 
 -- an instruction that goes on has met its needs, may have its effect, and has it
-pub acted :
-    (p : Image) (c : Choice) (s u : State) (fr : Frame) (ts : List Task) (i : Instr) → act p c fr ts s i ≡ Goes u →
+pub acted : (p : Image) (c : Choice) (s u : State) (fr : Frame) (ts : List Task) (i : Instr) → act p c fr ts s i ≡ Goes u →
     AllTrue (needs p c fr ts s i) × Fits p c fr ts s i (effect p c fr ts s i) × (u ≡ applied p fr ts s (effect p c fr ts s i))
 acted p c s u fr ts i e =
     let met = guarded_met (needs p c fr ts s i) (does p c fr ts s i) u e in

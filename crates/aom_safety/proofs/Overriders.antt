@@ -1,6 +1,6 @@
 -- What a call runs takes and gives what the method called does, asks no more of its object and promises no less: by what is said of overriders.
 use Rattle.std.proofs.lemmas.Bool.Decides.{nat_tests}
-use Rattle.std.proofs.Common.{arith, Bool, IsTrue, None, Option, Some, ap, false, inl, inr, map, refl, subst, suc, sym, true, zero, ℕ, ◌==◌, ◌||◌, ◌∙◌, ◌≡◌}
+use Rattle.std.proofs.Common.{arith, Bool, IsTrue, None, Option, Some, ap, false, inl, inr, map, refl, subst, suc, sym, true, zero, ℕ, ◌==◌, ◌∙◌, ◌≡◌}
 use Rattle.std.proofs.lemmas.Bool.{eqb-true}
 use Rattle.std.specs.Prelude.{IsSome, is_some}
 use Rattle.aom_image.proofs.Given.{some_given}
@@ -71,15 +71,10 @@ leads_there p m d named n z leads = go (method_at p z) refl n leads
     itself true same none e = let clash : Some d ≡ None = sym named ∙ ap (method_at p) (sym (eqb-true z m same)) ∙ none in cc
     itself false same none e = cc
 
-    either : (a b : Bool) → (b ≡ true → ⊥) → (a || b) ≡ true → a ≡ true
-    either true b never h = refl
-    either false b never h = absurd (never h)
-
     go : (o : Option Method) → method_at p z ≡ o → (n : ℕ) → leads_in p n (Some z) m ≡ true → (e : Method) × (method_at p z ≡ Some e)
     go (Some e) at n leads = (e, at)
     go None at zero leads = absurd (itself (z == m) refl at leads)
-    go None at (suc n) leads =
-        absurd (grind (arith, nat_tests, itself, either))
+    go None at (suc n) leads = absurd (grind (arith, nat_tests, itself))
 
 -- what overrides a method is a plain one
 overrides_plainly : (p : Image) → AllStandIn p → (m k : ℕ) (d e : Method) → method_at p m ≡ Some e → method_at p k ≡ Some d → overrides p k m ≡ true → d.role ≡ Do
@@ -127,8 +122,7 @@ overrider_runs p wired m v k h e called x counts = record {
 pub runs_for : (p : Image) → IsWired p → (m : ℕ) (view : Option ℕ) (h : Holder) → IsCalled p m → Houses p h (holder_of p m) → CountsAs p h view (holder_of p m) → RunsFor p m (body_of p m view) h view
 unfolding body_of
 runs_for p wired m None h called houses counts = itself_runs p m h None called.there houses counts
-runs_for p wired m (Some v) h called houses counts =
-    some_given (λ o. IsSome o) (method_at p m) called.there (λ none. cc) (λ e at there.
+runs_for p wired m (Some v) h called houses counts = some_given (λ o. IsSome o) (method_at p m) called.there (λ none. cc) (λ e at there.
     elim (bodies_are_alike p wired.overriders m v (body_of p m (Some v)) e at refl) [
       | inl same ↦ subst (λ k. RunsFor p m k h (Some v)) (sym same) (itself_runs p m h (Some v) called.there houses counts)
       | inr x ↦ overrider_runs p wired m v (body_of p m (Some v)) h e called x counts
@@ -148,8 +142,7 @@ begins_as p m k h view runs after w = record {
 pub body_quiet : (p : Image) → AllStandIn p → (m : ℕ) (view : Option ℕ) → is_quiet p m ≡ true → is_quiet p (body_of p m view) ≡ true
 unfolding body_of quiet_in
 body_quiet p fit m None q = q
-body_quiet p fit m (Some v) q =
-    some_given (λ o. quiet_in o ≡ true) (method_at p m) q (λ none. cc) (λ e at loud.
+body_quiet p fit m (Some v) q = some_given (λ o. quiet_in o ≡ true) (method_at p m) q (λ none. cc) (λ e at loud.
     elim (bodies_are_alike p fit m v (body_of p m (Some v)) e at refl) [
       | inl same ↦ ap (is_quiet p) same ∙ q
       | inr x ↦ ap quiet_in x.alike.there ∙ x.alike.asks.quiet loud
@@ -159,8 +152,7 @@ body_quiet p fit m (Some v) q =
 pub body_leaves : (p : Image) → AllStandIn p → (m : ℕ) (view : Option ℕ) → IsSome (method_at p m) → leaves p (body_of p m view) ≡ true → leaves p m ≡ true
 unfolding body_of leaves_in
 body_leaves p fit m None there l = l
-body_leaves p fit m (Some v) there l =
-    some_given (λ o. IsSome o) (method_at p m) there (λ none. cc) (λ e at some.
+body_leaves p fit m (Some v) there l = some_given (λ o. IsSome o) (method_at p m) there (λ none. cc) (λ e at some.
     elim (bodies_are_alike p fit m v (body_of p m (Some v)) e at refl) [
       | inl same ↦ sym (ap (leaves p) same) ∙ l
       | inr x ↦ ap leaves_in x.alike.named ∙ x.alike.asks.leaves (sym (ap leaves_in x.alike.there) ∙ l)

@@ -13,7 +13,7 @@ use Rattle.aom_shape.specs.declared.kind.Filling.{Filling}
 use Rattle.aom_shape.specs.declared.kind.Filling.TheVariants.{Full, Perhaps}
 use Rattle.aom_shape.specs.declared.kind.Kind.{Kind}
 use Rattle.aom_shape.specs.declared.kind.Kind.TheVariants.{Maybe, Own}
-use Rattle.aom_safety.specs.Claims.{Dispatching, Dying, Ending, Form, Layer, Mark, Method, Unwinding}
+use Rattle.aom_safety.specs.Claims.{Dispatching, Form, Layer, Method, Unwinding}
 use Rattle.aom_safety.specs.Claims.{by_session, claim, declared, entry_claim, items_of, root_claim}
 use Rattle.aom_semantics.specs.Objects.{is_no_message}
 use Rattle.aom_semantics.specs.Places.{Cell, Elsewhere, Entry, Object, Place, Root, Session, Sight, held, seen}
@@ -40,11 +40,8 @@ module _ (p : Image) (h : Sight) (o : Object) where
   claimed_entry : (cs : List Cell) (ls : List Layer) (k : ℕ) → IsOne (claim p (declared p cs) ls (Entry k))
   claimed_entry cs [] k = λ fits. absurd fits
   claimed_entry cs (Method fr sh ∷ ls) k = among_entries sh.entries (items_of ls) k _ (claimed_entry cs ls k)
-  claimed_entry cs (Mark gv ∷ ls) k = claimed_entry cs ls k
-  claimed_entry cs (Dying x ∷ ls) k = claimed_entry cs ls k
-  claimed_entry cs (Ending x left ∷ ls) k = claimed_entry cs ls k
   claimed_entry cs (Unwinding code es ∷ ls) k = among_entries es (items_of ls) k _ (claimed_entry cs ls k)
-  claimed_entry cs (Dispatching d seats ∷ ls) k = claimed_entry cs ls k
+  claimed_entry cs (_ ∷ ls) k = claimed_entry cs ls k
 
   by_filling : (x : Filling) → IsOne (filled (field_thing p Program 0) x)
   by_filling x = grind (arith, nat_tests, object_for p o.thing)
@@ -55,11 +52,8 @@ module _ (p : Image) (h : Sight) (o : Object) where
   claimed_root : (cs : List Cell) (ls : List Layer) → IsOne (claim p (declared p cs) ls (Elsewhere Root))
   claimed_root cs [] = by_filling Perhaps
   claimed_root cs (Method fr sh ∷ ls) = at_home fr.home sh _ (claimed_root cs ls)
-  claimed_root cs (Mark gv ∷ ls) = claimed_root cs ls
-  claimed_root cs (Dying x ∷ ls) = claimed_root cs ls
-  claimed_root cs (Ending x left ∷ ls) = claimed_root cs ls
-  claimed_root cs (Unwinding code es ∷ ls) = claimed_root cs ls
   claimed_root cs (Dispatching d seats ∷ ls) = grind (arith, nat_tests, either, claimed_root cs ls)
+  claimed_root cs (_ ∷ ls) = claimed_root cs ls
 
 module _ (p : Image) (t : Typing) (s : State) (typed : WellTyped p t s) (o : Object) where
   pub entry_object : (k : ℕ) → held s.cells (Entry k) ≡ Some o → is_object o.thing ≡ true

@@ -19,7 +19,7 @@ use Rattle.aom_shape.specs.declared.kind.Entry.{Entry as Pushed}
 use Rattle.aom_shape.specs.declared.kind.Filling.{Filling}
 use Rattle.aom_shape.specs.declared.kind.Filling.TheVariants.{Full, Perhaps}
 use Rattle.aom_shape.specs.declared.kind.Kind.{Kind}
-use Rattle.aom_shape.specs.declared.kind.Kind.TheVariants.{Maybe, Null, Own, Unset, Word}
+use Rattle.aom_shape.specs.declared.kind.Kind.TheVariants.{Maybe, Null, Own}
 use Rattle.aom_safety.proofs.Claimed.{claim_entry_above, claim_register_above}
 use Rattle.aom_safety.proofs.Items.{length_forms}
 use Rattle.aom_semantics.proofs.Maps.{found, of_name, same_place-true, same_place_refl}
@@ -39,11 +39,9 @@ use Rattle.aom_safety.specs.WellTyped.{Back, Caught, Fits, Gone, Houses, IsHouse
 
 -- what a kind of an owning place says of the thing
 abbrev pub HasThing : Kind → Thing → Type 0
-HasThing Unset x = ⊥
-HasThing Word x = ⊥
-HasThing Null x = ⊥
 HasThing (Own c a) x = x ≡ c
 HasThing (Maybe c a) x = x ≡ c
+HasThing _ x = ⊥
 
 -- what an owning place is claimed to own, and the thing that is there in its place
 abbrev pub StandsIn : Image → Kind → Thing → Type 0
@@ -94,8 +92,7 @@ field_thing_of p t cs (Method fr sh ∷ ls) back n f c s h = go fr.home s.1.hold
     go AtRoot houses hs ih h = ih h
     go (Inside o from) houses hs ih h = inside (o.name == n) refl (field_thing p (holder_of p fr.method) f) refl h
       where
-        inside :
-            (b : Bool) → (o.name == n) ≡ b → (own : Option Thing) → field_thing p (holder_of p fr.method) f ≡ own →
+        inside : (b : Bool) → (o.name == n) ≡ b → (own : Option Thing) → field_thing p (holder_of p fr.method) f ≡ own →
             HasThing (cond b (own_field own (field sh f) (claim p (declared p cs) ls (Field n f))) (claim p (declared p cs) ls (Field n f))) c →
             (o : Object) × (named cs n ≡ Some o) × (field_thing p (thing_holder o.thing) f ≡ Some c)
         inside true e (Some x) is h = (o, ap (λ m. named cs m) (sym (eqb-true o.name n e)) ∙ hs.lives, houses.fields f c (is ∙ filled_thing (Some x) (field sh f) c h))
@@ -117,8 +114,7 @@ declared_session_of : (p : Image) (cs : List Cell) (n c : ℕ) (x : Thing) → H
 declared_session_of p cs n c x h = grind (arith, nat_tests, found, filled_where, some_given)
 
 -- where a close is served its session is claimed no more
-pub session_thing_of :
-    (p : Image) (t : Typing) (cs : List Cell) (ls : List Layer) (back : Back) (n c : ℕ) (x : Thing) → Stack p t cs back ls →
+pub session_thing_of : (p : Image) (t : Typing) (cs : List Cell) (ls : List Layer) (back : Back) (n c : ℕ) (x : Thing) → Stack p t cs back ls →
     HasThing (claim p (declared p cs) ls (Elsewhere (Session n c))) x → IsSessionAt p cs n c x
 session_thing_of p t cs [] back n c x s h = declared_session_of p cs n c x h
 session_thing_of p t cs (Method fr sh ∷ ls) back n c x s h = session_thing_of p t cs ls (Returns fr.method fr.home) n c x s.4 h
@@ -146,8 +142,7 @@ pub service_lives : (p : Image) (t : Typing) (cs : List Cell) (ls : List Layer) 
 service_lives p t cs [] back x s h = absurd h
 service_lives p t cs (Method fr sh ∷ ls) back x s h = go (serves p fr.method) refl (service_lives p t cs ls (Returns fr.method fr.home) x s.4) h
   where
-    go :
-        (b : Bool) → serves p fr.method ≡ b → (HasThing (claim p (declared p cs) ls (Elsewhere In_service)) x → HasService (tasks_of ls)) →
+    go : (b : Bool) → serves p fr.method ≡ b → (HasThing (claim p (declared p cs) ls (Elsewhere In_service)) x → HasService (tasks_of ls)) →
         HasThing (cond b (delivered sh.delivery) (claim p (declared p cs) ls (Elsewhere In_service))) x → HasService (tasks_of ls)
     go true e below h = served_below ls (s.1.message.0 e)
     go false e below h = below h
@@ -193,8 +188,7 @@ module _ (p : Image) (cs : List Cell) (x : Thing) where
   abbrev ClaimsOver : List Pushed → List Layer → ℕ → Type 0
   ClaimsOver es ls k = HasThing (entry_claim es (items_of ls) k (claim p (declared p cs) ls (Entry k))) x
 
-  entries_live :
-      (es : List Pushed) (ls : List Layer) (k : ℕ) → (Claims ls (Entry k) → over (items_of ls) k ≡ Some Object_form) → ClaimsOver es ls k →
+  entries_live : (es : List Pushed) (ls : List Layer) (k : ℕ) → (Claims ls (Entry k) → over (items_of ls) k ≡ Some Object_form) → ClaimsOver es ls k →
       over (objects es (items_of ls)) k ≡ Some Object_form
   entries_live [] ls k below h = below h
   entries_live (e ∷ es) ls k below h = grind (arith, nat_tests, entries_live es ls k below)
@@ -203,20 +197,15 @@ module _ (p : Image) (cs : List Cell) (x : Thing) where
   items_live [] k h = absurd h
   items_live (Method fr sh ∷ ls) k h = entries_live sh.entries ls k (items_live ls k) h
   items_live (Mark gv ∷ ls) k h = over_below Mark_form (items_of ls) k (entry_below ls k h) ∙ items_live ls k h
-  items_live (Dying o ∷ ls) k h = items_live ls k h
-  items_live (Ending o left ∷ ls) k h = items_live ls k h
   items_live (Unwinding code es ∷ ls) k h = entries_live es ls k (items_live ls k) h
-  items_live (Dispatching w seats ∷ ls) k h = items_live ls k h
+  items_live (_ ∷ ls) k h = items_live ls k h
 
   -- the root is claimed where the image has one
   root_lives : (ls : List Layer) → Claims ls (Elsewhere Root) → IsSome (field_thing p Program 0)
   root_lives [] h = ap is_some (filled_thing (field_thing p Program 0) Perhaps x h)
   root_lives (Method fr sh ∷ ls) h = grind (arith, nat_tests, root_lives ls, filled_thing)
-  root_lives (Mark gv ∷ ls) h = root_lives ls h
-  root_lives (Dying o ∷ ls) h = root_lives ls h
-  root_lives (Ending o left ∷ ls) h = root_lives ls h
-  root_lives (Unwinding code es ∷ ls) h = root_lives ls h
   root_lives (Dispatching d seats ∷ ls) h = root_lives ls (below_null (is_of_root d) (claim p (declared p cs) ls (Elsewhere Root)) x h)
+  root_lives (_ ∷ ls) h = root_lives ls h
 
 -- an item of that form is an object's
 form_over : (items : List Item) (k : ℕ) → over (forms items) k ≡ option_map form (over items k)

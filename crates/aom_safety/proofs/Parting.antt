@@ -6,15 +6,13 @@ use Rattle.std.specs.Prelude.{filter}
 use Rattle.aom_image.specs.Image.{Image}
 use Rattle.aom_image.specs.declared.method.Thing.TheVariants.{Message}
 use Rattle.aom_rules.specs.Typing.{Typing}
-use Rattle.aom_shape.specs.declared.kind.Kind.{Kind}
-use Rattle.aom_shape.specs.declared.kind.Kind.TheVariants.{Null}
 use Rattle.aom_safety.proofs.Claimed.{fits_age}
 use Rattle.aom_safety.proofs.Dropping.{declared_dropped, dropped, fits_dropped, held_dropped, is_sent}
 use Rattle.aom_safety.proofs.Dropping.{place_dropped, stack_dropped, suits_dropped, tidy_dropped}
 use Rattle.aom_semantics.proofs.Maps.{same_place-true}
 use Rattle.aom_safety.proofs.Services.{held_served, named_served, requested_served, service_here, service_there, sits_lives, tidy_served}
 use Rattle.aom_safety.proofs.Things.{stands_message}
-use Rattle.aom_safety.specs.Claims.{Dispatching, by_stage, claim, declared}
+use Rattle.aom_safety.specs.Claims.{Dispatching, claim, declared}
 use Rattle.aom_semantics.specs.Moves.{dispatch_ends, needs_end, stage_ends}
 use Rattle.aom_semantics.specs.Places.{Cell, Elsewhere, In_service, Object, Place, Service, Session, held, same_place, seen, service_of, set_service, without}
 use Rattle.aom_semantics.specs.Servers.{is_among, is_other, parted}
@@ -37,16 +35,13 @@ claims_none (Accept_left code) = true
 claims_none _ = false
 
 module _ (p : Image) (t : Typing) (s : State) (x : Seat) (client : ℕ) (seats : List Seat) where
-  none_served : (stage : Stage) → claims_none stage ≡ true → (k : Kind) → by_stage (Of_server x client stage) k ≡ k
-  none_served stage e k = grind arith
-
   -- with such cells the dispatch goes on
   served_well : (u : State) → u.tasks ≡ Dispatched (Of_object x) ∷ [] → u.items ≡ [] → Good p t u.cells (Dispatching (Of_object x) seats ∷ []) → WellTyped p t u
   served_well u tasks items good = search (arith, nat_tests)
 
   -- the cells are as they were
   plain_good : (stage : Stage) → claims_none stage ≡ true → Good p t s.cells (Dispatching (Of_server x client stage) seats ∷ []) → Good p t s.cells (Dispatching (Of_object x) seats ∷ [])
-  plain_good stage plain good = search (arith, nat_tests, none_served stage plain Null)
+  plain_good stage plain good = search (arith, nat_tests)
 
   -- the message of a service that was left is completed
   module _ (code : ℤ) (good : Good p t s.cells (Dispatching (Of_server x client (Service_left code)) seats ∷ [])) where
@@ -114,8 +109,7 @@ module _ (p : Image) (t : Typing) (s : State) (x : Seat) (client : ℕ) (seats :
     }
 
   -- each stage
-  pub stage_keeps :
-      (stage : Stage) → s.items ≡ [] → Good p t s.cells (Dispatching (Of_server x client stage) seats ∷ []) →
+  pub stage_keeps : (stage : Stage) → s.items ≡ [] → Good p t s.cells (Dispatching (Of_server x client stage) seats ∷ []) →
       Keeps p t (guarded (needs_end (Of_server x client stage) s.cells) (dispatch_ends p (Of_server x client stage) s))
   stage_keeps Accepted items good = served_well (stage_ends x client Accepted s) refl items (plain_good Accepted refl good)
   stage_keeps (Accept_left code) items good = served_well (stage_ends x client (Accept_left code) s) refl items (plain_good (Accept_left code) refl good)

@@ -164,9 +164,7 @@ module _ (p : Image) (t : Typing) (fr : Frame) (ls : List Layer) (depth : ℕ) (
       at_source = grind (arith, nat_tests, q, ne_eqb depth, claim_register p)
 
       claims : (r : Place) → filling (declared p cs) (regs ++ k ∷ []) (set_register sh a Null) r ≡ changed (changed before q Null) to (before q) r
-      claims r =
-          over (declared p cs) (set_register sh a Null) regs k r
-          ∙ ap (λ x. cond (same_place to r) k x) (under (declared p cs) sh regs a Null r)
+      claims r = over (declared p cs) (set_register sh a Null) regs k r ∙ ap (λ x. cond (same_place to r) k x) (under (declared p cs) sh regs a Null r)
           ∙ ap (λ x. changed (changed before q Null) to x r) (sym at_source)
 
   -- the last register is taken for another kind
@@ -183,8 +181,7 @@ module _ (p : Image) (t : Typing) (fr : Frame) (ls : List Layer) (depth : ℕ) (
     even = even_more regs ws v None even;
   }
     where
-      go :
-          (r : Place) (b : Bool) → same_place (upper (length regs)) r ≡ b → Fits p (seen cs) (held cs r) (cond b k (filling (declared p cs) regs sh r)) →
+      go : (r : Place) (b : Bool) → same_place (upper (length regs)) r ≡ b → Fits p (seen cs) (held cs r) (cond b k (filling (declared p cs) regs sh r)) →
           Fits p (seen cs) (held cs r) (cond b v (filling (declared p cs) regs sh r))
       go r x e f = grind arith
 

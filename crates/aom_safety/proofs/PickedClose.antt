@@ -24,10 +24,10 @@ use Rattle.aom_semantics.specs.Destruction.{begun}
 use Rattle.aom_safety.specs.WellTyped.{AllSit, AllUndo, Fits, Keeps, SitsIn, SomeSits, WellTyped}
 use Rattle.aom_semantics.specs.World.{parting_with, taken_from}
 
-module _ (p : Image) (t : Typing) (wired : IsWired p) (typed : IsTyped p t) (s : State) (w : WellTyped p t s) (idle_now : s.tasks ≡ []) (fit : ClientsFit p s.clients s.cells)
-    (x : Seat) (r : Request) (there : held s.cells x.place ≡ Some x.object)
-    (lives : named s.cells x.object.name ≡ Some x.object) (asked : requested s.cells x.object.name ≡ Some r) (server : is_server p x.object.thing ≡ true)
-    (client : ℕ) (es : List Asked) (queue : (service_of s.cells x.object.name).queue ≡ Close_of client ∷ es) where
+module _ (p : Image) (t : Typing) (wired : IsWired p)
+    (typed : IsTyped p t) (s : State) (w : WellTyped p t s) (idle_now : s.tasks ≡ []) (fit : ClientsFit p s.clients s.cells) (x : Seat) (r : Request)
+    (there : held s.cells x.place ≡ Some x.object) (lives : named s.cells x.object.name ≡ Some x.object) (asked : requested s.cells x.object.name ≡ Some r)
+    (server : is_server p x.object.thing ≡ true) (client : ℕ) (es : List Asked) (queue : (service_of s.cells x.object.name).queue ≡ Close_of client ∷ es) where
   abbrev n : ℕ
   n = x.object.name
 
@@ -94,8 +94,7 @@ module _ (p : Image) (t : Typing) (wired : IsWired p) (typed : IsTyped p t) (s :
         none_in = (no_fields cs z.name seats not_seated seated, tt);
         unworked = tt;
         sessions = λ d c. ap (λ b. cond (b && (client == c)) Null (d (Elsewhere (Session z.name c)))) (ne_eqb n z.name (λ same. not_seated (inl same)));
-      })
-      (suits_now p t wired typed s w idle_now fit x r there lives asked server)
+      }) (suits_now p t wired typed s w idle_now fit x r there lives asked server)
       then (length s.items) (ap length items) refl refl (ap forms items) (subst (λ is. AllUndo p is) (sym items) tt)
     where
       has_then : has_session (service_of (moved q g cs) n) client ≡ true

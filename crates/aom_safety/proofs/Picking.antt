@@ -82,9 +82,9 @@ own_held p h o x f = grind arith
 pub plain_message : (d : Place → Kind) (r : Place) → with_message false d r ≡ d r
 plain_message d x = grind arith
 
-module _ (p : Image) (t : Typing) (wired : IsWired p) (typed : IsTyped p t) (s : State) (w : WellTyped p t s) (idle_now : s.tasks ≡ []) (fit : ClientsFit p s.clients s.cells)
-    (x : Seat) (r : Request) (there : held s.cells x.place ≡ Some x.object) (lives : named s.cells x.object.name ≡ Some x.object)
-    (asked : requested s.cells x.object.name ≡ Some r) (server : is_server p x.object.thing ≡ true) where
+module _ (p : Image) (t : Typing) (wired : IsWired p) (typed : IsTyped p t) (s : State) (w : WellTyped p t s)
+    (idle_now : s.tasks ≡ []) (fit : ClientsFit p s.clients s.cells) (x : Seat) (r : Request) (there : held s.cells x.place ≡ Some x.object)
+    (lives : named s.cells x.object.name ≡ Some x.object) (asked : requested s.cells x.object.name ≡ Some r) (server : is_server p x.object.thing ≡ true) where
   abbrev n : ℕ
   n = x.object.name
 
@@ -134,8 +134,7 @@ module _ (p : Image) (t : Typing) (wired : IsWired p) (typed : IsTyped p t) (s :
   module _ (e : Asked) (es : List Asked) (queue : (service_of s.cells n).queue ≡ e ∷ es) (plain_first : (k : ℕ) → is_message k e ≡ false) where
     messages : (m k : ℕ) → has_message (service_of cs m) k ≡ has_message (service_of s.cells m) k
     messages m k = by_server s.cells x.object lives taken_first (λ m v. has_message v k ≡ has_message (service_of s.cells m) k)
-        (ap (λ q. list_any (λ e. is_message k e) (rest_of q)) queue ∙ sym (grind (arith, nat_tests)))
-        (λ m other. refl) m
+        (ap (λ q. list_any (λ e. is_message k e) (rest_of q)) queue ∙ sym (grind (arith, nat_tests))) (λ m other. refl) m
 
     declared_now : (q : Place) → declared p cs q ≡ declared p s.cells q
     declared_now (Field m f) = ap (λ y. declared_field p y f) (named_now m)

@@ -1,6 +1,5 @@
 -- What it takes that each step keeps a law of tasks, and that it then does: once for all such laws, by the moves.
 use Rattle.std.proofs.lemmas.Bool.Decides.{nat_tests}
-use Rattle.aom_classes.proofs.Playing.{destroyed}
 use Rattle.std.proofs.Common.{arith, Bool, List, Option, Some, [], length, refl, subst, suc, sym, true, ℕ, ℤ, ◌-◌, ◌∷◌, ◌≡◌}
 use Rattle.aom_image.specs.Image.{Image}
 use Rattle.aom_image.specs.Views.{instr_at}
@@ -13,14 +12,14 @@ use Rattle.aom_roles.specs.Tests.{AllTrue}
 use Rattle.aom_classes.specs.Jumps.{jump_of}
 use Rattle.aom_classes.specs.Loops.{loop_in}
 use Rattle.aom_safety.proofs.Moving.{steps_are_moves}
-use Rattle.aom_semantics.specs.Calls.{below_top, entered, received, returned}
+use Rattle.aom_semantics.specs.Calls.{below_top, entered, received}
 use Rattle.aom_semantics.specs.Cleanup.{code_told, has_trap, operation_frame, to_trap}
 use Rattle.aom_classes.specs.Roles.{role_of}
-use Rattle.aom_semantics.specs.Destruction.{destructor_frame, destructed, begun}
+use Rattle.aom_semantics.specs.Destruction.{destructor_frame, begun}
 use Rattle.aom_semantics.specs.Effects.{Cancels, Counts, Destroys, Destroys_last, Effect, Goes_on, Jumps}
 use Rattle.aom_semantics.specs.Effects.{Leaves, Operates, Repeats, Returns, applied, with_words}
-use Rattle.aom_semantics.specs.Moves.{answered, counted, dispatch_ends, error_frame, handled, main_ends, needs, object_ends, step}
-use Rattle.aom_semantics.specs.Places.{Elsewhere, Object, Root, held}
+use Rattle.aom_semantics.specs.Moves.{counted, dispatch_ends, error_frame, main_ends, needs, step}
+use Rattle.aom_semantics.specs.Places.{Object}
 use Rattle.aom_semantics.specs.State.{Home, Of_server, Accepts, Serves, Parts, A_mark, An_operation, Choice, Destroy, Dispatch}
 use Rattle.aom_semantics.specs.State.{Dispatched, Frame, Goes, Inside, Item, Asks, Of_object, Run, Seat, State, Task, Trapped}
 use Rattle.aom_semantics.specs.State.{Unwind, counter, frame_as, frame_of, next, set_counter, to_place}
@@ -46,12 +45,10 @@ pub record Kept (p : Image) (c : Choice) (l : TaskLaw) (s : State) : Type 0 wher
   -- it waits below what it begins, and goes on once that is over
   pub waits : (fr : Frame) (ts : List Task) (i : Instr) → Acting p c l s fr ts i → IsStraight i → (words : List (Option ℤ)) → l.Waits (with_words fr words) ts
   pub resumes : (fr : Frame) (ts : List Task) → l.Waits fr ts → (words : List (Option ℤ)) → l.Runs (next (with_words fr words)) ts
-  pub calls :
-      (fr : Frame) (ts : List Task) (target : Target) (m first x : ℕ) → Acting p c l s fr ts (Call target m first x) →
+  pub calls : (fr : Frame) (ts : List Task) (target : Target) (m first x : ℕ) → Acting p c l s fr ts (Call target m first x) →
       l.Runs (entered p fr ts (counted p s) target m first (length s.items)) (Run fr ∷ ts)
   pub cancels : (fr : Frame) (ts : List Task) (m : ℕ) → Acting p c l s fr ts Cancel → cancel_method p fr ≡ Some m → l.Runs (frame_as m fr.home fr.view (length s.items)) (Run fr ∷ ts)
-  pub traps :
-      (fr : Frame) (ts : List Task) (target : Target) (m first x : ℕ) → Acting p c l s fr ts (Trap target m first x) →
+  pub traps : (fr : Frame) (ts : List Task) (target : Target) (m first x : ℕ) → Acting p c l s fr ts (Trap target m first x) →
       l.Runs (entered p fr ts (counted p s) target m first (length (A_mark ∷ s.items))) (Trapped ∷ Run fr ∷ ts) × l.Stands (Run fr ∷ ts)
   pub destructs : (o : Object) (x m height : ℕ) (ts : List Task) → role_of p x Destruct ≡ Some m → l.Runs (destructor_frame p m o (length ts) height) (Destroy ∷ ts)
   -- an `error` method is asked
@@ -70,12 +67,9 @@ told x y code fr = grind arith
 -- a destruction begins
 module _ (p : Image) (l : TaskLaw) (destructs : (o : Object) (x m height : ℕ) (ts : List Task) →
     role_of p x Destruct ≡ Some m → l.Runs (destructor_frame p m o (length ts) height) (Destroy ∷ ts)) where
-  destructed_holds : (o : Object) (height : ℕ) (ts : List Task) → Below l ts → Holds l (destructed p o height ts)
-  destructed_holds o height ts b = grind (arith, nat_tests, destroyed, destructs)
-
   -- and the next of its line
   begun_holds : (o : Object) (height : ℕ) (ts : List Task) → Below l ts → Holds l (begun p o height ts)
-  begun_holds o height ts b = grind (arith, nat_tests, destructed_holds o height ts b)
+  begun_holds o height ts b = grind (arith, nat_tests)
 
 module _ (p : Image) (c : Choice) (l : TaskLaw) (s : State) (k : Kept p c l s) where
   begins_over : (o : Object) (height : ℕ) (ts : List Task) → Below l ts → Holds l (begun p o height ts)
@@ -86,23 +80,11 @@ module _ (p : Image) (c : Choice) (l : TaskLaw) (s : State) (k : Kept p c l s) w
   lands code (Run fr ∷ ts) e b = lands code ts e b.1
   lands code x e b = grind arith
 
-  resumes_with : (fr fr' : Frame) (ts : List Task) → fr' ≡ with_words fr fr'.words → Below l (Run fr ∷ ts) → Holds l (Run (next fr') ∷ ts)
-  resumes_with fr fr' ts e b = (subst (λ x. l.Runs (next x) ts) (sym e) (k.resumes fr ts b.0 fr'.words), b.1)
-
-  returns : (fr : Frame) (ts : List Task) (v : State) (g : Gives) (a : ℕ) (below : List Task) → Holds l v.tasks → Below l below → Holds l (returned p fr ts v g a below).tasks
-  returns fr ts v g a x h b = grind (arith, nat_tests, resumes_with, receives)
-
   closes : (v : State) (b : Bool) (root : Option Object) → Holds l (main_ends p b root v).tasks
   closes v x root = grind (arith, nat_tests, begins_over)
 
-  object_closes : Holds l (object_ends p (counted p s)).tasks
-  object_closes = closes (handled (counted p s)) s.rest.stopped (held s.cells (Elsewhere Root))
-
-  answers : (answer : ℤ) → Holds l (answered p answer (counted p s)).tasks
-  answers answer = grind (arith, nat_tests, object_closes)
-
   ends : (d : Dispatch) → Holds l (dispatch_ends p d (counted p s)).tasks
-  ends x = grind (arith, nat_tests, closes, object_closes, answers)
+  ends x = grind (arith, nat_tests, closes)
 
   module _ (fr : Frame) (ts : List Task) (at_hand : s.tasks ≡ Run fr ∷ ts) (h : Holds l (Run fr ∷ ts)) where
     another : (i j : Instr) → i ≡ j → Acting p c l s fr ts i → Acting p c l s fr ts j
@@ -115,7 +97,7 @@ module _ (p : Image) (c : Choice) (l : TaskLaw) (s : State) (k : Kept p c l s) w
     acts i (Counts d n) a f = (k.counts fr ts i a d n f, h.1)
     acts i (Repeats d n to) a f = (grind (arith, nat_tests, another i), h.1)
     acts i (Cancels m) a f = (k.cancels fr ts m (another i _ f.0 a) f.1, (k.waits fr ts _ (another i _ f.0 a) refl fr.words, h.1))
-    acts i (Returns g x) a f = grind (arith, nat_tests, returns fr ts)
+    acts i (Returns g x) a f = grind (arith, nat_tests)
     acts i (Leaves code u) a f = lands code ts f.0 h.1
     acts i (Destroys o x words) a f = begins_over o (length s.items) (Run (with_words fr words) ∷ ts) (k.waits fr ts _ (another i _ f.0 a) refl words, h.1)
     acts i (Destroys_last o) a f = begins_over o (length (below_top s.items)) (Run fr ∷ ts) (k.waits fr ts _ (another i _ f.0 a) refl fr.words, h.1)
@@ -129,7 +111,7 @@ module _ (p : Image) (c : Choice) (l : TaskLaw) (s : State) (k : Kept p c l s) w
   kept u h (Empties ts o at there same) = grind (arith, nat_tests)
   kept u h (Clears code ts items o at top there same) = grind (arith, nat_tests, begins_over o)
   kept u h (Undoes code ts items m w at top same) = grind (arith, nat_tests)
-  kept u h (Arrives code fr ts items at top same) = grind (arith, nat_tests, resumes_with fr, told)
+  kept u h (Arrives code fr ts items at top same) = grind (arith, nat_tests, told)
   kept u h (Comes_out code d ts items at top same) = subst (λ v. Holds l v.tasks) (sym same) (subst (λ ts. Holds l ts) at h).1.1
   kept u h (Ends d ts at same) = subst (λ v. Holds l v.tasks) (sym same) (ends d)
 

@@ -42,10 +42,6 @@ pub none_stays : (test stays : Asked → Bool) (es : List Asked) → list_any te
 none_stays test stays [] none = refl
 none_stays test stays (e ∷ es) none = grind (arith, nat_tests, none_stays test stays es, or_parts (test e))
 
--- the same is asked in either order
-again_swap : (e f : Asked) → asked_again e f ≡ false → asked_again f e ≡ false
-again_swap x y h = grind (arith, nat_tests)
-
 -- ---- where clients and queues change
 
 -- another client is at something else
@@ -65,4 +61,4 @@ queue_stays clients n stays (e ∷ es) fits = grind (arith, nat_tests, queue_sta
 pub queue_last : (clients : List Client) (n : ℕ) (x : Asked) (es : List Asked) →
     EntryFits clients n x → list_any (asked_again x) es ≡ false → QueueFits clients n es → QueueFits clients n (es ++ x ∷ [])
 queue_last clients n x [] own none fits = ((own, refl), tt)
-queue_last clients n x (e ∷ es) own none fits = grind (arith, nat_tests, or_parts, list_any-append, again_swap x e, queue_last clients n x es own)
+queue_last clients n x (e ∷ es) own none fits = grind (arith, nat_tests, or_parts, list_any-append, queue_last clients n x es own)

@@ -31,8 +31,7 @@ use Rattle.aom_semantics.specs.World.{boot_state}
 use Rattle.aom_safety.proofs.Layers.{method_layer}
 
 -- the abstract state of the method at hand
-its_shape :
-    (p : Image) (t : Typing) (cs : List Cell) (fr : Frame) (ts : List Task) (ls : List Layer) → Run fr ∷ ts ≡ tasks_of ls → Good p t cs ls →
+its_shape : (p : Image) (t : Typing) (cs : List Cell) (fr : Frame) (ts : List Task) (ls : List Layer) → Run fr ∷ ts ≡ tasks_of ls → Good p t cs ls →
     (sh : Shape) × (shape_at t fr.method fr.place ≡ Some sh)
 its_shape p t cs fr ts ls at good = method_layer (Good p t cs) fr ts ls (sym at) good (λ sh ls _ good. (sh, good.stack.0))
 

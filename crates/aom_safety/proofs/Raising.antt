@@ -96,8 +96,7 @@ module _ (p : Image) (t : Typing) (wired : IsWired p) (s : State) (fr : Frame) (
     abbrev Null_there : Type 0
     Null_there = (f : ℕ) (x : Thing) → field_thing p (holder_of p m) f ≡ Some x → held cs (field_place fr.home f) ≡ None
 
-    raised_null :
-        constructs_class p m (parent_above p fr.method) ≡ true → empty_by p (parent_above p fr.method) sh.fields ≡ true → Null_there
+    raised_null : constructs_class p m (parent_above p fr.method) ≡ true → empty_by p (parent_above p fr.method) sh.fields ≡ true → Null_there
     raised_null is empty = of (method_class p fr.method) refl is empty
       where
         over : (y : ℕ) → method_class p fr.method ≡ Some y → (o : Option ℕ) → parent_of p y ≡ o → constructs_class p m o ≡ true → empty_by p o sh.fields ≡ true → Null_there

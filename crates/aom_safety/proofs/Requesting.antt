@@ -18,7 +18,6 @@ use Rattle.aom_shape.proofs.Sets.{has_along}
 use Rattle.aom_shape.specs.Kinds.{is_ready_kind}
 use Rattle.aom_shape.specs.Needs.{Flow}
 use Rattle.aom_shape.specs.Shape.{Shape}
-use Rattle.aom_shape.specs.declared.kind.Kind.{Kind}
 use Rattle.aom_roles.specs.Things.{holder_by, holder_of}
 use Rattle.aom_safety.proofs.Callees.{holder_member, home_member, member_kind}
 use Rattle.aom_safety.proofs.Storing.{Alike, alike_itself, fits_alike, housed_alike, listed_still, on_some}
@@ -41,22 +40,15 @@ use Rattle.aom_roles.specs.Kinds.{is_active_kind, is_issuing_kind, is_listed_kin
 
 -- ---- what is known of a request
 
--- the states count for no place
-claim_states : (p : Image) (d : Place → Kind) (fr : Frame) (sh : Shape) (ls : List Layer) (states : ℕ) (r : Place) →
-    claim p d (Method fr (record sh { states = states }) ∷ ls) r ≡ claim p d (Method fr sh ∷ ls) r
-claim_states p d fr sh ls states x = grind arith
-
 -- the object that a method works on has another request perhaps, and is in these states
-restated :
-    (p : Image) (t : Typing) (cs cs' : List Cell) (fr : Frame) (sh : Shape) (ls : List Layer) (o : Object) (from : Place) (states : ℕ) →
-    fr.home ≡ Inside o from → named cs o.name ≡ Some o → Alike cs cs' →
-    ((m : ℕ) → is_some (requested cs m) ≡ true → is_some (requested cs' m) ≡ true) →
+restated : (p : Image) (t : Typing) (cs cs' : List Cell) (fr : Frame) (sh : Shape) (ls : List Layer) (o : Object) (from : Place) (states : ℕ) →
+    fr.home ≡ Inside o from → named cs o.name ≡ Some o → Alike cs cs' → ((m : ℕ) → is_some (requested cs m) ≡ true → is_some (requested cs' m) ≡ true) →
     ((m : ℕ) → (o.name == m) ≡ false → requested cs' m ≡ requested cs m) →
     ((q : Place) (x : Object) → held cs q ≡ Some x → is_ready_kind (claim p (declared p cs) (Method fr sh ∷ ls) q) ≡ false → (o.name == x.name) ≡ false) →
     Suits (thing_kind p o.thing) (known_at p fr states (states_claim p o ls)) (requested cs' o.name) →
     Fitted p t cs fr sh ls → Fitted p t cs' fr (record sh { states = states }) ls
 restated p t cs cs' fr sh ls o from states home lives alike listed others ready suit g = record {
-  fits = λ q. subst (λ k. Fits p (seen cs') (held cs' q) k) (sym (claim_states p (declared p cs') fr sh ls states q))
+  fits = λ q. subst (λ k. Fits p (seen cs') (held cs' q) k) (sym (grind arith))
       (fits_alike p t cs cs' alike (Method fr sh ∷ ls) q (λ x e fresh. others x.name (ready q x e fresh)) (g.fits q));
   suits = grind (arith, nat_tests);
   tidy = alike.tidy g.tidy;
@@ -66,8 +58,7 @@ restated p t cs cs' fr sh ls o from states home lives alike listed others ready 
   stack = stack_alike p t cs cs' alike listed ls _ g.stack;
 }
   where
-    known :
-        (x : Object) → named cs' x.name ≡ Some x → (b : Bool) → (o.name == x.name) ≡ b →
+    known : (x : Object) → named cs' x.name ≡ Some x → (b : Bool) → (o.name == x.name) ≡ b →
         Suits (thing_kind p x.thing) (cond b (known_at p fr states (states_claim p x ls)) (states_claim p x ls)) (requested cs' x.name)
     known x here y e = grind (arith, nat_tests, same_object cs o x lives)
 
@@ -250,8 +241,7 @@ module _ (p : Image) (t : Typing) (main_none : (m : ℕ) → method_role p m ≡
   some_left listed x h = not_empty_by (bit_and sh.states x) (state_of own) (within listed x h) (no_state_is_none own)
 
   -- a jump by the state of the request: what is learned of it is known at either place
-  goes_by :
-      (listed : is_listed_kind (own_kind p fr.method) ≡ true) (there here to : ℕ) (b : Bool) →
+  goes_by : (listed : is_listed_kind (own_kind p fr.method) ≡ true) (there here to : ℕ) (b : Bool) →
       (b ≡ true → IsTrue (has there (state_of own))) → (b ≡ false → IsTrue (has here (state_of own))) →
       AllLead t fr.method (flow_narrowed sh (suc fr.place) here ++ flow_narrowed sh to there) →
       WellTyped p t (applied p fr (tasks_of ls) s (jumps_if fr b to))

@@ -14,7 +14,6 @@ use Rattle.aom_rules.specs.Calls.{brought, caught, entries_done, leaves_one, res
 use Rattle.aom_shape.specs.Kinds.{entry_kind, is_object_or_null, is_unowning, is_word, may_be, no_entry, none_owns, register, set_register}
 use Rattle.aom_shape.specs.Entries.{with_entry}
 use Rattle.aom_shape.specs.Shape.{Shape}
-use Rattle.aom_roles.specs.Things.{holder_of}
 use Rattle.aom_rules.specs.Typing.{Leads, Typing}
 use Rattle.aom_shape.specs.declared.kind.Age.TheVariants.{Ready}
 use Rattle.aom_shape.specs.declared.kind.Entry.{Entry as Pushed}
@@ -30,12 +29,12 @@ use Rattle.aom_safety.proofs.Straight.{frames_reworded, At, Fitted, Law, claim_r
 use Rattle.aom_safety.proofs.Straight.{register_fits, settle, stepped, top, word_of_object, words_set, write, may_be_object}
 use Rattle.aom_safety.proofs.Widening.{hold_widens, own_widens, own_widens_more, retaken}
 use Rattle.aom_semantics.specs.Calls.{needs_ended, below_top, received, result_cells, result_needs, result_register, returned, told_answer}
-use Rattle.aom_safety.specs.Claims.{home_claim, root_claim, serves, Dispatching, Layer, Mark, Mark_form, Method}
+use Rattle.aom_safety.specs.Claims.{serves, Dispatching, Layer, Mark, Mark_form, Method}
 use Rattle.aom_safety.specs.Claims.{Unwinding, claim, declared, forms, items_of, objects, tasks_of}
 use Rattle.aom_semantics.specs.Objects.{is_thing}
 use Rattle.aom_semantics.specs.Places.{In_service, Session, Queued, Cell, Entry, Object, Place, Sight, changed, held}
 use Rattle.aom_semantics.specs.Places.{moved, requested, same_place, seen, Elsewhere, Field, Going, Register, Root}
-use Rattle.aom_semantics.specs.State.{Of_server, Serves, Static, AtRoot, Home, Dispatched, Answered, Asks, Choice, Dispatch}
+use Rattle.aom_semantics.specs.State.{Of_server, Serves, Dispatched, Answered, Asks, Choice, Dispatch}
 use Rattle.aom_semantics.specs.State.{Frame, Inside, Of_main, Of_object, Run, Seat, State, next, set_word, word}
 use Rattle.aom_safety.specs.WellTyped.{SitsFirst, IsAttended, seat_of, Awaits, Back, Caught, EndsDispatch, EndsWell, Fits}
 use Rattle.aom_safety.specs.WellTyped.{IsApart, LeavesNone, Now, Returns, Stack, WellTyped, WordFits, past_going}
@@ -112,7 +111,7 @@ module _ (p : Image) (t : Typing) (c : Choice) (s : State) (fr fr2 : Frame) (sh 
       (register sh a) ≡ true → Fitted p t (moved (top below a) (top ls x) s.cells) (set_word fr2 x None) (set_register sh2 x (register sh a)) ls
   carried a x e n u obj =
       let g = at_hand.good in
-      let free = fits_unowning p h _ (register sh2 x) u caller_fits in
+      let free = fits_unowning p h _ (register sh2 x) u (grind (arith, nat_tests, d, top, ne_eqb, claim_register)) in
       record {
         fits = λ r. subst (λ d. Fits p (seen cs') (held cs' r) (claim p d (Method (set_word fr2 x None) (set_register sh2 x k) ∷ ls) r)) (sym (declared_moved p cs q to))
             (subst (λ k. Fits p (seen cs') (held cs' r) k) (sym (claim_frame p d fr2 (set_word fr2 x None) (set_register sh2 x k) ls r refl refl))
@@ -146,10 +145,6 @@ module _ (p : Image) (t : Typing) (c : Choice) (s : State) (fr fr2 : Frame) (sh 
 
       cs' : List Cell
       cs' = moved q to s.cells
-
-      caller_fits : Fits p (seen s.cells) (held s.cells (top ls x)) (register sh2 x)
-      caller_fits = rw (ap (λ b. cond b (register sh x) (claim p d below (top ls x))) (ne_eqb (length (tasks_of below))
-          (length (tasks_of ls)) (λ e. absurd (omega arith))) ∙ same_claims d (top ls x) ∙ claim_register p d fr2 sh2 ls x) at (at_hand.good.fits (top ls x))
 
       fits_aside : (r : Place) → Fits p (seen s.cells) (held s.cells r) (changed (claim p (declared p s.cells) (Method fr2 sh2 ∷ ls)) q k r)
       fits_aside r = go (same_place q r) refl
@@ -289,15 +284,11 @@ module _ (p : Image) (t : Typing) (wired : IsWired p) (c : Choice) (s : State) (
       let e = catches.0 in
       let r = returnable p fr sh a n in
       let w =
-      go (gives_of p fr.method) (rw e catches.1) r.result r.entries r.free caller.0.1 (rw e caller.0.2)
-      (rw e caller.0.3) in
-      let mark = mark_on_top s.items _ (same_items p t c s fr sh marked at_hand (entries_none (gives_of p fr.method) (rw e catches.1) r.entries)) in
+      go (gives_of p fr.method) (rw e catches.1) r.result r.entries r.free caller.0.1 (rw e caller.0.2) (rw e caller.0.3) in
+      let mark = mark_on_top s.items _ (same_items p t c s fr sh marked at_hand (grind arith)) in
       (return_needs p t c s fr sh marked at_hand a r w.0 (mark, tt), ended_plainly p t c s fr sh marked at_hand a r catches.2 w.1)
     where
       -- what leaves no object has dealt with all its entries
-      entries_none : (g : Gives) → LeavesNone g → entries_done p g sh.entries ≡ true → no_entry sh.entries ≡ true
-      entries_none g none e = grind arith
-
       x : ℕ
       x = result_register (instr_at p fr2.method fr2.place)
 
@@ -340,8 +331,7 @@ module _ (p : Image) (t : Typing) (wired : IsWired p) (c : Choice) (s : State) (
         items = below_top s.items;
       })
 
-      go :
-          (g : Gives) → LeavesNone g → AllTrue (rule_result p fr.method fr.place sh g a) → entries_done p g sh.entries ≡ true →
+      go : (g : Gives) → LeavesNone g → AllTrue (rule_result p fr.method fr.place sh g a) → entries_done p g sh.entries ≡ true →
           none_owns (result_moved p fr.method fr.place sh g a).registers ≡ true → is_unowning (register sh2 (suc x)) ≡ true → Awaits g x sh2 →
           Leads t fr2.method (suc fr2.place) (caught g x sh2) → Goal g
       go Nothing none r e n u w leads =
@@ -396,17 +386,13 @@ module _ (p : Image) (t : Typing) (c : Choice) (s : State) (fr : Frame) (sh : Sh
     good = record {
       stack = (ends, at_hand.good.stack.4.1.1, at_hand.good.stack.4.1.2, first, attended);
       fits = fits;
-      suits = suits_after a r;
+      suits = grind (arith, nat_tests, all_returned, rests_there, suits_rests, known_resting);
       tidy = at_hand.good.tidy;
     };
   }
-    where
-      suits_after : (a : ℕ) → Returnable p fr sh a → AllSuit p s.cells dispatched
-      suits_after a r = grind (arith, nat_tests, all_returned p s.cells s.cells fr sh, rests_there p, suits_rests, known_resting p)
 
   -- below the method, where it gives nothing and serves nothing
-  plain_below :
-      no_entry sh.entries ≡ true → none_owns sh.registers ≡ true → (serves p fr.method ≡ true → ⊥) → (q : Place) →
+  plain_below : no_entry sh.entries ≡ true → none_owns sh.registers ≡ true → (serves p fr.method ≡ true → ⊥) → (q : Place) →
       Fits p (seen s.cells) (held s.cells q) (claim p (declared p s.cells) (Dispatching w seats ∷ ls) q)
   plain_below entries free plain q = rw (mark_claims p
       (declared p s.cells) gv (Dispatching w seats ∷ ls) q) at (ended p s.cells fr sh dispatched at_hand.good.stack.1.holder at_hand.good.stack.1.view
@@ -447,15 +433,11 @@ law_return_object p t c s fr sh gv x seats ls at_hand a n leads =
 -- to that of a server which serves a message: it is taken, and the dispatch ends as an object's
 module _ (p : Image) (t : Typing) (c : Choice) (s : State) (fr : Frame) (sh : Shape) (gv : Gives) (x : Seat) (client : ℕ)
     (o : Object) (seats : List Seat) (ls : List Layer) (at_hand : At p t s fr sh (Mark gv ∷ Dispatching (Of_server x client (Serves o)) seats ∷ ls)) where
-  serves_it : serves p fr.method ≡ true
-  serves_it = at_hand.good.stack.1.message.1 tt
-
   -- no message is served any more
   taken : (a : ℕ) → Returnable p fr sh a → Fits p (seen s.cells) (held s.cells (Elsewhere In_service)) Null
-  taken a r = grind (arith, nat_tests, message_gone, serves_it)
+  taken a r = grind (arith, nat_tests, message_gone)
 
-  others_fit :
-      (a : ℕ) → Returnable p fr sh a → no_entry sh.entries ≡ true → none_owns sh.registers ≡ true → (q : Place) →
+  others_fit : (a : ℕ) → Returnable p fr sh a → no_entry sh.entries ≡ true → none_owns sh.registers ≡ true → (q : Place) →
       Fits p (seen s.cells) (held s.cells q) (claim p (declared p s.cells) (Dispatching (Of_object x) seats ∷ ls) q)
   others_fit a r entries free q = go q
     where
@@ -469,27 +451,16 @@ module _ (p : Image) (t : Typing) (c : Choice) (s : State) (fr : Frame) (sh : Sh
       whole q f = ended p s.cells fr bare (Mark gv ∷ Dispatching (Of_server x client (Serves o)) seats ∷ ls) at_hand.good.stack.1.holder
           at_hand.good.stack.1.view at_hand.good.stack.2 at_hand.good.stack.3 refl entries free (λ serving. refl) q (seen s.cells) (held s.cells q) f
 
-      same_fields : (home : Home) (m f : ℕ) (k : Kind) → home_claim p (holder_of p fr.method) home sh m f k ≡ home_claim p (holder_of p fr.method) home (record sh { delivery = Here }) m f k
-      same_fields Static m f k = refl
-      same_fields AtRoot m f k = refl
-      same_fields (Inside y from) m f k = refl
-
-      same_root : (home : Home) (k : Kind) → root_claim p home sh k ≡ root_claim p home (record sh { delivery = Here }) k
-      same_root Static k = refl
-      same_root AtRoot k = refl
-      same_root (Inside y from) k = refl
-
       below : List Layer
       below = Mark gv ∷ Dispatching (Of_server x client (Serves o)) seats ∷ ls
 
       go : (q : Place) → Fits p (seen s.cells) (held s.cells q) (claim p (declared p s.cells) (Dispatching (Of_object x) seats ∷ ls) q)
       go (Register f i) = whole (Register f i) (at_hand.good.fits (Register f i))
       go (Entry k) = whole (Entry k) (at_hand.good.fits (Entry k))
-      go (Field n f) =
-          whole (Field n f) (grind (arith, nat_tests, same_fields, below))
+      go (Field n f) = whole (Field n f) (grind (arith, nat_tests, below))
       go (Going k) = whole (Going k) (at_hand.good.fits (Going k))
       go (Elsewhere Root) = whole (Elsewhere Root) (subst (λ k. Fits p (seen s.cells) (held s.cells (Elsewhere Root)) k)
-          (same_root fr.home (claim p (declared p s.cells) below (Elsewhere Root))) (at_hand.good.fits (Elsewhere Root)))
+          (grind arith) (at_hand.good.fits (Elsewhere Root)))
       go (Elsewhere (Session m k)) = at_hand.good.fits (Elsewhere (Session m k))
       go (Elsewhere In_service) = subst (λ l. Fits p (seen s.cells) (held s.cells (Elsewhere In_service))
           (claim p (declared p s.cells) (Dispatching (Of_object x) seats ∷ l) (Elsewhere In_service))) (sym at_hand.good.stack.4.1.1) (taken a r)

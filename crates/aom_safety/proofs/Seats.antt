@@ -7,19 +7,15 @@ use Rattle.aom_safety.specs.WellTyped.{AllSit, IsNoFieldOf, NoSeatAt, NoSeatIn, 
 
 -- what holds a method's cell is below the method
 abbrev pub NoFieldHere : Place → Place → Type 0
-NoFieldHere (Register f i) from = Unit {0}
-NoFieldHere (Entry k) from = Unit {0}
 NoFieldHere (Field n f) from = IsNoFieldOf n from
 NoFieldHere (Elsewhere w) from = same_place (Elsewhere w) from ≡ false
-NoFieldHere (Going k) from = Unit {0}
+NoFieldHere _ from = Unit {0}
 
 -- no seat is that place, or in the fields of its cell
 abbrev pub NoSeatHere : Place → List Seat → Type 0
-NoSeatHere (Register f i) xs = Unit {0}
-NoSeatHere (Entry k) xs = Unit {0}
 NoSeatHere (Field n f) xs = NoSeatIn n xs
 NoSeatHere (Elsewhere w) xs = NoSeatAt (Elsewhere w) xs
-NoSeatHere (Going k) xs = Unit {0}
+NoSeatHere _ xs = Unit {0}
 
 is_elsewhere : (q r : Place) (xs : List Seat) → SitsIn r xs → NoFieldHere q r → same_place q r ≡ false
 is_elsewhere q r xs h a = grind arith

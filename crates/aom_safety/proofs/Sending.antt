@@ -1,7 +1,7 @@
 -- A message that a client sends is well typed in the queue of its server.
 use Rattle.std.proofs.lemmas.Bool.Decides.{nat_tests}
 use Rattle.std.proofs.Common.{arith, Option, Bool, List, None, Some, [], ap, cond, false, refl, subst, sym, true, ℕ, ◌&&◌, ◌==◌, ◌∙◌, ◌∷◌, ◌≡◌}
-use Rattle.std.proofs.lemmas.Bool.{eq-eqb, eqb-true, ne_eqb}
+use Rattle.std.proofs.lemmas.Bool.{eq-eqb, eqb-true}
 use Rattle.std.proofs.lemmas.List.Folds.{list_any-append}
 use Rattle.std.specs.List.{list_any}
 use Rattle.std.specs.Prelude.{◌||◌}
@@ -22,9 +22,9 @@ use Rattle.aom_safety.proofs.Straight.{fits_unowning}
 use Rattle.aom_safety.proofs.Things.{stands_itself}
 use Rattle.aom_safety.specs.Claims.{declared}
 use Rattle.aom_semantics.specs.Places.{Service, unserved, Cell, Elsewhere, Message_of, Object, Place, Queued}
-use Rattle.aom_semantics.specs.Places.{Session, Tidy, held, named, same_place, seen, service_of}
+use Rattle.aom_semantics.specs.Places.{Tidy, held, named, same_place, seen, service_of}
 use Rattle.aom_safety.specs.Requests.{AllSuit, Suits, resting_in, rests_in, thing_kind}
-use Rattle.aom_semantics.specs.Servers.{asked_last, has_message, has_session, is_message, is_server, message_thing, reserved, session_thing}
+use Rattle.aom_semantics.specs.Servers.{asked_last, has_message, has_session, is_message, is_server, message_thing, reserved}
 use Rattle.aom_safety.specs.WellTyped.{Fits, Good}
 
 -- a message is not enlisted
@@ -82,9 +82,6 @@ module _ (p : Image) (t : Typing) (cs : List Cell) (good : Good p t cs []) (o : 
           ∙ ap (λ b. list_any (λ x. is_message m x) (service_of cs o.name).queue || (b || false)) (sym (ap (λ b. b && (name == m))
           (eq-eqb o.name o.name refl)) ∙ other) ∙ or_false (list_any (λ x. is_message m x) (service_of cs o.name).queue)) (λ n apart same. refl) n other
 
-  other_name : (name == o.name) ≡ false
-  other_name = ne_eqb name o.name (λ same. let clash : Some o ≡ None = sym lives ∙ ap (λ k. named cs k) (sym same) ∙ free in cc)
-
   -- it waits now
   there_still : (q : Place) → held then q ≡ held cs q → declared p then q ≡ declared p cs q → Fits p (seen then) (held then q) (declared p then q)
   there_still q places kinds = grind (arith, nat_tests, fits_ready, declared_ready)
@@ -95,14 +92,11 @@ module _ (p : Image) (t : Typing) (cs : List Cell) (good : Good p t cs []) (o : 
       cond (test (service_of then n)) (filled (thing (named then n)) Full) Null ≡ cond (test (service_of cs n)) (filled (thing (named cs n)) Full) Null
   kind_then test thing nothing n same = grind (arith, nat_tests, named_then n, eqb-true name n, service_unnamed cs name free)
 
-  session_kind : (n d : ℕ) → declared p then (Elsewhere (Session n d)) ≡ declared p cs (Elsewhere (Session n d))
-  session_kind n d = kind_then (λ v. has_session v d) (λ y. session_thing p y) refl n (sessions_then n d)
-
   queue_kind : (n m : ℕ) → ((o.name == n) && (name == m)) ≡ false → declared p then (Elsewhere (Queued n m)) ≡ declared p cs (Elsewhere (Queued n m))
   queue_kind n m other = kind_then (λ v. has_message v m) (λ y. message_thing p y) refl n (messages_then n m other)
 
   own_kind : declared p then (Elsewhere (Queued o.name name)) ≡ Own Message Ready
-  own_kind = grind (arith, nat_tests, service_then, service_here, list_any-append, eq-eqb, named_then o.name, other_name)
+  own_kind = grind (arith, nat_tests, service_then, service_here, list_any-append, eq-eqb, named_then o.name)
 
   fits : (q : Place) → Fits p (seen then) (held then q) (declared p then q)
   fits (Elsewhere (Queued n m)) = grind (
@@ -116,7 +110,7 @@ module _ (p : Image) (t : Typing) (cs : List Cell) (good : Good p t cs []) (o : 
     own_kind,
     stands_itself p Message,
   )
-  fits r = grind (arith, nat_tests, named_then, eqb-true, session_kind, there_still r (held_then r), held_then r)
+  fits r = grind (arith, nat_tests, named_then, eqb-true, kind_then, sessions_then, there_still r (held_then r), held_then r)
 
   tidy : Tidy then
   tidy = (

@@ -25,11 +25,8 @@ rests_settled k r s = grind arith
 
 settled_cells : (cs : List Cell) → ((o : Object) → named cs o.name ≡ Some o → is_settled (requested cs o.name) ≡ true) → Tidy cs → AllSettled cs
 settled_cells [] h tidy = tt
-settled_cells (c ∷ cs) h tidy = (here, settled_cells cs later tidy.2)
+settled_cells (c ∷ cs) h tidy = (grind arith, settled_cells cs later tidy.2)
   where
-    here : is_settled c.request ≡ true
-    here = grind (arith, nat_tests)
-
     later : (o : Object) → named cs o.name ≡ Some o → is_settled (requested cs o.name) ≡ true
     later o e = grind (arith, nat_tests, ne_eqb c.object.name o.name)
 

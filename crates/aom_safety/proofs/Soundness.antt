@@ -46,8 +46,7 @@ GoesOn s = (s.rest.ended ≡ None) ⊎ IsAtRest s
 abbrev Uprooted : State → Type 0
 Uprooted s = (ts : List Task) → s.tasks ≡ Dispatched Of_root ∷ ts → held s.cells (Elsewhere Root) ≡ None
 
-main_holds :
-    (p : Image) (s : State) (b : Bool) (root : Option Object) → s.rest.stopped ≡ b → held s.cells (Elsewhere Root) ≡ root →
+main_holds : (p : Image) (s : State) (b : Bool) (root : Option Object) → s.rest.stopped ≡ b → held s.cells (Elsewhere Root) ≡ root →
     ((main_ends p b root s).rest.ended ≡ s.rest.ended) ⊎ IsAtRest (main_ends p b root s)
 main_holds p s true (Some o) f e = inl refl
 main_holds p s true None f e = inr (record { idle = refl; rootless = λ h. e })

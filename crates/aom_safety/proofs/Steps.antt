@@ -68,10 +68,7 @@ module _ (p : Image) (t : Typing) (wired : IsWired p) (typed : IsTyped p t)
 
   -- what each file of laws tells of an instruction
   abbrev laws : (i : Instr) → instr_at p fr.method fr.place ≡ Some i → ((a : ℕ) → Law p t c s fr sh ls at_hand (Return a)) → List (Option (Law p t c s fr sh ls at_hand i))
-  laws i here back =
-      of_words p t c s fr sh ls at_hand i
-      ∷ of_jumps p t c s fr sh ls at_hand i
-      ∷ of_moves p t c s fr sh ls at_hand i
+  laws i here back = of_words p t c s fr sh ls at_hand i ∷ of_jumps p t c s fr sh ls at_hand i ∷ of_moves p t c s fr sh ls at_hand i
       ∷ of_calls p t wired typed c s fr sh ls at_hand i here
       ∷ of_entries p t c s fr sh ls at_hand wired typed unused i here
       ∷ of_leaves p t wired c s fr sh ls at_hand i
@@ -134,23 +131,19 @@ module _ (p : Image) (t : Typing) (c : Choice) (s : State) where
       (sym h.0) (instruction_keeps p t wired typed c s fr sh ls (record { tasks = h.0; items = h.1; undos = w.undos; good = h.2 }) unused))
 
   of_going : (ts : List Task) → s.tasks ≡ Destroy ∷ ts → WellTyped p t s → Keeps p t (step_task p c s s.tasks)
-  of_going ts e w =
-      going_layer Stacked ts w.layers (sym w.tasks ∙ e) (w.tasks, w.items, w.good) (λ o ls rest h.
+  of_going ts e w = going_layer Stacked ts w.layers (sym w.tasks ∙ e) (w.tasks, w.items, w.good) (λ o ls rest h.
       subst (λ l. Keeps p t (step_task p c s l)) (sym h.0) (going_keeps p t s o ls h.2 h.1 w.undos))
 
   of_closing : IsWired p → IsTyped p t → (ts : List Task) → s.tasks ≡ Closing ∷ ts → WellTyped p t s → Keeps p t (step_task p c s s.tasks)
-  of_closing wired typed ts e w =
-      closing_layer Stacked ts w.layers (sym w.tasks ∙ e) (w.tasks, w.items, w.good) (λ o left ls rest h.
+  of_closing wired typed ts e w = closing_layer Stacked ts w.layers (sym w.tasks ∙ e) (w.tasks, w.items, w.good) (λ o left ls rest h.
       subst (λ l. Keeps p t (step_task p c s l)) (sym h.0) (closing_keeps p t wired typed s o left ls h.2 h.1 w.undos))
 
   of_dispatch : IsWired p → IsTyped p t → (d : Dispatch) (ts : List Task) → s.tasks ≡ Dispatched d ∷ ts → WellTyped p t s → Keeps p t (step_task p c s s.tasks)
-  of_dispatch wired typed d ts e w =
-      dispatch_layer Stacked d ts w.layers (sym w.tasks ∙ e) (w.tasks, w.items, w.good) (λ seats ls rest h.
+  of_dispatch wired typed d ts e w = dispatch_layer Stacked d ts w.layers (sym w.tasks ∙ e) (w.tasks, w.items, w.good) (λ seats ls rest h.
       subst (λ l. Keeps p t (step_task p c s l)) (sym h.0) (dispatch_keeps p t wired typed s d seats ls h.2 h.1))
 
   of_unwinding : IsWired p → IsTyped p t → (code : ℤ) (ts : List Task) → s.tasks ≡ Unwind code ∷ ts → WellTyped p t s → Keeps p t (step_task p c s s.tasks)
-  of_unwinding wired typed code ts e w =
-      leave_layer Stacked code ts w.layers (sym w.tasks ∙ e) (w.tasks, w.items, w.good) (λ es ls rest h.
+  of_unwinding wired typed code ts e w = leave_layer Stacked code ts w.layers (sym w.tasks ∙ e) (w.tasks, w.items, w.good) (λ es ls rest h.
       subst (λ l. Keeps p t (step_task p c s l)) (sym h.0) (unwinds p t wired typed s code es ls h.1 w.undos h.2))
 
   -- any task

@@ -124,8 +124,7 @@ module _ (p : Image) (t : Typing) (cs cs' : List Cell) (alike : Alike cs cs') wh
       (rw (alike.held_so r) (fits_age p (seen cs) (seen cs') (held cs r) _ (λ x e fresh age. (λ f. alike.held_so _ ∙ age.0 f, requests x e fresh ∙ age.1)) f))
 
   -- or where what has none gets none
-  pub fits_listed :
-      (ls : List Layer) (r : Place) → ((x : Object) → requested cs x.name ≡ None → requested cs' x.name ≡ None) →
+  pub fits_listed : (ls : List Layer) (r : Place) → ((x : Object) → requested cs x.name ≡ None → requested cs' x.name ≡ None) →
       Fits p (seen cs) (held cs r) (claim p (declared p cs) ls r) → Fits p (seen cs') (held cs' r) (claim p (declared p cs') ls r)
   fits_listed ls r none f = rw (claim_rel (λ x y. x ≡ y) (λ k. refl) p (declared p cs') (declared p cs) ls r (declared_alike r))
       (rw (alike.held_so r) (fits_age p (seen cs) (seen cs') (held cs r) _ (λ x e fresh age. (λ f. alike.held_so _ ∙ age.0 f, none x age.1)) f))
@@ -171,8 +170,7 @@ reset f g c = record c { request = f c; session = g c }
 pub bereaved_alike : (p : Image) (n : ℕ) (cs : List Cell) → Alike cs (all_bereaved p n cs)
 bereaved_alike p n cs = altered_alike (bereaving p n) (λ c. refl) (λ c. refl) cs
 
-pub requested_bereaved :
-    (p : Image) (n : ℕ) (cs : List Cell) (o : Object) → named cs o.name ≡ Some o →
+pub requested_bereaved : (p : Image) (n : ℕ) (cs : List Cell) (o : Object) → named cs o.name ≡ Some o →
     requested (all_bereaved p n cs) o.name ≡ cond (is_served_by p n o.thing) (terminated_request (requested cs o.name)) (requested cs o.name)
 requested_bereaved p n cs o e = read_so (bereaving p n) requests o.name (λ r. cond (is_served_by p n o.thing) (terminated_request r) r) cs
     (λ c is here. let same : c.object ≡ o = cc in ap (λ x. cond (is_served_by p n x.thing) (terminated_request c.request) c.request) same) (λ none. cc)

@@ -92,8 +92,7 @@ settle p t cs fr sh ls g leads =
       w.entries,
     )
 
-pub housed_relocated :
-    (p : Image) (cs : List Cell) (a b : Place) (ls : List Layer) (home : Home) → held cs b ≡ None → Outside a ls → Outside b ls →
+pub housed_relocated : (p : Image) (cs : List Cell) (a b : Place) (ls : List Layer) (home : Home) → held cs b ≡ None → Outside a ls → Outside b ls →
     ((o : Object) (from : Place) → home ≡ Inside o from → NoFieldHere a from × NoFieldHere b from) → IsHoused p cs ls home → IsHoused p (moved a b cs) ls home
 housed_relocated p cs a b ls (Inside o from) free oa ob n h =
     let m = n o from refl in
@@ -160,8 +159,7 @@ relocate p t cs fr fr' sh sh' ls a b g eh em eg es free oa ob nf fresh claims wo
     }
 
 -- one place is claimed anew
-pub relabel :
-    (p : Image) (t : Typing) (cs : List Cell) (fr fr' : Frame) (sh sh' : Shape) (ls : List Layer) (a : Place) (v : Kind) →
+pub relabel : (p : Image) (t : Typing) (cs : List Cell) (fr fr' : Frame) (sh sh' : Shape) (ls : List Layer) (a : Place) (v : Kind) →
     Fitted p t cs fr sh ls →
     fr'.home ≡ fr.home → fr'.method ≡ fr.method → began fr' ≡ began fr → sh'.states ≡ sh.states →
     Fits p (seen cs) (held cs a) v →
@@ -248,8 +246,7 @@ stepped p t cs fr sh ls g = record {
 }
 
 -- a register that owns nothing is written
-pub write :
-    (p : Image) (t : Typing) (cs : List Cell) (fr : Frame) (sh : Shape) (ls : List Layer) (a : ℕ) (w : Option ℤ) (k : Kind) →
+pub write : (p : Image) (t : Typing) (cs : List Cell) (fr : Frame) (sh : Shape) (ls : List Layer) (a : ℕ) (w : Option ℤ) (k : Kind) →
     Fitted p t cs fr sh ls → is_unowning (register sh a) ≡ true → ((h : Sight) → Fits p h None k) → WordFits w k →
     Fitted p t cs (set_word fr a w) (set_register sh a k) ls
 write p t cs fr sh ls a w k g u new word =
@@ -258,8 +255,7 @@ write p t cs fr sh ls a w k g u new word =
     (subst (λ o. Fits p (seen cs) o k) (sym free) (new (seen cs))) (λ r. claim-set_register p (declared p cs) fr sh ls a k r) (words_set fr.words sh a w k g.frames.words word)
 
 -- a field of what the frame works on
-pub claim_field :
-    (p : Image) (d : Place → Kind) (fr : Frame) (sh : Shape) (ls : List Layer) (home : Home) (f : ℕ) → fr.home ≡ home →
+pub claim_field : (p : Image) (d : Place → Kind) (fr : Frame) (sh : Shape) (ls : List Layer) (home : Home) (f : ℕ) → fr.home ≡ home →
     field_thing p (home_holder home) f ≡ field_thing p (holder_of p fr.method) f → is_some (field_thing p (home_holder home) f) ≡ true →
     claim p d (Method fr sh ∷ ls) (field_place home f) ≡ filled (field_thing p (home_holder home) f) (field sh f)
 claim_field p d fr sh ls x f e own some = grind (arith, nat_tests, eq-eqb, own_there)
@@ -287,8 +283,7 @@ module _ (p : Image) (t : Typing) (c : Choice) (s : State) (fr : Frame) (sh : Sh
     good = g.1;
   }
 
-  pub field_fits :
-      (f : ℕ) → is_some (field_thing p (holder_of p fr.method) f) ≡ true →
+  pub field_fits : (f : ℕ) → is_some (field_thing p (holder_of p fr.method) f) ≡ true →
       Fits p (seen s.cells) (held s.cells (field_place fr.home f)) (filled (field_thing p (home_holder fr.home) f) (field sh f))
   field_fits f some = grind (arith, nat_tests, houses_field p, claim_field p)
 

@@ -12,7 +12,7 @@ use Rattle.aom_rules.specs.Requests.{unissued}
 use Rattle.aom_shape.proofs.Sets.{has_along, has_itself}
 use Rattle.aom_shape.specs.Shape.{Shape}
 use Rattle.aom_semantics.proofs.Maps.{named_moved, requested_moved}
-use Rattle.aom_safety.specs.Claims.{Dispatching, Dying, Layer, Mark, Method, Unwinding, Ending}
+use Rattle.aom_safety.specs.Claims.{Dying, Layer, Mark, Method}
 use Rattle.aom_semantics.specs.Places.{Cell, Object, Place, Request, moved, named, requested}
 use Rattle.aom_semantics.specs.Enlisted.{cancelled, is_unanswered, on_request, pending, status_of}
 use Rattle.std.specs.Ordering.{int_eq}
@@ -50,8 +50,7 @@ pub suits_first : (k : Option ClassKind) (r : Option Request) → r ≡ None →
 suits_first k r e = subst (λ r. Suits k (resting_in (first_of k)) r) (sym e) (begins_new k)
 
 -- a state that says no more
-pub claims_less :
-    (p : Image) (o : Object) (fr : Frame) (a b : Shape) (ls : List Layer) (r : Option Request) → IsTrue (has a.states b.states) →
+pub claims_less : (p : Image) (o : Object) (fr : Frame) (a b : Shape) (ls : List Layer) (r : Option Request) → IsTrue (has a.states b.states) →
     Suits (thing_kind p o.thing) (states_claim p o (Method fr b ∷ ls)) r → Suits (thing_kind p o.thing) (states_claim p o (Method fr a ∷ ls)) r
 claims_less p o fr a b ls r h = grind (arith, nat_tests, suits_less)
 
@@ -59,11 +58,8 @@ claims_less p o fr a b ls r h = grind (arith, nat_tests, suits_less)
 pub unworked_rests : (p : Image) (o : Object) (ls : List Layer) → Unworked o.name ls → states_claim p o ls ≡ resting_in (rests_in p o)
 unworked_rests p o [] u = refl
 unworked_rests p o (Method fr sh ∷ ls) u = grind (arith, nat_tests, unworked_rests p o ls u.1)
-unworked_rests p o (Mark gv ∷ ls) u = unworked_rests p o ls u
 unworked_rests p o (Dying x ∷ ls) u = grind (arith, nat_tests, unworked_rests p o ls u.1)
-unworked_rests p o (Ending x left ∷ ls) u = unworked_rests p o ls u
-unworked_rests p o (Unwinding code es ∷ ls) u = unworked_rests p o ls u
-unworked_rests p o (Dispatching d seats ∷ ls) u = unworked_rests p o ls u
+unworked_rests p o (_ ∷ ls) u = unworked_rests p o ls u
 
 -- moves of ownership count for no request
 pub all_moved : (p : Image) (cs : List Cell) (a b : Place) (ls : List Layer) → AllSuit p cs ls → AllSuit p (moved a b cs) ls

@@ -22,9 +22,9 @@ use Rattle.aom_safety.proofs.Moving.{steps_are_moves}
 use Rattle.aom_safety.proofs.Standing.{stand}
 use Rattle.aom_safety.proofs.Steps.{step_keeps}
 use Rattle.aom_safety.proofs.View.{under_dispatch as nothing_under}
-use Rattle.aom_semantics.specs.Calls.{below_top, called, received, result_register, returned}
-use Rattle.aom_safety.specs.Claims.{Ending, Dispatching, Dying, Form, Layer, Mark, Mark_form, Method, Object_form}
-use Rattle.aom_safety.specs.Claims.{Operation_form, Unwinding, forms, items_of, objects, tasks_of}
+use Rattle.aom_semantics.specs.Calls.{below_top, called, result_register, returned}
+use Rattle.aom_safety.specs.Claims.{Form, Layer, Mark, Mark_form, Method}
+use Rattle.aom_safety.specs.Claims.{Unwinding, forms, items_of, objects, tasks_of}
 use Rattle.aom_semantics.specs.Cleanup.{code_told, ended_by, to_trap}
 use Rattle.aom_classes.specs.Roles.{destructor_of}
 use Rattle.aom_semantics.specs.Destruction.{line_on, next_destructor, destructed, parting, first_session, begun, begun_by}
@@ -34,7 +34,7 @@ use Rattle.aom_safety.specs.Laws.{IsWired}
 use Rattle.aom_semantics.specs.Moves.{IsOpen, counted, does, needs, step, step_instr, step_task}
 use Rattle.aom_semantics.specs.Places.{service_of, Object, named}
 use Rattle.aom_semantics.specs.State.{Inside, Home, Closing, Seat, A_mark, An_object, An_operation, Choice, Destroy, Dispatch, Dispatched}
-use Rattle.aom_semantics.specs.State.{Frame, Goes, Item, Run, State, Task, Trapped, Unwind, next, resumed, set_word}
+use Rattle.aom_semantics.specs.State.{Frame, Goes, Item, Run, State, Task, Trapped, Unwind, next, resumed}
 use Rattle.aom_safety.specs.Steps.{Empties, Acts, Arrives, Clears, Comes_out, Ends as A_dispatch_ends, Move, Rests, Undoes, Vanishes}
 use Rattle.aom_safety.specs.Traps.{ComesOff, GoesOnAfter, IsPast, IsTrapping, TrapsKeep, WasPast, marks, traps}
 use Rattle.aom_safety.specs.WellTyped.{WellTyped}
@@ -47,15 +47,13 @@ use Rattle.aom_semantics.specs.Servers.{is_server}
 
 abbrev pub mark_forms : List Form → ℕ
 mark_forms [] = 0
-mark_forms (Object_form ∷ fs) = mark_forms fs
-mark_forms (Operation_form ∷ fs) = mark_forms fs
 mark_forms (Mark_form ∷ fs) = suc (mark_forms fs)
+mark_forms (_ ∷ fs) = mark_forms fs
 
 pub marks_of_forms : (items : List Item) → mark_forms (forms items) ≡ marks items
 marks_of_forms [] = refl
-marks_of_forms (An_object ∷ items) = marks_of_forms items
-marks_of_forms (An_operation m w ∷ items) = marks_of_forms items
 marks_of_forms (A_mark ∷ items) = ap suc (marks_of_forms items)
+marks_of_forms (_ ∷ items) = marks_of_forms items
 
 pub marks_under : (es : List Pushed_entry) (fs : List Form) → mark_forms (objects es fs) ≡ mark_forms fs
 marks_under [] fs = refl
@@ -66,28 +64,21 @@ marks_of_layers : (ls : List Layer) → mark_forms (items_of ls) ≡ traps (task
 marks_of_layers [] = refl
 marks_of_layers (Method fr sh ∷ ls) = marks_under sh.entries (items_of ls) ∙ marks_of_layers ls
 marks_of_layers (Mark gv ∷ ls) = ap suc (marks_of_layers ls)
-marks_of_layers (Dying o ∷ ls) = marks_of_layers ls
-marks_of_layers (Ending o left ∷ ls) = marks_of_layers ls
 marks_of_layers (Unwinding code es ∷ ls) = marks_under es (items_of ls) ∙ marks_of_layers ls
-marks_of_layers (Dispatching d seats ∷ ls) = marks_of_layers ls
+marks_of_layers (_ ∷ ls) = marks_of_layers ls
 
 pub all_matched : (p : Image) (t : Typing) (s : State) → WellTyped p t s → marks s.items ≡ traps s.tasks
 all_matched p t s w = sym (marks_of_forms s.items) ∙ ap mark_forms w.items ∙ marks_of_layers w.layers ∙ ap traps (sym w.tasks)
 
 marks_join : (a b : List Item) → marks (a ++ b) ≡ marks a + marks b
 marks_join [] b = omega arith
-marks_join (An_object ∷ a) b = marks_join a b
-marks_join (An_operation m w ∷ a) b = marks_join a b
 marks_join (A_mark ∷ a) b = omega (arith, marks_join a b)
+marks_join (_ ∷ a) b = marks_join a b
 
 traps_join : (a b : List Task) → traps (a ++ b) ≡ traps a + traps b
 traps_join [] b = omega arith
-traps_join (Run fr ∷ a) b = traps_join a b
 traps_join (Trapped ∷ a) b = omega (arith, traps_join a b)
-traps_join (Destroy ∷ a) b = traps_join a b
-traps_join (Closing ∷ a) b = traps_join a b
-traps_join (Unwind code ∷ a) b = traps_join a b
-traps_join (Dispatched d ∷ a) b = traps_join a b
+traps_join (_ ∷ a) b = traps_join a b
 
 -- ---- what a move does to the tasks and the items
 
@@ -177,13 +168,9 @@ module _ (p : Image) (c : Choice) (fr : Frame) (ts : List Task) (s : State) (at_
   given : Moved p below s s
   given = inl (subst (λ l. Ends below l) (sym at_hand) (with_task below ts (Run fr) e), inl refl)
 
-  -- a result changes words alone
-  received_frame : (g : Gives) (a x : ℕ) (caller : Frame) (w : Option ℤ) → record (next (set_word (received p fr ts s g a x caller) (suc x) w)) { words = caller.words } ≡ next caller
-  received_frame x a y caller w = grind arith
-
   -- the word 0 is told
   through_trap : (g : Gives) (a : ℕ) (under : List Task) → ts ≡ Trapped ∷ under → (under ≡ below) ⊎ Ends below under → Moved p below s (returned p fr ts s g a (Trapped ∷ under))
-  through_trap g a (Run caller ∷ under) at (inl same) = grind (arith, nat_tests, received_frame g a, own_word)
+  through_trap g a (Run caller ∷ under) at (inl same) = grind (arith, nat_tests, own_word)
   through_trap g a (Run caller ∷ under) at (inr o) = inl (with_task below under _ (under_frame below under caller o), near_top s.items)
   through_trap g a (Dispatched d ∷ under) at (inl same) = grind (arith, nat_tests)
   through_trap g a (Dispatched d ∷ under) at (inr o) = inl (with_task below under _ (under_dispatch below under d o), near_top s.items)
@@ -276,8 +263,7 @@ module _ (p : Image) (t : Typing) (s u : State) (before : WellTyped p t s) (afte
   by_moved (inl stays) = inl (by_near stays.0.0 stays.0.1 stays.1)
   by_moved (inr ends) = inr (by_end ends.0 ends.1 ends.2)
 
-sets :
-    (p : Image) (t : Typing) (c : Choice) (s u : State) (fr : Frame) (ts : List Task) (target : Target) (m first x : ℕ) → s.tasks ≡ Run fr ∷ ts →
+sets : (p : Image) (t : Typing) (c : Choice) (s u : State) (fr : Frame) (ts : List Task) (target : Target) (m first x : ℕ) → s.tasks ≡ Run fr ∷ ts →
     instr_at p fr.method fr.place ≡ Some (Trap target m first x) → step p c s ≡ Goes u → IsTrapping (Run fr ∷ ts) s.items u
 sets p t c s u fr ts target m first x at there e =
     let v = counted p s in
@@ -286,8 +272,7 @@ sets p t c s u fr ts target m first x at there e =
     subst (λ v. IsTrapping (Run fr ∷ ts) s.items v) (guarded_goes (needs p c fr ts v i) (does p c fr ts v i) u e')
     (record { over = _ ∷ []; tasks = refl; entries = []; stack = refl; matched = refl })
 
-keeps_trap :
-    (p : Image) (t : Typing) → IsWired p → IsTyped p t → (c : Choice) (s u : State) → WellTyped p t s → named s.cells c.name ≡ None →
+keeps_trap : (p : Image) (t : Typing) → IsWired p → IsTyped p t → (c : Choice) (s u : State) → WellTyped p t s → named s.cells c.name ≡ None →
     (below : List Task) (items : List Item) → IsTrapping below items s → step p c s ≡ Goes u → IsTrapping below items u ⊎ IsPast p below items s u
 keeps_trap p t wired typed c s u w unused below items h e =
     by_moved p t s u w (grind (arith, nat_tests, step_keeps)) below items h (moved p c s below t u w (h.over, h.tasks) (steps_are_moves p c s u e))

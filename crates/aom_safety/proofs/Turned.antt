@@ -15,9 +15,7 @@ use Rattle.aom_semantics.specs.World.{Obeys, heard_one, serving, taken_from, mes
 use Rattle.aom_semantics.specs.World.{Completes, Completion, Heard, Kills, Environment, Picks, Polls, Strays, Turning, answered_by, cell_at}
 use Rattle.aom_semantics.specs.World.{dispatched, past_native, polled, run_tasks, turn, turned, turning, with_request}
 use Rattle.std.specs.Prelude.{[], length}
-use Rattle.aom_clients.specs.declared.client.Client.{Client}
-use Rattle.aom_clients.specs.declared.refusal.Refusal.{Refusal}
-use Rattle.aom_semantics.specs.Clients.{commanded, sending, leaving}
+use Rattle.aom_semantics.specs.Clients.{commanded}
 use Rattle.aom_semantics.specs.Destruction.{begun}
 use Rattle.aom_transcript.specs.declared.event.Command.{Command}
 
@@ -33,16 +31,13 @@ picked m x s =
 -- what the dispatch of an object or a server begins with
 pub data Picked (p : Image) (s : State) (x : Seat) : State → Type 0 where
   handles : (m : ℕ) → part_of p Handles x.object.thing ≡ Some m → Picked p s x (picked m x s)
-  accepts :
-      (client m : ℕ) → part_of p Accepts_role x.object.thing ≡ Some m →
+  accepts : (client m : ℕ) → part_of p Accepts_role x.object.thing ≡ Some m →
       Picked p s x (serving x client Accepts (frame_of m (Inside x.object x.place) (length (A_mark ∷ s.items))) (taken_from x.object.name s))
-  attends :
-      (client message m : ℕ) (o : Object) → held s.cells (Elsewhere (Session x.object.name client)) ≡ Some o → part_of p Attends o.thing ≡ Some m →
+  attends : (client message m : ℕ) (o : Object) → held s.cells (Elsewhere (Session x.object.name client)) ≡ Some o → part_of p Attends o.thing ≡ Some m →
       Picked p s x (serving x client (Serves o)
       (record (frame_of m (Inside o (Elsewhere (Session x.object.name client))) (length (A_mark ∷ s.items))) { words = message_words (taken_from x.object.name s).cells message })
       (record (taken_from x.object.name s) { cells = moved (Elsewhere (Queued x.object.name message)) (Elsewhere In_service) (taken_from x.object.name s).cells }))
-  parts :
-      (client : ℕ) (o : Object) → held s.cells (Elsewhere (Session x.object.name client)) ≡ Some o →
+  parts : (client : ℕ) (o : Object) → held s.cells (Elsewhere (Session x.object.name client)) ≡ Some o →
       Picked p s x (record (taken_from x.object.name s) {
         cells = moved (Elsewhere (Session x.object.name client)) (Going 1) (taken_from x.object.name s).cells;
         tasks = begun p o (length s.items) (Dispatched (Of_server x client Parts) ∷ []);
@@ -82,14 +77,8 @@ module _ (p : Image) (client : ℕ) (s : State) where
   abbrev Keeps_rest : State → Type 0
   Keeps_rest u = (u.rest ≡ s.rest) × (u.tasks ≡ s.tasks)
 
-  sending_kept : (refused : Option Refusal) (c : Client) (name : ℕ) (words : List ℤ) → Keeps_rest (sending p client s refused c name words)
-  sending_kept x y name words = grind arith
-
-  leaving_kept : (to : Option Client) → Keeps_rest (leaving p client s to)
-  leaving_kept x = grind arith
-
   pub commanded_kept : (command : Command) (name : ℕ) → Keeps_rest (commanded p client s command name)
-  commanded_kept x name = grind (arith, nat_tests, sending_kept, leaving_kept)
+  commanded_kept x name = grind (arith, nat_tests)
 
 -- ---- a native that is polled
 

@@ -300,8 +300,7 @@ module _ (p : Image) (t : Typing) (s : State) (w : WellTyped p t s) (idle_now : 
     deliver_well : (outside : Environment) (name : ℕ) (event : Event) → named s.cells name ≡ None → Keeps p t (turned p s (delivers outside name s event))
     deliver_well outside name x free = grind (arith, nat_tests, same_well, lives outside s, bereaved_well, commanded_well p t wired)
 
-    event_well :
-        (outside : Environment) (name : ℕ) (next : Option TimedEvent) (after : Turning) → named s.cells name ≡ None → AnswersWell p s (by_event
+    event_well : (outside : Environment) (name : ℕ) (next : Option TimedEvent) (after : Turning) → named s.cells name ≡ None → AnswersWell p s (by_event
         outside name s next after) → (AnswersWell p s after → Keeps p t (turned p s after)) → Keeps p t (turned p s (by_event outside name s next after))
     event_well outside name x after free owed then = grind (arith, nat_tests, deliver_well outside name)
 
@@ -323,8 +322,7 @@ turn_goes_on p t outside wired typed heard s w between hears fit = go (nat_le ou
         → Keeps p t (turned p s (cond b Cuts (by_timer s (first_due s.cells) (by_event outside heard.name s
         (next_event outside s) (polls (next_native outside s) heard.completion (picks (has_signal s.cells) (first_ready s.cells) (next_time outside s)))))))
     go true owed = same_well p t s w between.idle _
-    go false owed =
-        timer_well p t s w between.idle wired typed fit (first_due s.cells) _ owed (λ owed.
+    go false owed = timer_well p t s w between.idle wired typed fit (first_due s.cells) _ owed (λ owed.
         event_well p t s w between.idle wired typed fit outside heard.name (next_event outside s) _ hears.name owed (λ owed.
         poll_well p t s w between.idle wired typed fit (next_native outside s) heard.completion _ owed (λ owed.
         signal_well p t s w between.idle wired typed fit (next_time outside s))))

@@ -35,8 +35,7 @@ module _ (p : Image) (t : Typing) (wired : IsWired p) (typed : IsTyped p t) (s :
       let w = deals p t wired typed s e (Unwinding code (e ∷ es) ∷ ls) (Unwinding code es ∷ ls) d in
       go e s.items same w.0 w.1
     where
-      go :
-          (e : Pushed) (items : List Item) → forms items ≡ entry_form e ∷ objects es (items_of ls) → top_is_whole s.cells items ≡ true →
+      go : (e : Pushed) (items : List Item) → forms items ≡ entry_form e ∷ objects es (items_of ls) → top_is_whole s.cells items ≡ true →
           WellTyped p t (dealt_with p items (Unwind code ∷ tasks_of ls) s) → Keeps p t (unwound p code (tasks_of ls) s items)
       go e [] same whole w = cc
       go e (An_object ∷ items) same whole w = grind (arith, nat_tests)

@@ -10,7 +10,7 @@ use Rattle.aom_shape.specs.Shape.{Shape}
 use Rattle.aom_roles.specs.Things.{field_thing, holder_of}
 use Rattle.aom_shape.specs.declared.kind.Filling.TheVariants.{Perhaps}
 use Rattle.aom_shape.specs.declared.kind.Kind.{Kind}
-use Rattle.aom_safety.specs.Claims.{Dispatching, Dying, Ending, Layer, Mark, Method, Unwinding, claim, home_claim, own_field}
+use Rattle.aom_safety.specs.Claims.{Dying, Layer, Method, claim, home_claim, own_field}
 use Rattle.aom_semantics.specs.Places.{Field, Object, Place}
 use Rattle.aom_semantics.specs.State.{Frame, Inside, thing_holder}
 use Rattle.aom_safety.specs.WellTyped.{Houses, InView, IsApart, by_field, view_holder}
@@ -24,11 +24,7 @@ module _ (p : Image) (fr : Frame) (o : Object) (from : Place) (home : fr.home �
       field_thing p (holder_of p fr.method) f ≡ None → claim p (by_field Declares) ls (Field o.name f) ≡ Declares f
   others_in_view (Dying x ∷ ls) apart f some none = grind (arith, nat_tests)
   others_in_view [] apart f some none = apart.2.0 f some
-  others_in_view (Method fr' sh ∷ ls) apart f some none = apart.2.0 f some
-  others_in_view (Mark gv ∷ ls) apart f some none = apart.2.0 f some
-  others_in_view (Ending x left ∷ ls) apart f some none = apart.2.0 f some
-  others_in_view (Unwinding code es ∷ ls) apart f some none = apart.2.0 f some
-  others_in_view (Dispatching d seats ∷ ls) apart f some none = apart.2.0 f some
+  others_in_view (_ ∷ ls) apart f some none = apart.2.0 f some
 
   pub waits_in_view : (sh : Shape) (ls : List Layer) → Houses p (thing_holder o.thing) (holder_of p fr.method) →
       IsApart p fr.view fr.method (Inside o from) ls → ((f : ℕ) → field sh f ≡ Perhaps) → InView p fr.view Declares o.name (Method fr sh ∷ ls)
@@ -36,8 +32,7 @@ module _ (p : Image) (fr : Frame) (o : Object) (from : Place) (home : fr.home �
       let below = claim p (by_field Declares) ls (Field o.name f) in
       ap (λ h. home_claim p (holder_of p fr.method) h sh o.name f below) home
       ∙ ap (λ b. cond b (own_field (field_thing p (holder_of p fr.method) f) (field sh f) below) below) (eq-eqb o.name _ refl)
-      ∙ ap (λ y. own_field (field_thing p (holder_of p fr.method) f) y below) (perhaps f)
-      ∙ own (field_thing p (holder_of p fr.method) f) refl
+      ∙ ap (λ y. own_field (field_thing p (holder_of p fr.method) f) y below) (perhaps f) ∙ own (field_thing p (holder_of p fr.method) f) refl
     where
       own : (x : Option Thing) → field_thing p (holder_of p fr.method) f ≡ x → own_field x Perhaps (claim p (by_field Declares) ls (Field o.name f)) ≡ Declares f
       own None is = others_in_view ls apart f some is

@@ -148,8 +148,7 @@ module _ (p : Image) (formed : WellFormed p) (linked : IsLinked p) where
       let s : IsCancel (kind_of p d.0.class) d.0 = of_role m d.0 Cancel d.1 d.2 in
       (ap quiet_in d.1 ∙ s.flags, ap gives_in d.1 ∙ nothing_given d.0.gives s.gives)
 
-  canceller_is :
-      (c m : ℕ) → role_of p c Cancel ≡ Some m →
+  canceller_is : (c m : ℕ) → role_of p c Cancel ≡ Some m →
       (IsSome (method_at p m)) × (method_role p m ≡ Some Cancel) × IsOfFamily p c m × (arguments_of p m ≡ []) × (before_of p m ≡ cancel_open)
   unfolding role_in arguments_in before_in
   canceller_is c m e = grind (arith, nat_tests, its_role c m Cancel e, nil_from_length)

@@ -19,10 +19,10 @@ use Rattle.aom_safety.proofs.Picking.{fits_ready}
 use Rattle.aom_safety.proofs.Queues.{none_stays}
 use Rattle.aom_safety.proofs.Sifted.{cell_in, cell_in_sifted, cell_lives, cell_of, cell_of_sifted, cell_owner, cell_placed, held_cell, kept, named_cell}
 use Rattle.aom_safety.proofs.Sifted.{object_in, request_in, requested_cell, service_cell, service_in, sifted, tidy_sifted, withdrawn_so}
-use Rattle.aom_safety.specs.Claims.{declared, declared_field}
+use Rattle.aom_safety.specs.Claims.{declared}
 use Rattle.aom_safety.specs.Kept.{ClientsFit, is_message_of}
 use Rattle.aom_semantics.specs.Places.{Asked, Cell, Close_of, Connect_of, Elsewhere, Message_of, Object, Place}
-use Rattle.aom_semantics.specs.Places.{Queued, Sender, Session, held, named, requested, seen, service_of}
+use Rattle.aom_semantics.specs.Places.{Queued, Sender, held, named, requested, seen, service_of}
 use Rattle.aom_semantics.specs.Servers.{has_message, is_from, is_message, is_queue, is_server, left_by, message_thing, stays, withdrawn}
 use Rattle.aom_safety.specs.WellTyped.{Fits, Good}
 use Rattle.aom_safety.proofs.Things.{message_plain}
@@ -36,8 +36,7 @@ none_left c m (Connect_of d ∷ es) own = grind (arith, nat_tests, none_left c m
 none_left c m (Close_of d ∷ es) own = none_left c m es own
 none_left c m (Message_of d k ∷ es) own = go (stays c (Message_of d k)) refl (k == m) refl (none_left c m es (λ i h. own i (grind arith)))
   where
-    go :
-        (b : Bool) → stays c (Message_of d k) ≡ b → (x : Bool) → (k == m) ≡ x → list_any (λ e. is_message m e) (filter (stays c) es) ≡ false →
+    go : (b : Bool) → stays c (Message_of d k) ≡ b → (x : Bool) → (k == m) ≡ x → list_any (λ e. is_message m e) (filter (stays c) es) ≡ false →
         list_any (λ e. is_message m e) (cond b (Message_of d k ∷ filter (stays c) es) (filter (stays c) es)) ≡ false
     go false s x e h = h
     go true s false e h = ap (λ b. b || list_any (λ e. is_message m e) (filter (stays c) es)) e ∙ h
@@ -100,13 +99,6 @@ module _ (p : Image) (t : Typing) (clients : List Client) (cs : List Cell) (good
   base : (q : Place) → Fits p (seen left) (held cs q) (declared p cs q)
   base q = fits_ready p (seen cs) (seen left) (held cs q) (declared p cs q) (declared_ready p cs q) (good.fits q)
 
-  -- a message has no fields and no sessions
-  field_kind : (n f : ℕ) → declared_field p (named left n) f ≡ declared_field p (named cs n) f
-  field_kind n f = grind (arith, nat_tests, name_left n)
-
-  session_kind : (n d : ℕ) → declared p left (Elsewhere (Session n d)) ≡ declared p cs (Elsewhere (Session n d))
-  session_kind n d = grind (arith, nat_tests, service_now, name_left, named_name, message_plain)
-
   -- a queue
   module _ (n m : ℕ) where
     abbrev q : Place
@@ -155,14 +147,13 @@ module _ (p : Image) (t : Typing) (clients : List Client) (cs : List Cell) (good
     queue_fits = subst (λ k. Fits p (seen left) (held left q) k) (sym kind_now) (go (cell_in cs q) refl)
       where
         go : (x : Option Cell) → cell_in cs q ≡ x → Fits p (seen left) (held left q) (cond still kind Null)
-        go None e =
-            subst (λ y. Fits p (seen left) y (cond still kind Null)) (sym (held_now None e))
+        go None e = subst (λ y. Fits p (seen left) y (cond still kind Null)) (sym (held_now None e))
             (free_fits (has_message (service_of cs n) m) refl (subst (λ y. Fits p (seen left) y (declared p cs q)) (was None e) (base q)))
         go (Some x) e = subst (λ y. Fits p (seen left) y (cond still kind Null)) (grind (arith, nat_tests, held_now (Some x) e, object_in, cell_owner cs))
             (some_fits x e (is_from c x.service.sender) refl (has_message (service_of cs n) m) refl (grind (arith, nat_tests, was (Some x) e, base)))
 
   fits : (q : Place) → Fits p (seen left) (held left q) (declared p left q)
-  fits r = grind (arith, nat_tests, stays_held, base, field_kind, session_kind, queue_fits)
+  fits r = grind (arith, nat_tests, stays_held, base, name_left, service_now, named_name, message_plain, queue_fits)
 
   pub good_withdrawn : Good p t (withdrawn c cs) []
   good_withdrawn = search (arith, nat_tests, withdrawn_so c cs, fits, name_left, tidy_sifted)

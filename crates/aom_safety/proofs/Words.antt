@@ -51,8 +51,7 @@ module _ (p : Image) (t : Typing) (c : Choice) (s : State) (fr : Frame) (sh : Sh
   pub law_copy : (a b : ℕ) → Law p t c s fr sh ls at_hand (Copy a b)
   law_copy a b n leads = ((has_word b n.0, (unowned a n.1.0, tt)), writes_word a (read fr (tasks_of ls) s b) n.1.0 leads)
 
-  pub law_binary :
-      (op : ℤ → ℤ → ℤ) (a b x : ℕ) → AllTrue (rule_combine fr.place sh a b x) → AllLead t fr.method (flow_word fr.place sh a) →
+  pub law_binary : (op : ℤ → ℤ → ℤ) (a b x : ℕ) → AllTrue (rule_combine fr.place sh a b x) → AllLead t fr.method (flow_word fr.place sh a) →
       AllTrue (needs_binary fr (tasks_of ls) s a b x) × WellTyped p t (applied p fr (tasks_of ls) s (computes p c fr (tasks_of ls) s op a b x))
   law_binary op a b x n leads = search (arith, nat_tests, has_word b n.0, has_word x n.1.0, unowned a n.1.1.0, writes_word a)
 
