@@ -11,7 +11,7 @@ use Rattle.aom_clients.specs.declared.client.Client.TheVariants.{Connecting}
 use Rattle.aom_clients.specs.declared.refusal.Refusal.{Refusal}
 use Rattle.aom_transcript.specs.declared.event.Command.{Command}
 use Rattle.aom_transcript.specs.declared.event.Command.TheVariants.{Close, Connect, Die, Send}
-use Rattle.aom_semantics.specs.Clients.{Listed, asked_of, asked_server, commanded, connecting, count_messages, earlier}
+use Rattle.aom_semantics.specs.Clients.{Listed, asked_of, asked_server, commanded, connecting, count_messages}
 use Rattle.aom_semantics.specs.Clients.{first_listed, leaving, own, refusal, room, sending, told, with_message}
 use Rattle.aom_semantics.specs.Places.{Asked, Cell, Close_of, Connect_of, Message_of, Service}
 use Rattle.aom_semantics.specs.Servers.{holds_slot, seats_taken, slots_taken, withdrawn}
@@ -50,9 +50,6 @@ module _ (names : ℕ → ℕ) where
 
   abbrev renamed_listed : Listed → Listed
   renamed_listed x = record x { name = names x.name }
-
-  earlier_renamed : (a : Listed) (b : Option Listed) → earlier (renamed_listed a) (option_map renamed_listed b) ≡ renamed_listed (earlier a b)
-  earlier_renamed a x = grind (arith, nat_tests, cond_applied)
 
   listed_renamed : (class : ℕ) (cs : List Cell) → first_listed class (renamed_cells names cs) ≡ option_map renamed_listed (first_listed class cs)
   listed_renamed class [] = refl

@@ -32,7 +32,7 @@ use Rattle.aom_semantics.specs.State.{Of_server, Parts, Seat, Stage, State, Task
 use Rattle.aom_safety.specs.WellTyped.{AllSit, Back, Caught, Gone, Good, IsHoused, Leaves, Now, Returns, SitsFirst, Stack, WellTyped, seat_of}
 use Rattle.aom_safety.proofs.ClientsFacts.{queued_well}
 use Rattle.aom_determinism.specs.Names.{IsOneToOne, renamed, renamed_asked, renamed_cells, renamed_client, renamed_clients, renamed_dispatch, renamed_home}
-use Rattle.aom_determinism.specs.Names.{renamed_place, renamed_queue, renamed_seat, renamed_task, renamed_tasks, renamed_other}
+use Rattle.aom_determinism.specs.Names.{renamed_place, renamed_queue, renamed_task, renamed_tasks, renamed_other}
 use Rattle.aom_determinism.specs.There.{AllThere, IsAtPlace, accepts, dispatch_of}
 
 -- ---- two names change places
@@ -154,10 +154,6 @@ module _ (names : ℕ → ℕ) where
   module _ (p : Image) (t : Typing) (cs : List Cell) (named_so : Spares cs) (held_so : SparesPlaces cs) where
     home_spared : (ls : List Layer) (h : Home) → IsHoused p cs ls h → renamed_home names h ≡ h
     home_spared ls x housed = grind arith
-
-    -- an object that sits, and its place
-    seat_spared : (x : Seat) → held cs x.place ≡ Some x.object → named cs x.object.name ≡ Some x.object → renamed_seat names x ≡ x
-    seat_spared x there lives = grind (arith, nat_tests)
 
     -- the session that serves
     dispatch_spared : (d : Dispatch) (seats : List Seat) → AllSit cs seats → SitsFirst cs (seat_of d) seats → IsAtPlace cs (Some d) → renamed_dispatch names d ≡ d

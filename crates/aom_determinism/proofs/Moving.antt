@@ -15,7 +15,7 @@ use Rattle.aom_safety.proofs.Queues.{client_here, client_there}
 use Rattle.aom_safety.proofs.Services.{service_moved}
 use Rattle.aom_safety.proofs.Storing.{rerequested_alike}
 use Rattle.aom_semantics.specs.Calls.{accepted_cells, accepted_clients, answered_by, ended_well, returned}
-use Rattle.aom_semantics.specs.Cleanup.{destroyed, ended_by, to_trap, top_is_whole, unwound}
+use Rattle.aom_semantics.specs.Cleanup.{destroyed, to_trap, top_is_whole, unwound}
 use Rattle.aom_semantics.specs.Clients.{at_opening, client_at, with_client}
 use Rattle.aom_semantics.specs.Destruction.{begun, begun_by}
 use Rattle.aom_semantics.specs.Effects.{Calls, Cancels, Destroys, Destroys_last, Effect, Goes_on, Leaves, Returns, Sets_trap, applied}
@@ -120,9 +120,6 @@ module _ (p : Image) (fr : Frame) (ts : List Task) (s : State) where
 -- ---- a leave
 
 module _ (p : Image) (s : State) where
-  left_there : (code : ℤ) (d : Dispatch) → AreThere s.clients s.cells (Some d) → AreThere s.clients s.cells (Some (ended_by code d))
-  left_there code x there = grind arith
-
   pub unwound_there : (code : ℤ) (ts : List Task) (items : List Item) (u : State) → AreThere s.clients s.cells (dispatch_of ts) → unwound p code ts s items ≡ Goes u → AllThere u
   unwound_there code ts [] u there e = cc
   unwound_there code ts (An_object ∷ items) u there e = subst AllThere (goes_where (top_is_whole s.cells (An_object ∷ items)) _ e) (by_object (held s.cells (Entry (length items))))

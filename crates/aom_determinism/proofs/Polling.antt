@@ -3,19 +3,13 @@ use Rattle.std.proofs.lemmas.Bool.Decides.{nat_tests}
 use Rattle.std.proofs.Common.{arith, Bool, List, None, Option, cond, false, sym, true, ℕ, ◌∙◌, ◌≡◌}
 use Rattle.std.proofs.lemmas.Bool.{true≢false}
 use Rattle.aom_image.specs.Image.{Image}
-use Rattle.aom_image.specs.declared.class.ClassKind.{ClassKind}
-use Rattle.aom_roles.specs.Kinds.{is_native_kind}
-use Rattle.aom_semantics.specs.Enlisted.{thing_kind}
-use Rattle.aom_semantics.specs.Natives.{is_outstanding_at, native_of}
-use Rattle.aom_semantics.specs.Places.{Cell}
 use Rattle.aom_semantics.specs.State.{Choice, State}
 use Rattle.aom_semantics.specs.World.{AnswersWell, Completion, Heard, Environment, Polls, Reaches, Timed, Turning, begins}
-use Rattle.aom_semantics.specs.World.{by_timer, delivers, moves, next_native, nothing_heard, polls, turn, turning, turns}
-use Rattle.aom_transcript.specs.declared.event.Event.{Event}
+use Rattle.aom_semantics.specs.World.{by_timer, moves, next_native, nothing_heard, polls, turn, turning, turns}
 use Rattle.aom_transcript.specs.declared.line.Line.{Line}
 use Rattle.aom_determinism.proofs.NamedCells.{cond_applied}
 use Rattle.aom_determinism.proofs.Naming.{polling_named}
-use Rattle.aom_determinism.proofs.Hearing.{none_heard, thing_unserved, unnamed_unserved}
+use Rattle.aom_determinism.proofs.Hearing.{none_heard, unnamed_unserved}
 use Rattle.aom_determinism.specs.Hearing.{Follows, HasNoNative, Oracle, is_heard, is_polling, stages}
 use Rattle.aom_determinism.specs.Determined.{NothingIsHeard}
 
@@ -27,9 +21,6 @@ told answer t = t
 module _ (heard : Heard) where
   told_polls : (n : Option ℕ) (after : Turning) → after ≡ told heard.completion after → polls n heard.completion after ≡ told heard.completion (polls n None after)
   told_polls x after same = grind arith
-
-  told_delivers : (outside : Environment) (s : State) (e : Event) → delivers outside heard.name s e ≡ told heard.completion (delivers outside heard.name s e)
-  told_delivers outside s x = grind (arith, nat_tests, cond_applied)
 
   told_by_timer : (s : State) (x : Option Timed) (after : Turning) → by_timer s x (told heard.completion after) ≡ told heard.completion (by_timer s x after)
   told_by_timer s x after = grind (arith, nat_tests, cond_applied)
@@ -59,13 +50,7 @@ none_polled outside s none = grind (arith, nat_tests, none_living outside s none
 -- ---- and where there is one that serves no class it completes nothing
 
 -- objects that no native serves
-unserved_kind : (k : Option ClassKind) → is_native_kind k ≡ false → native_of k ≡ None
-unserved_kind k e = grind arith
-
 module _ (p : Image) (natives : HasNoNative p) where
-  none_outstanding : (n : ℕ) (c : Cell) → is_outstanding_at p n c ≡ false
-  none_outstanding n c = rw (unserved_kind (thing_kind p c.object.thing) (thing_unserved p natives c.object.thing))
-
   nothing_completed : (s : State) (answer : Option Completion) (t : Turning) → is_polling t ≡ true → AnswersWell p s (told answer t) → answer ≡ None
   nothing_completed s answer t polled well = grind arith
 

@@ -11,7 +11,7 @@ use Rattle.aom_semantics.specs.Cleanup.{arrived, unwound}
 use Rattle.aom_clients.specs.declared.client.Client.TheVariants.{Unconnected}
 use Rattle.aom_semantics.specs.Destruction.{closing, gone, parting, vanished}
 use Rattle.aom_semantics.specs.Enlisted.{part_of}
-use Rattle.aom_semantics.specs.Moves.{IsOpen, answered, asked, asking, dispatch_ends, is_counted, is_refused, main_ends, makes_cell}
+use Rattle.aom_semantics.specs.Moves.{IsOpen, answered, asking, dispatch_ends, is_refused, main_ends, makes_cell}
 use Rattle.aom_semantics.specs.Moves.{needs_end, object_ends, stage_ends, step, step_instr, step_task, written, written_task}
 use Rattle.aom_semantics.specs.Places.{Cell, Elsewhere, Going, In_service, Object, Root, named}
 use Rattle.aom_semantics.specs.State.{A_mark, An_object, An_operation, Answered, Asks, Choice, Closing, Destroy, Dispatch, Dispatched, Frame, Item}
@@ -126,14 +126,6 @@ module _ (names : ℕ → ℕ) (one_to_one : IsOneToOne names) where
   task_renamed p c s (Dispatched d ∷ ts) = grind (arith, nat_tests, end_needs_kept d s.cells, ends_renamed p d s, guarded_renamed names)
 
   -- ---- what is counted and written
-
-  asked_kept : (p : Image) (ts : List Task) → asked p (renamed_tasks names ts) ≡ asked p ts
-  asked_kept p (Run fr ∷ ts) = refl
-  asked_kept p (Trapped ∷ ts) = refl
-  asked_kept p _ = refl
-
-  is_counted_kept : (ts : List Task) → is_counted (renamed_tasks names ts) ≡ is_counted ts
-  is_counted_kept x = grind arith
 
   makes_kept : (p : Image) (ts : List Task) → makes_cell p (renamed_tasks names ts) ≡ makes_cell p ts
   makes_kept p x = grind arith

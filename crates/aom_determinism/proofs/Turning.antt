@@ -6,11 +6,10 @@ use Rattle.aom_image.specs.Image.{Image}
 use Rattle.aom_semantics.specs.Places.{Asked, Cell, Close_of, Connect_of, Elsewhere, Going, In_service, Message_of, Object, Queued, Request, Session, held}
 use Rattle.aom_semantics.specs.State.{Seat, State}
 use Rattle.aom_semantics.specs.World.{Candidate, Completes, Cuts, Heard, Obeys, Environment, Picks, Timed, Turning}
-use Rattle.aom_semantics.specs.World.{among_ready, answered_by, attended, attending, by_timer, delivers}
+use Rattle.aom_semantics.specs.World.{among_ready, answered_by, attended, attending, by_timer}
 use Rattle.aom_semantics.specs.World.{first_due, first_ready, has_signal, message_words, next_time}
-use Rattle.aom_semantics.specs.World.{nothing_heard, parting_with, picked, picks, pick_line, serves_first, sooner}
+use Rattle.aom_semantics.specs.World.{nothing_heard, parting_with, picked, picks, pick_line, serves_first}
 use Rattle.aom_semantics.specs.World.{taken_from, turn, turned, turning, with_request, written_by, written_turn, AnswersWell}
-use Rattle.aom_transcript.specs.declared.event.Event.{Event}
 use Rattle.aom_determinism.proofs.NamedCells.{cell_at_renamed, cond_applied, cond_mapped, each_renamed, held_renamed}
 use Rattle.aom_determinism.proofs.NamedCells.{moved_renamed, requested_kept, set_request_renamed, word_field_kept}
 use Rattle.aom_determinism.proofs.Commands.{commanded_renamed, refusal_kept}
@@ -38,9 +37,6 @@ module _ (names : ℕ → ℕ) where
   renamed_turning t = t
 
   -- ---- timers
-
-  sooner_renamed : (a : Timed) (b : Option Timed) → sooner (renamed_timed a) (option_map renamed_timed b) ≡ renamed_timed (sooner a b)
-  sooner_renamed a b = grind arith
 
   due_renamed : (cs : List Cell) → first_due (renamed_cells names cs) ≡ option_map renamed_timed (first_due cs)
   due_renamed [] = refl
@@ -72,9 +68,6 @@ module _ (names : ℕ → ℕ) where
 
   picking_renamed : (outside : Environment) (s : State) → picking outside (renamed names s) ≡ renamed_turning (picking outside s)
   picking_renamed outside s = grind (arith, nat_tests, signal_kept s.cells, ready_renamed s.cells, due_renamed, picks_renamed)
-
-  delivers_renamed : (outside : Environment) (name : ℕ) (s : State) (e : Event) → delivers outside (names name) s e ≡ renamed_turning (delivers outside name s e)
-  delivers_renamed outside name s x = grind (arith, nat_tests, cond_applied)
 
   by_timer_renamed : (s : State) (x : Option Timed) (after : Turning) → by_timer s (option_map renamed_timed x) (renamed_turning after) ≡ renamed_turning (by_timer s x after)
   by_timer_renamed s x after = grind (arith, nat_tests, cond_applied)
