@@ -11,7 +11,7 @@ use Rattle.aom_semantics.specs.Moves.{step}
 use Rattle.aom_semantics.specs.Places.{Object}
 use Rattle.aom_semantics.specs.State.{Choice, Frame, Goes}
 use Rattle.aom_semantics.specs.State.{Run, State, Task}
-use Rattle.aom_safety.specs.Steps.{IsStill, Move}
+use Rattle.aom_safety.specs.Steps.{Move}
 use Rattle.aom_progress.specs.Payers.{payer}
 
 -- ---- tasks
@@ -31,11 +31,8 @@ acts_payer p fr ts v at x = grind (arith, nat_tests, trap_payer ts, begun_payer 
 -- ---- moves
 
 module _ (p : Image) (ch : Choice) (s : State) where
-  still_payer : (ts : List Task) → IsStill ts → payer ts ≡ cond (restarts p ts) None (payer ts)
-  still_payer ts still = grind arith
-
   moved : (u : State) → Move p ch s u → payer u.tasks ≡ cond (restarts p s.tasks) None (payer s.tasks)
-  moved u x = grind (arith, nat_tests, still_payer s.tasks, acts_payer p, begun_payer p)
+  moved u x = grind (arith, nat_tests, acts_payer p, begun_payer p)
 
 pub payers : (p : Image) (ch : Choice) (s u : State) → step p ch s ≡ Goes u → payer u.tasks ≡ cond (restarts p s.tasks) None (payer s.tasks)
 payers p ch s u goes = moved p ch s u (steps_are_moves p ch s u goes)

@@ -1,6 +1,6 @@
 -- What the objects at some kinds of places, and the operations on the cleanup stack, may still cost, after each change of the cells and of the items.
 use Rattle.std.proofs.lemmas.Bool.Decides.{nat_tests}
-use Rattle.std.proofs.Common.{◌≡◌, ◌≤◌, ◌+◌, ◌∙◌, ℕ, ℤ, Bool, true, false, cond, List, [], ◌∷◌, Option, Some, None, refl, ap, arith}
+use Rattle.std.proofs.Common.{◌≡◌, ◌≤◌, ◌+◌, ◌∙◌, ℕ, ℤ, Bool, true, false, List, [], ◌∷◌, Option, Some, None, refl, ap, arith}
 use Rattle.aom_semantics.specs.Tokens.{all_redeemed, redeemed_by}
 use Rattle.aom_semantics.specs.Enlisted.{rerequested}
 use Rattle.aom_semantics.specs.Clients.{each_unslotted}
@@ -24,13 +24,6 @@ field_no_session n x f = grind arith
 
 module _ (c : Prices) (counts : Place → Bool) where
   -- ---- one cell
-
-  not_due : (to : Place) (o : Object) → counts to ≡ false → due c counts to o ≡ 0
-  not_due to o e = ap (λ b. cond b (c.destruction o.thing) 0) e
-
-  -- its destruction at most
-  due_at_most : (r : Place) (o : Object) → due c counts r o ≤ c.destruction o.thing
-  due_at_most r o = grind arith
 
   -- ---- all cells
 

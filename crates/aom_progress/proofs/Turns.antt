@@ -20,7 +20,7 @@ use Rattle.aom_semantics.specs.Places.{Going, In_service, Place, Queued, Session
 use Rattle.aom_semantics.specs.State.{Goes, Counters, Seat, State, Dispatched, Of_server, Parts}
 use Rattle.aom_safety.specs.WellTyped.{Good, WellTyped, Now}
 use Rattle.aom_semantics.specs.World.{Completes, Cuts, Hears, Kills, Passes, Picks, Polls, Turning, Waits, heard_one, past_native}
-use Rattle.aom_semantics.specs.World.{turned, turning, with_request, without_native, Candidate, Heard, Obeys, Environment}
+use Rattle.aom_semantics.specs.World.{turned, turning, with_request, without_native, Candidate, Obeys}
 use Rattle.aom_semantics.specs.World.{first_ready, picks, taken_from}
 use Rattle.aom_typings.specs.Prices.{Prices, perhaps_price, price, IsPriced}
 use Rattle.aom_progress.specs.Laws.{TurnsPay}
@@ -133,9 +133,6 @@ module _ (s : State) (tidy : Tidy s.cells) where
   picks_lives false y e None = tt
   picks_lives false y e (Some time) = tt
 
-  turning_lives : (outside : Environment) (heard : Heard) → Lives s (turning outside heard s)
-  turning_lives outside heard = grind (arith, nat_tests, picks_lives)
-
 module _ (p : Image) (t : Typing) (c : Prices) (family : IsFamily p) (linked : IsLinked p) (priced : IsPriced p t c) (s : State) (good : Good p t s.cells [])
     (bare : objects_left c s.cells + operations_left c s.items ≡ 0) (x : Seat) (there : named s.cells x.object.name ≡ Some x.object) where
   abbrev Paid : State → Type 0
@@ -222,6 +219,6 @@ picking p t c family linked priced s w idle _ there f u e = cc
 pub turns_pay : TurnsPay
 turns_pay = record {
   begins = λ p t c formed linked priced outside heard s u w idle e f. picking p t c
-      (linked_is_family p linked formed) linked priced s w idle (turning outside heard s) (turning_lives s w.good.tidy outside heard) f u e;
+      (linked_is_family p linked formed) linked priced s w idle (turning outside heard s) (grind (arith, nat_tests, picks_lives)) f u e;
   passes = λ p c outside heard s u idle e f. passing p c s idle (turning outside heard s) f u e;
 }
