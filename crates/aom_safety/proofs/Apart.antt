@@ -87,9 +87,6 @@ module _ (cs us : List Cell) (apart : TokensApart cs) (name asker class : ℕ) (
   vs = with_token name (record { class = class; order = order }) owner us
 
   -- the token itself asks for nothing
-  waits_as_before : (n k : ℕ) → awaited (requested vs n) ≡ Some k → awaited (requested us n) ≡ Some k
-  waits_as_before n k e = grind (arith, nat_tests)
-
   abbrev its : Service
   its = handed_out (record { class = class; order = order })
 

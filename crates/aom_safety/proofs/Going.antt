@@ -119,9 +119,6 @@ module _ (p : Image) (t : Typing) (cs : List Cell) (g : Place) (o : Object) (tid
 
 -- a cell that goes has nothing in its fields, and no session
 module _ (p : Image) (t : Typing) (cs : List Cell) (o : Object) (ls : List Layer) (good : Good p t cs (Dying o ∷ ls)) where
-  no_fields : (f : ℕ) → held cs (Field o.name f) ≡ None
-  no_fields f = grind (arith, nat_tests, fits_unowning p, eq-eqb o.name)
-
   no_sessions : (c : ℕ) → held cs (Elsewhere (Session o.name c)) ≡ None
   no_sessions c = grind (arith, nat_tests, fits_unowning, eq-eqb)
 

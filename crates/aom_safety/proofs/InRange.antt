@@ -20,7 +20,7 @@ use Rattle.aom_semantics.specs.Moves.{counted, dispatch_ends, step}
 use Rattle.aom_semantics.specs.Places.{Service, set_service, Session, In_service, Queued, Cell, Elsewhere, Entry, Going, Place}
 use Rattle.aom_semantics.specs.Places.{Request, moved, set_request, set_word_field, without, set_session}
 use Rattle.aom_safety.specs.Registers.{AllInRange, IsInRange}
-use Rattle.aom_semantics.specs.State.{Choice, Dispatch, Frame, Goes, Home, State, Task, field_place}
+use Rattle.aom_semantics.specs.State.{Choice, Dispatch, Frame, Goes, Home, State, Task}
 use Rattle.aom_semantics.specs.Natives.{all_bereaved, resessioned}
 use Rattle.aom_semantics.specs.Servers.{withdrawn, without_queue, is_queue_of, all_unslotted}
 use Rattle.aom_semantics.specs.Clients.{each_unslotted, commanded}
@@ -77,9 +77,6 @@ unslotted_in_range client (c ∷ cs) all = (all.0, unslotted_in_range client cs 
 each_unslotted_in_range : (clients : List ℕ) (cs : List Cell) → AllInRange cs → AllInRange (each_unslotted clients cs)
 each_unslotted_in_range [] cs all = all
 each_unslotted_in_range (c ∷ clients) cs all = each_unslotted_in_range clients (all_unslotted c cs) (unslotted_in_range c cs all)
-
-field_in_range : (home : Home) (f : ℕ) → IsInRange (field_place home f)
-field_in_range x f = grind arith
 
 -- the result of a call comes to a register that the call names
 module _ (p : Image) (wired : IsWired p) (fr : Frame) (ts : List Task) (s : State) (all : AllInRange s.cells) where

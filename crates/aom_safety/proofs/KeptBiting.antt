@@ -15,12 +15,10 @@ use Rattle.aom_safety.specs.Apart.{Fit, KeptNeedsFail, opened, serves, waits}
 use Rattle.aom_semantics.specs.Cases.Moves.{an_image}
 use Rattle.aom_semantics.specs.Cases.Servers.{a_session}
 use Rattle.aom_semantics.specs.Clients.{client_at}
-use Rattle.aom_semantics.specs.Enlisted.{thing_kind}
 use Rattle.aom_safety.specs.Kept.{QueueFits, is_message_of, sources_of}
-use Rattle.aom_semantics.specs.Clients.{most_of}
 use Rattle.aom_semantics.specs.Places.{Cell, Connect_of, Elsewhere, In_service, Message_of, Object, Place, Queued}
 use Rattle.aom_semantics.specs.Places.{Service, held, named, requested, same_place, service_of, unserved}
-use Rattle.aom_semantics.specs.Servers.{has_session, is_from, is_server, seats_taken}
+use Rattle.aom_semantics.specs.Servers.{has_session, is_from, is_server}
 use Rattle.std.specs.List.{list_any}
 use Rattle.std.specs.Prelude.{is_some}
 use Rattle.aom_roles.specs.Things.{is_object}
@@ -72,12 +70,6 @@ stands_there n m o e = grind (arith, eqb-true)
 
 sent_so : (n c m : ℕ) → list_any (is_message_of c m) (service_of cells n).queue ≡ true → is_from c (service_of cells m).sender ≡ true
 sent_so n c m h = grind (arith, nat_tests, by_name, unserved_at)
-
-seats_so : (o : Object) → named cells o.name ≡ Some o → seats_taken (service_of cells o.name) ≤ most_of (thing_kind an_image o.thing)
-unfolding class_at kind_in kind_of descends_in parent_in
-seats_so o there = by_name (λ n. named cells n ≡ Some o → seats_taken (service_of cells n) ≤ most_of (thing_kind an_image o.thing))
-    (λ h. let same : record { name = 5; thing = keeper } ≡ o = cc in subst (λ (y : Object). 1 ≤ most_of (thing_kind an_image y.thing)) same (omega arith))
-    (λ h. omega arith) (λ h. omega arith) (λ n e f g h. omega (arith, ap seats_taken (unserved_at n e f g))) o.name there
 
 abbrev Counts : ℕ → Object → Type 0
 Counts n o = n ≡ cond (is_object o.thing) 0 1

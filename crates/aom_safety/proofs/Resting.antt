@@ -1,15 +1,12 @@
 -- What a move does to what no place tells: it takes its course, and only the end of a dispatch changes it otherwise.
 use Rattle.std.proofs.lemmas.Bool.Decides.{nat_tests}
-use Rattle.std.proofs.Common.{arith, List, ap, inl, inr, ◌∷◌, ◌≡◌, ℕ}
+use Rattle.std.proofs.Common.{arith, List, ap, inl, inr, ◌∷◌, ◌≡◌}
 use Rattle.std.specs.Prelude.{◌⊎◌}
 use Rattle.aom_image.specs.Image.{Image}
-use Rattle.aom_image.specs.declared.method.Gives.{Gives}
-use Rattle.aom_semantics.specs.Calls.{returned}
 use Rattle.aom_semantics.specs.Effects.{Course, Goes_its_way, coursed}
 use Rattle.aom_semantics.specs.Moves.{counted, dispatch_ends}
-use Rattle.aom_semantics.specs.State.{Choice, Dispatch, Dispatched, Frame, Counters, State, Task}
+use Rattle.aom_semantics.specs.State.{Choice, Dispatch, Dispatched, Counters, State, Task}
 use Rattle.aom_safety.specs.Steps.{Empties, Acts, Arrives, Clears, Comes_out, Ends, Move, Rests, Undoes, Vanishes}
-use Rattle.aom_semantics.specs.Enlisted.{ended_cells}
 
 -- the rest after a move takes a course
 abbrev pub Takes : Image → State → State → Type 0
@@ -18,10 +15,6 @@ Takes p s u = (x : Course) × (u.rest ≡ coursed x (counted p s).rest)
 -- or a dispatch ends with it
 abbrev pub IsEnd : Image → State → State → Type 0
 IsEnd p s u = (d : Dispatch) × (ts : List Task) × (s.tasks ≡ Dispatched d ∷ ts) × (u ≡ dispatch_ends p d (counted p s))
-
-module _ (p : Image) (fr : Frame) (ts : List Task) (s : State) where
-  returned_rest : (g : Gives) (a : ℕ) (below : List Task) → (returned p fr ts (record s { cells = ended_cells p fr s.cells }) g a below).rest ≡ s.rest
-  returned_rest g a x = grind arith
 
 pub move_rest : (p : Image) (c : Choice) (s u : State) → Move p c s u → Takes p s u ⊎ IsEnd p s u
 move_rest p c s u (Acts fr ts i e at there met fits same) = grind (arith, nat_tests)

@@ -1,11 +1,10 @@
 -- Each run of an image that has a typing: every state that it comes to is well typed, and where it ended nothing is at hand.
 use Rattle.std.proofs.lemmas.Bool.Decides.{nat_tests}
-use Rattle.std.specs.Ordering.{int_eq}
 use Rattle.aom_safety.proofs.ClientsKeep.{clients_keep}
 use Rattle.aom_safety.specs.Kept.{IsKept}
 use Rattle.aom_safety.proofs.Signals.{signals_are_ready}
 use Rattle.aom_safety.proofs.Turning.{turn_goes_on}
-use Rattle.std.proofs.Common.{arith, Bool, List, None, Option, Some, [], cond, false, inl, inr, refl, subst, sym, true, ⊎_elim, ◌∙◌, ◌∷◌, ◌≡◌, pos, ℤ}
+use Rattle.std.proofs.Common.{arith, List, None, Some, [], inl, inr, refl, subst, sym, ⊎_elim, ◌∙◌, ◌∷◌, ◌≡◌}
 use Rattle.std.specs.Prelude.{◌⊎◌}
 use Rattle.aom_image.specs.Image.{Image}
 use Rattle.aom_rules.specs.Typing.{IsTyped, Typing}
@@ -19,8 +18,8 @@ use Rattle.aom_safety.proofs.Resting.{IsEnd, Takes, course_ended, move_rest}
 use Rattle.aom_safety.proofs.Steps.{step_keeps}
 use Rattle.aom_semantics.specs.Destruction.{gone}
 use Rattle.aom_safety.specs.Laws.{IsSound, IsWired}
-use Rattle.aom_semantics.specs.Moves.{IsOpen, answered, failed, handled, main_ends, object_ends, step}
-use Rattle.aom_semantics.specs.Places.{Elsewhere, Object, Root, held}
+use Rattle.aom_semantics.specs.Moves.{IsOpen, step}
+use Rattle.aom_semantics.specs.Places.{Elsewhere, Root, held}
 use Rattle.aom_safety.specs.Quiet.{IsCalm}
 use Rattle.aom_safety.specs.Registers.{AllInRange}
 use Rattle.aom_semantics.specs.State.{Choice}
@@ -45,22 +44,6 @@ GoesOn s = (s.rest.ended ≡ None) ⊎ IsAtRest s
 -- at the end of a run the root is gone
 abbrev Uprooted : State → Type 0
 Uprooted s = (ts : List Task) → s.tasks ≡ Dispatched Of_root ∷ ts → held s.cells (Elsewhere Root) ≡ None
-
-main_holds : (p : Image) (s : State) (b : Bool) (root : Option Object) → s.rest.stopped ≡ b → held s.cells (Elsewhere Root) ≡ root →
-    ((main_ends p b root s).rest.ended ≡ s.rest.ended) ⊎ IsAtRest (main_ends p b root s)
-main_holds p s true (Some o) f e = inl refl
-main_holds p s true None f e = inr (record { idle = refl; rootless = λ h. e })
-main_holds p s false root f e = inr (record { idle = refl; rootless = λ h. absurd (grind arith) })
-
-object_holds : (p : Image) (s : State) → ((object_ends p s).rest.ended ≡ s.rest.ended) ⊎ IsAtRest (object_ends p s)
-object_holds p s = main_holds p (handled s) s.rest.stopped (held s.cells (Elsewhere Root)) refl refl
-
-answer_holds : (p : Image) (answer : ℤ) (s : State) → ((answered p answer s).rest.ended ≡ s.rest.ended) ⊎ IsAtRest (answered p answer s)
-answer_holds p answer s = go (int_eq answer (pos 0))
-  where
-    go : (b : Bool) → ((cond b (object_ends p s) (failed answer s)).rest.ended ≡ s.rest.ended) ⊎ IsAtRest (cond b (object_ends p s) (failed answer s))
-    go true = object_holds p s
-    go false = inr (record { idle = refl; rootless = λ h. cc })
 
 -- a move ends the run only where it leaves nothing at hand
 move_holds : (p : Image) (c : Choice) (s u : State) → Uprooted s → Move p c s u → (u.rest.ended ≡ s.rest.ended) ⊎ IsAtRest u
