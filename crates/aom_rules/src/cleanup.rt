@@ -1,17 +1,15 @@
 //! The rules of the cleanup stack, and of leaves.
-ghost use Rattle.std.specs.Prelude.{◌≡◌, List, ◌∷◌, ℕ};
+ghost use Rattle.std.specs.Prelude.{◌≡◌, ◌∷◌, ℕ};
 ghost use Rattle.aom_instructions.specs.declared.instr.Instr.TheVariants.{Leave, LeaveIf, NewOrLeave, Pop, PopDelete, PopOperation, Push, PushOperation};
 ghost use Rattle.aom_rules.specs.Cleanup.{owns_object, thing_entry, entry_of, tops_object, tops_operation, top_kind};
 ghost use Rattle.aom_rules.specs.Rules.{Tells};
 ghost use Rattle.aom_site.specs.Site.{leave_point};
-ghost use Rattle.aom_shape.specs.Changes.{told, ways_from};
-ghost use Rattle.aom_shape.specs.Needs.{judged};
-ghost use Rattle.aom_shape.specs.declared.kind.Entry.{Entry as EntryData};
+ghost use Rattle.aom_shape.specs.Needs.{tested};
 
 use crate::objects::new_age;
 use crate::rules::Ruling;
 use aom_image::{ClassNumber, Register, Thing};
-use aom_shape::{Age, Entry, Flow, Kind, Next, Shape, Why, is_object, judge};
+use aom_shape::{Age, Entry, Flow, Kind, Next, Shape, Why, is_object, judge, judge_all};
 use aom_site::Site;
 
 /// It owns an object, which is no message.
@@ -73,12 +71,12 @@ fn top_kind(shape: &Shape<'_>) -> Kind
     }
 }
 
-/// That flow, where the need is met and the method may leave in that state.
-fn judge_leave(site: &Site<'_>, need: (bool, Why), left: &Shape<'_>, flow: Flow) -> Ruling
-    ensures { (es : List EntryData) → told es result ≡ judged (need ∷ leave_point site.now.image site.now.method site.now.place site.now.shape left.now) (ways_from es flow) }
+/// Whether the need is met and the method may leave in that state.
+fn judge_leave(site: &Site<'_>, need: (bool, Why), left: &Shape<'_>) -> Result<(), Why>
+    ensures { result ≡ tested (need ∷ leave_point site.now.image site.now.method site.now.place site.now.shape left.now) }
 {
     let [may_leave, unowned, unissued, here] = site.leave_point(left);
-    judge(&[need, may_leave, unowned, unissued, here], flow)
+    judge_all(&[need, may_leave, unowned, unissued, here])
 }
 
 pub(crate) fn rule_new_or_leave(site: &Site<'_>, a: Register, class: ClassNumber) -> Ruling
@@ -104,14 +102,20 @@ pub(crate) fn rule_push(site: &Site<'_>, a: Register) -> Ruling
     let moved = site.shape.with_register(a, Kind::Null);
     let pushed = Next::of(&moved).with_entry(entry_of(site.shape.register(a)));
     let need = (owns_object(site.shape.register(a)), Why::RegisterKind);
-    judge_leave(site, need, &moved, site.on(pushed))
+    match judge_leave(site, need, &moved) {
+        Ok(()) => Ok(site.on(pushed)),
+        Err(why) => Err(why),
+    }
 }
 
 pub(crate) fn rule_push_operation(site: &Site<'_>, a: Register) -> Ruling
     ensures { (method : ℕ) → Tells site.now (PushOperation a method) result }
 {
     let pushed = Next::of(site.shape).with_entry(Entry::Operation);
-    judge_leave(site, site.needs_word(a), site.shape, site.on(pushed))
+    match judge_leave(site, site.needs_word(a), site.shape) {
+        Ok(()) => Ok(site.on(pushed)),
+        Err(why) => Err(why),
+    }
 }
 
 pub(crate) fn rule_pop(site: &Site<'_>, a: Register) -> Ruling
@@ -147,12 +151,18 @@ pub(crate) fn rule_pop_delete(site: &Site<'_>) -> Ruling
 pub(crate) fn rule_leave(site: &Site<'_>, a: Register) -> Ruling
     ensures { Tells site.now (Leave a) result }
 {
-    judge_leave(site, site.needs_word(a), site.shape, Flow::none())
+    match judge_leave(site, site.needs_word(a), site.shape) {
+        Ok(()) => Ok(Flow::none()),
+        Err(why) => Err(why),
+    }
 }
 
 /// It leaves where the word is negative.
 pub(crate) fn rule_leave_if(site: &Site<'_>, a: Register) -> Ruling
     ensures { Tells site.now (LeaveIf a) result }
 {
-    judge_leave(site, site.needs_word(a), site.shape, site.next(site.shape))
+    match judge_leave(site, site.needs_word(a), site.shape) {
+        Ok(()) => Ok(site.next(site.shape)),
+        Err(why) => Err(why),
+    }
 }
