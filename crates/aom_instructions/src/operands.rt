@@ -248,7 +248,7 @@ impl NativeNumber {
 /// The number of a class, below 256.
 #[derive(Clone, Copy, PartialEq, Eq, Debug)]
 pub struct ClassNumber {
-    number: u16,
+    number: u8,
 }
 
 impl Model for ClassNumber {
@@ -272,6 +272,7 @@ impl ClassNumber {
         ensures value { IfSome result (λ n. n ≡ number) }
     {
         if number < 256 {
+            let number = number as u8;
             Some(ClassNumber { number })
         } else {
             None
@@ -282,7 +283,7 @@ impl ClassNumber {
         ensures value { result ≡ self }
         ensures in_range { result < 256 }
     {
-        self.number
+        u16::from(self.number)
     }
 }
 
