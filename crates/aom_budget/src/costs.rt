@@ -14,7 +14,8 @@ use crate::raising::raise_called;
 use crate::sums::Sums;
 use aom_image::{ClassNumber, Instr, MethodNumber, Role, Thing};
 use aom_linked::Linked;
-use aom_shape::{Kind, Shape};
+use aom_shape::Kind;
+use aom_verify::ShapeView;
 use std::alloc::{AllocError, Global};
 
 #[derive(Drop)]
@@ -115,7 +116,7 @@ impl Costs {
         &self,
         linked: &Linked,
         method: MethodNumber,
-        shape: &Shape<'_>,
+        shape: &ShapeView<'_>,
         instr: &Instr,
     ) -> u64
         requires { AreCosts linked.now self.now }

@@ -20,8 +20,7 @@ use crate::sums::Sums;
 use crate::table::{Table, number_at};
 use aom_image::{ClassNumber, Instr, MethodNumber, Role};
 use aom_linked::Linked;
-use aom_shape::Shape;
-use aom_verify::{Checked, Sheet};
+use aom_verify::{Checked, ShapeView, Sheet};
 use std::alloc::{AllocError, Global};
 
 /// How many frames, and how many cleanup entries. One more than the most stands for all that are too many.
@@ -117,7 +116,7 @@ impl Finder {
         &self,
         linked: &Linked,
         method: MethodNumber,
-        shape: &Shape<'_>,
+        shape: &ShapeView<'_>,
         instr: &Instr,
     ) -> u64
         requires { AreReached linked.now self.now }
@@ -156,7 +155,7 @@ impl Finder {
         &self,
         linked: &Linked,
         method: MethodNumber,
-        shape: &Shape<'_>,
+        shape: &ShapeView<'_>,
         instr: &Instr,
     ) -> u16
         requires { AreReached linked.now self.now }
@@ -170,7 +169,7 @@ impl Finder {
     }
 
     /// One's own entries, with the most of what may be entered.
-    fn height_at(&self, linked: &Linked, shape: &Shape<'_>, instr: &Instr) -> u16
+    fn height_at(&self, linked: &Linked, shape: &ShapeView<'_>, instr: &Instr) -> u16
         requires { AreReached linked.now self.now }
         ensures { result ≡ min (length shape.now.entries + most_at self.now.heights (entered linked.now instr.now)) 1025 }
     {
@@ -191,7 +190,7 @@ impl Finder {
         ensures height { IsMost 1025 (EntriesAt linked.now method sheet.now place) result.height }
     {
         linked.facts();
-        match sheet.shape(place) {
+        match sheet.view(place) {
             None => Extent::none(),
             Some(shape) => {
                 let instr = linked.instr(method, place);

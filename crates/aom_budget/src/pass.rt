@@ -127,7 +127,7 @@ impl Pass {
         ensures is { IsMost 4294967296 (ExitsAt linked.now method sheet.now self.now.from round.first round.last place) result }
         ensures low { result ≤ 4294967296 }
     {
-        match sheet.shape(place) {
+        match sheet.view(place) {
             None => 0,
             Some(shape) => {
                 let instr = linked.instr(method, place);
@@ -204,7 +204,7 @@ impl Pass {
         ensures is { (sh : Shape) → at None sheet.now place ≡ Some sh → result ≡ plain_cost linked.now method costs.now.prices (found_by self.now.from self.now.after) (region_of self.now.innermost) place sh instr.now }
         ensures low { result ≤ 4294967296 }
     {
-        match sheet.shape(place) {
+        match sheet.view(place) {
             None => 0,
             Some(shape) => {
                 let onward = self
@@ -226,7 +226,7 @@ impl Pass {
         ensures around { self.new.around.items ≡ self.old.around.items }
         ensures innermost { self.new.innermost ≡ self.old.innermost }
     {
-        if sheet.shape(place).is_some() {
+        if sheet.view(place).is_some() {
             self.from.set(place, cost);
         }
     }

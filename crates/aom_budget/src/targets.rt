@@ -5,7 +5,8 @@ ghost use Rattle.aom_budget.specs.Pricing.{null_targets, empty_targets, states_t
 
 use aom_image::{Instr, Place, States};
 use aom_rules::{enlisted, inactive, outstanding};
-use aom_shape::{Filling, Kind, Shape};
+use aom_shape::{Filling, Kind};
+use aom_verify::ShapeView;
 use bitflags::Flags;
 
 /// At most two places.
@@ -87,7 +88,7 @@ impl Targets {
     }
 
     /// The places at which a run may go on from one, by what is known there.
-    pub(crate) fn of_instr(place: usize, shape: &Shape<'_>, instr: &Instr) -> Targets
+    pub(crate) fn of_instr(place: usize, shape: &ShapeView<'_>, instr: &Instr) -> Targets
         requires { suc place < 2 ^ 64 }
         ensures { listed result.first ++ listed result.second ≡ targets_of place shape.now instr.now }
     {

@@ -1,5 +1,6 @@
 -- What the rule answers: its needs hold and its flows stay within the method, or a need fails.
-use Rattle.std.proofs.Common.{◌≡◌, ℕ, suc, ◌<◌, true, false, cond, List, [], ◌∷◌, length, IsSome, IfSome, Some, None, Ok, Err, refl, sym, ap, subst}
+use Rattle.std.proofs.Common.{◌≡◌, ℕ, suc, ◌<◌, true, false, cond, List, [], ◌∷◌, length, IsSome, IfSome, Some, None, Result, Ok, Err, refl, sym, ap, subst}
+use Rattle.std.specs.Prelude.{IfOk, IfErr}
 use Rattle.aom_image.specs.Image.{Image}
 use Rattle.aom_image.specs.Views.{instr_at, method_at}
 use Rattle.aom_instructions.specs.declared.instr.Instr.{Instr}
@@ -11,7 +12,9 @@ use Rattle.aom_classes.proofs.Nested.{back_within}
 use Rattle.aom_image.specs.declared.method.Method.{Method}
 use Rattle.aom_roles.specs.Tests.{AllTrue}
 use Rattle.aom_shape.specs.Kinds.{register, field}
+use Rattle.aom_shape.specs.Changes.{told, ways_from}
 use Rattle.aom_shape.specs.Needs.{Need, Flow, judged}
+use Rattle.aom_shape.specs.declared.flow.Flow.{Flow as Ruled}
 use Rattle.aom_rules.specs.Objects.{flow_jump_null, flow_jump_empty}
 use Rattle.aom_rules.specs.Rules.{rule_needs, flows, rule, ways_of}
 use Rattle.aom_shape.specs.Shape.{Shape}
@@ -52,6 +55,20 @@ has_failed p m pc sh why some h =
       | None ↦ λ e some h. absurd cc
       | Some i ↦ λ e some h. record { instr = i; stands = e; unmet = judged_err (rule_needs p m pc sh i) (flows p m pc sh i) why (sym h); is = sym h }
     ] refl some h
+
+-- ---- of what the rule answers
+
+pub rule_flows : (p : Image) (m pc : ℕ) (sh : Shape) (r : Result Ruled Why) → IsSome (instr_at p m pc)
+    → IfSome (instr_at p m pc) (λ i. told sh.entries r ≡ rule p m pc sh i) → IfOk r (λ flow. Flows p m pc sh (ways_from sh.entries flow))
+rule_flows p m pc sh (Ok flow) some h = has_flows p m pc sh (ways_from sh.entries flow) some h
+rule_flows p m pc sh (Err why) some h = tt
+
+pub rule_fails : (p : Image) (m pc : ℕ) (sh : Shape) (r : Result Ruled Why) → IsSome (instr_at p m pc)
+    → IfSome (instr_at p m pc) (λ i. told sh.entries r ≡ rule p m pc sh i) → IfErr r (λ why. Fails p m pc sh why)
+rule_fails p m pc sh (Ok flow) some h = tt
+rule_fails p m pc sh (Err why) some h = has_failed p m pc sh why some h
+
+-- ---- within the method
 
 null_within : (p : Image) (m n pc : ℕ) (sh : Shape) (k : Kind) (a to : ℕ) → to < n → suc pc < n → AllWithin n (flow_jump_null p m pc sh k a to)
 null_within p m n pc sh kinds.Unset a to h next = tt

@@ -12,8 +12,10 @@ mod refusal;
 mod sheet;
 mod states;
 mod stop;
+mod view;
 
 pub use checked::{Checked, check};
 pub use refusal::Refusal;
 pub use sheet::Sheet;
 pub use stop::{Stop, stop_of};
+pub use view::ShapeView;

@@ -6,6 +6,7 @@ ghost use Rattle.aom_verify.specs.Faults.{Stops};
 ghost use Rattle.aom_verify.specs.Sweep.{Spans, Settles};
 
 use crate::states::{Fault, States};
+use crate::view::ShapeView;
 use aom_image::MethodNumber;
 use aom_linked::Linked;
 use aom_shape::{Known, Shape};
@@ -49,6 +50,13 @@ impl Sheet {
         ensures { result ≡ at None self.now place }
     {
         self.states.shape(place)
+    }
+
+    /// The same, read where it stands.
+    pub fn view(&self, place: usize) -> Option<ShapeView<'_>>
+        ensures { result ≡ at None self.now place }
+    {
+        self.states.view(place)
     }
 
     /// Sweeps until one changes nothing.

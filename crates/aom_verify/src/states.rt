@@ -14,6 +14,7 @@ ghost use Rattle.aom_verify.specs.Sweep.{Spans, AllWithin, Joins, Flows, Fails, 
 
 use crate::Refusal;
 use crate::change::{Change, Step};
+use crate::view::ShapeView;
 use aom_image::MethodNumber;
 use aom_linked::Linked;
 use aom_rules::rule;
@@ -107,6 +108,19 @@ impl States {
         }
     }
 
+    /// The same, read where it stands.
+    pub(crate) fn view(&self, place: usize) -> Option<ShapeView<'_>>
+        ensures { result ≡ at None (shapes self.now) place }
+    {
+        if self.len() <= place {
+            return None;
+        }
+        match &self.places[place] {
+            None => None,
+            Some(kept) => Some(ShapeView::new(kept, &self.piles)),
+        }
+    }
+
     /// The entries after a change. The states stay as they are.
     fn changed(&mut self, pile: Pile, change: EntriesChange) -> Result<Pile, AllocError>
         requires stands { Stands self.old.nodes pile }
@@ -144,13 +158,13 @@ impl States {
     }
 
     /// The same of a way, if there is one, by a sweep that has come to that place.
-    fn join_perhaps(&mut self, way: Option<Way>, pile: Pile, seen: usize) -> Result<Step, Fault>
-        requires within { AllWithin (length (shapes self.old)) (leads_to (entries_of self.old.nodes pile) way) }
-        requires few { AllFew (shapes self.old) (leads_to (entries_of self.old.nodes pile) way) }
+    fn join_perhaps(&mut self, way: &Option<Way>, pile: Pile, seen: usize) -> Result<Step, Fault>
+        requires within { AllWithin (length (shapes self.old)) (leads_to (entries_of self.old.nodes pile) way.now) }
+        requires few { AllFew (shapes self.old) (leads_to (entries_of self.old.nodes pile) way.now) }
         requires stands { Stands self.old.nodes pile }
         ensures nodes { self.new.nodes ≡ self.old.nodes }
-        ensures ok { IfOk result (λ step. Joins (shapes self.old) (shapes self.new) (leads_to (entries_of self.old.nodes pile) way) step.change × IsAhead seen (shapes self.old) (shapes self.new) step) }
-        ensures err { IfErr result (λ fault. JoinStops (shapes self.old) (shapes self.new) (leads_to (entries_of self.old.nodes pile) way) fault) }
+        ensures ok { IfOk result (λ step. Joins (shapes self.old) (shapes self.new) (leads_to (entries_of self.old.nodes pile) way.now) step.change × IsAhead seen (shapes self.old) (shapes self.new) step) }
+        ensures err { IfErr result (λ fault. JoinStops (shapes self.old) (shapes self.new) (leads_to (entries_of self.old.nodes pile) way.now) fault) }
     {
         match way {
             None => Ok(Step::nothing()),
@@ -162,26 +176,26 @@ impl States {
         }
     }
 
-    fn join_all(&mut self, flow: Flow, pile: Pile, seen: usize) -> Result<Step, Fault>
-        requires within { AllWithin (length (shapes self.old)) (leads_both (entries_of self.old.nodes pile) flow) }
-        requires few { AllFew (shapes self.old) (leads_both (entries_of self.old.nodes pile) flow) }
+    fn join_all(&mut self, flow: &Flow, pile: Pile, seen: usize) -> Result<Step, Fault>
+        requires within { AllWithin (length (shapes self.old)) (leads_both (entries_of self.old.nodes pile) flow.now) }
+        requires few { AllFew (shapes self.old) (leads_both (entries_of self.old.nodes pile) flow.now) }
         requires stands { Stands self.old.nodes pile }
-        ensures ok { IfOk result (λ step. Joins (shapes self.old) (shapes self.new) (leads_both (entries_of self.old.nodes pile) flow) step.change × IsAhead seen (shapes self.old) (shapes self.new) step) }
-        ensures err { IfErr result (λ fault. JoinStops (shapes self.old) (shapes self.new) (leads_both (entries_of self.old.nodes pile) flow) fault) }
+        ensures ok { IfOk result (λ step. Joins (shapes self.old) (shapes self.new) (leads_both (entries_of self.old.nodes pile) flow.now) step.change × IsAhead seen (shapes self.old) (shapes self.new) step) }
+        ensures err { IfErr result (λ fault. JoinStops (shapes self.old) (shapes self.new) (leads_both (entries_of self.old.nodes pile) flow.now) fault) }
     {
-        let first = self.join_perhaps(flow.first, pile, seen)?;
-        let second = self.join_perhaps(flow.second, pile, seen)?;
+        let first = self.join_perhaps(&flow.first, pile, seen)?;
+        let second = self.join_perhaps(&flow.second, pile, seen)?;
         Ok(first.then(second))
     }
 
     /// Meets the flows of a state with these entries into their targets, the lower target first.
-    fn follow(&mut self, pile: Pile, flow: Flow, seen: usize) -> Result<Step, Fault>
-        requires within { AllWithin (length (shapes self.old)) (ways_from (entries_of self.old.nodes pile) flow) }
-        requires few { AllFew (shapes self.old) (ways_from (entries_of self.old.nodes pile) flow) }
+    fn follow(&mut self, pile: Pile, flow: &Flow, seen: usize) -> Result<Step, Fault>
+        requires within { AllWithin (length (shapes self.old)) (ways_from (entries_of self.old.nodes pile) flow.now) }
+        requires few { AllFew (shapes self.old) (ways_from (entries_of self.old.nodes pile) flow.now) }
         requires stands { Stands self.old.nodes pile }
         requires room { length (entries_of self.old.nodes pile) < 1024 }
-        ensures ok { IfOk result (λ step. Joins (shapes self.old) (shapes self.new) (ways_from (entries_of self.old.nodes pile) flow) step.change × IsAhead seen (shapes self.old) (shapes self.new) step) }
-        ensures err { IfErr result (λ fault. JoinStops (shapes self.old) (shapes self.new) (ways_from (entries_of self.old.nodes pile) flow) fault) }
+        ensures ok { IfOk result (λ step. Joins (shapes self.old) (shapes self.new) (ways_from (entries_of self.old.nodes pile) flow.now) step.change × IsAhead seen (shapes self.old) (shapes self.new) step) }
+        ensures err { IfErr result (λ fault. JoinStops (shapes self.old) (shapes self.new) (ways_from (entries_of self.old.nodes pile) flow.now) fault) }
     {
         let after = self.changed(pile, flow.change)?;
         self.join_all(flow, after, seen)
@@ -197,9 +211,10 @@ impl States {
         match self.kept_at(place) {
             None => Ok(Step::nothing()),
             Some(kept) => {
-                match flow_of(linked, method, place, &kept.shape(&self.piles)) {
+                let ruled = flow_of(linked, method, place, &kept.shape(&self.piles));
+                match &ruled {
                     Ok(flow) => self.follow(kept.pile, flow, place),
-                    Err(why) => Err(Fault::At { place, why }),
+                    Err(why) => Err(Fault::At { place, why: *why }),
                 }
             }
         }
@@ -274,10 +289,7 @@ fn flow_of(
 {
     linked.facts();
     let _formed = linked.image().methods();
-    match rule(linked, method, place, shape) {
-        Ok(flow) => Ok(flow),
-        Err(why) => Err(why),
-    }
+    rule(linked, method, place, shape)
 }
 
 /// What is known at a place once something new comes there, if that is less than before.

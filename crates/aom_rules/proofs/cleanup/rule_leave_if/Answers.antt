@@ -11,4 +11,5 @@ returns-in-Err c =
     let site = c.args.site.now in
     let there = ap (λ (s : Site). s.shape) c.site.view_is in
     let failed = rw (c.needs_word.ensures, there) at (sym c.judge_leave.ensures ∙ c.in-Err.is) in
-     sym (all_failed (rule_needs site.image site.method site.place site.shape (LeaveIf c.args.a)) (flows site.image site.method site.place site.shape (LeaveIf c.args.a)) c.in-Err.why failed)
+    let needs = rule_needs site.image site.method site.place site.shape (LeaveIf c.args.a) in
+    sym (all_failed needs (flows site.image site.method site.place site.shape (LeaveIf c.args.a)) c.in-Err.why failed)

@@ -11,4 +11,6 @@ returns-in-Err c =
     let site = c.args.site.now in
     let there = ap (λ (s : Site). s.shape) c.site.view_is in
     let failed = rw (c.needs_word.ensures, there) at (sym c.judge_leave.ensures ∙ c.in-Err.is) in
-    λ method. sym (all_failed (rule_needs site.image site.method site.place site.shape (PushOperation c.args.a method)) (flows site.image site.method site.place site.shape (PushOperation c.args.a method)) c.in-Err.why failed)
+    λ method.
+    let needs = rule_needs site.image site.method site.place site.shape (PushOperation c.args.a method) in
+    sym (all_failed needs (flows site.image site.method site.place site.shape (PushOperation c.args.a method)) c.in-Err.why failed)
