@@ -4,13 +4,13 @@ use Rattle.std.proofs.Common.{◌≡◌, ◌<◌, ◌==◌, ℕ, ℤ, pos, negsu
 use Rattle.std.specs.Prelude.{All, AllPairs, IsNone, is_some}
 use Rattle.std.specs.Ordering.{int_eq}
 use Rattle.std.proofs.lemmas.Bool.{eqb-true, false≢true}
-use Rattle.aom_requests.specs.Requests.{Table, Changes, holds_signal, is_pending, is_ready, is_server, kept_code, pending, request_at, state_at, state_of}
-use Rattle.aom_requests.specs.Requests.{taken, with_state, with_status}
-use Rattle.aom_requests.specs.declared.request.State.{State}
-use Rattle.aom_requests.specs.declared.request.State.TheVariants.{Idle as Machine_idle, Issued as Machine_issued, Active as Machine_active}
-use Rattle.aom_requests.specs.declared.request.State.TheVariants.{Cancelling as Machine_cancelling, Aborted as Machine_aborted}
-use Rattle.aom_requests.specs.declared.request.Request.{Request as Machine_request}
-use Rattle.aom_requests.specs.declared.request.Request.TheVariants.{Object as Machine_object, Server as Machine_server}
+use Rattle.aom_scheduler.specs.Requests.{Table, Changes, holds_signal, is_pending, is_ready, is_server, kept_code, pending, request_at, state_at, state_of}
+use Rattle.aom_scheduler.specs.Requests.{taken, with_state, with_status}
+use Rattle.aom_scheduler.specs.declared.request.State.{State}
+use Rattle.aom_scheduler.specs.declared.request.State.TheVariants.{Idle as Machine_idle, Issued as Machine_issued, Active as Machine_active}
+use Rattle.aom_scheduler.specs.declared.request.State.TheVariants.{Cancelling as Machine_cancelling, Aborted as Machine_aborted}
+use Rattle.aom_scheduler.specs.declared.request.Request.{Request as Machine_request}
+use Rattle.aom_scheduler.specs.declared.request.Request.TheVariants.{Object as Machine_object, Server as Machine_server}
 use Rattle.aom_scheduler.specs.Order.{placed, without}
 use Rattle.aom_scheduler.specs.Roster.{IsSound, Roster, before, first_ready, marked, place, waiting}
 use Rattle.aom_scheduler.specs.Pending.{AreInOrder, Pending, due_by, due_of, left_by, no_later, timer_of}

@@ -6,9 +6,9 @@ use Rattle.std.proofs.lemmas.Bool.Decides.{nat_tests}
 use Rattle.aom_image.proofs.Given.{true_given}
 use Rattle.std.proofs.lemmas.Option.{none-some, same_Some}
 use Rattle.std.proofs.lemmas.List.Elements.{All-cons, All-head, All-tail, All-weaker}
-use Rattle.aom_requests.specs.Requests as Held
-use Rattle.aom_requests.specs.Requests.{holds_signal, request_at}
-use Rattle.aom_requests.specs.declared.request.Request.{Request as Machine_request}
+use Rattle.aom_scheduler.specs.Requests as Held
+use Rattle.aom_scheduler.specs.Requests.{holds_signal, request_at}
+use Rattle.aom_scheduler.specs.declared.request.Request.{Request as Machine_request}
 use Rattle.aom_scheduler.specs.Order.{without}
 use Rattle.aom_scheduler.specs.Roster.{first_ready}
 use Rattle.aom_scheduler.specs.Pending.{due_by, due_of, left_by}

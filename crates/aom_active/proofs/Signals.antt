@@ -7,9 +7,9 @@ use Rattle.std.proofs.lemmas.Bool.{eq-eqb, eqb-false, eqb-true, ne_eqb}
 use Rattle.std.proofs.lemmas.List.{get_or_past, take_all}
 use Rattle.std.proofs.lemmas.List.Sums.{count_by_more_no, count_by_more_yes}
 use Rattle.std.proofs.lemmas.Bool.Decides.{leb_tells}
-use Rattle.aom_requests.specs.Requests.{Table, holds_signal, request_at}
-use Rattle.aom_requests.specs.Requests as tables
-use Rattle.aom_requests.specs.declared.request.Request.{Request as Machine_request}
+use Rattle.aom_scheduler.specs.Requests.{Table, holds_signal, request_at}
+use Rattle.aom_scheduler.specs.Requests as tables
+use Rattle.aom_scheduler.specs.declared.request.Request.{Request as Machine_request}
 use Rattle.aom_safety.proofs.Dropping.{requested_unnamed}
 use Rattle.aom_semantics.specs.Places.{Cell, Request, Tidy, named, requested, service_of}
 use Rattle.aom_semantics.specs.Servers.{has_more}

@@ -3,11 +3,11 @@ use Rattle.std.proofs.lemmas.Bool.Decides.{nat_tests}
 use Rattle.std.proofs.Common.{◌≡◌, ℕ, Bool, false, true, Option, Some, None, subst, arith}
 use Rattle.std.specs.Prelude.{is_some}
 use Rattle.std.specs.Ordering.{int_eq}
-use Rattle.aom_requests.specs.Requests.{is_pending, is_server, pending, request_at, state_at, state_of, status_at, status_of}
-use Rattle.aom_requests.specs.declared.request.State.{State}
-use Rattle.aom_requests.specs.declared.request.State.TheVariants.{Idle as Machine_idle, Issued as Machine_issued, Active as Machine_active}
-use Rattle.aom_requests.specs.declared.request.State.TheVariants.{Cancelling as Machine_cancelling, Aborted as Machine_aborted}
-use Rattle.aom_requests.specs.declared.request.Request.{Request as Machine_request}
+use Rattle.aom_scheduler.specs.Requests.{is_pending, is_server, pending, request_at, state_at, state_of, status_at, status_of}
+use Rattle.aom_scheduler.specs.declared.request.State.{State}
+use Rattle.aom_scheduler.specs.declared.request.State.TheVariants.{Idle as Machine_idle, Issued as Machine_issued, Active as Machine_active}
+use Rattle.aom_scheduler.specs.declared.request.State.TheVariants.{Cancelling as Machine_cancelling, Aborted as Machine_aborted}
+use Rattle.aom_scheduler.specs.declared.request.Request.{Request as Machine_request}
 use Rattle.aom_semantics.specs.Enlisted as Enlisted
 use Rattle.aom_semantics.specs.Enlisted.{in_phase, is_active, is_cancelling}
 use Rattle.aom_semantics.specs.Places.{Aborted, Active as Waiting, Cancelling, Idle, Issued, Phase, Request}

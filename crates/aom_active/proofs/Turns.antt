@@ -4,8 +4,8 @@ use Rattle.std.proofs.Common.{arith, ◌≡◌, ◌==◌, ℕ, ℤ, Bool, true, 
 use Rattle.std.specs.Prelude.{All, is_some}
 use Rattle.std.proofs.lemmas.Bool.{eqb-true, eqb-false}
 use Rattle.std.proofs.lemmas.List.Elements.{All-filter, All-map, All-weaker}
-use Rattle.aom_requests.specs.Requests.{Table, Changes, request_at, is_pending, is_ready}
-use Rattle.aom_requests.specs.declared.request.Request.{Request as Machine_request}
+use Rattle.aom_scheduler.specs.Requests.{Table, Changes, request_at, is_pending, is_ready}
+use Rattle.aom_scheduler.specs.declared.request.Request.{Request as Machine_request}
 use Rattle.aom_scheduler.specs.Order.{placed, without}
 use Rattle.aom_scheduler.specs.Roster.{Roster, before, marked, marked_entry, place, waiting}
 use Rattle.aom_scheduler.specs.Pending.{Pending, due_of, no_later, timer_of}

@@ -1,11 +1,11 @@
 -- The active objects of a machine, and when they stand for the requests of the checked machine.
 use Rattle.std.specs.Prelude.{◌≡◌, ℕ, ℤ, Bool, true, not, cond, is_some, List, [], Option, Some, None, option_map, All, AllPairs, replicate}
 use Rattle.std.specs.Ordering.{int_eq}
-use Rattle.aom_requests.specs.Requests.{Table, request_at, is_pending, is_ready, pending}
-use Rattle.aom_requests.specs.declared.request.State.{State}
-use Rattle.aom_requests.specs.declared.request.State.TheVariants.{Idle as Machine_idle, Issued as Machine_issued, Active as Machine_active, Cancelling as Machine_cancelling, Aborted as Machine_aborted}
-use Rattle.aom_requests.specs.declared.request.Request.{Request as Machine_request}
-use Rattle.aom_requests.specs.declared.request.Request.TheVariants.{Object as Machine_object, Server as Machine_server}
+use Rattle.aom_scheduler.specs.Requests.{Table, request_at, is_pending, is_ready, pending}
+use Rattle.aom_scheduler.specs.declared.request.State.{State}
+use Rattle.aom_scheduler.specs.declared.request.State.TheVariants.{Idle as Machine_idle, Issued as Machine_issued, Active as Machine_active, Cancelling as Machine_cancelling, Aborted as Machine_aborted}
+use Rattle.aom_scheduler.specs.declared.request.Request.{Request as Machine_request}
+use Rattle.aom_scheduler.specs.declared.request.Request.TheVariants.{Object as Machine_object, Server as Machine_server}
 use Rattle.aom_scheduler.specs.Roster.{Roster, place}
 use Rattle.aom_scheduler.specs.Pending.{Pending, due_of}
 use Rattle.aom_image.specs.Image.{Image}

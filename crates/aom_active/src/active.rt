@@ -1,6 +1,6 @@
 //! The active objects of a machine.
 ghost use Rattle.std.specs.Prelude.{◌≡◌, ◌<◌, ◌≤◌, ℕ, All, Bool, false, Option, Some, None, IfOk, IfSome, IsSome, IsTrue, IsFalse, is_some, length, slice_get};
-ghost use Rattle.aom_requests.specs.Requests.{request_at, IsEnlisted, state_at, status_at, is_pending, is_server};
+ghost use Rattle.aom_scheduler.specs.Requests.{request_at, IsEnlisted, state_at, status_at, is_pending, is_server};
 ghost use Rattle.aom_scheduler.specs.Pending.{first_due, due_of, AreInOrder};
 ghost use Rattle.aom_scheduler.specs.Roster.{IsSound, place};
 ghost use Rattle.aom_image.specs.declared.class.Provider.TheVariants.{Own};
@@ -13,7 +13,7 @@ ghost use Rattle.aom_active.specs.Meanings.{is_waited_for, is_being_cancelled, i
 
 use crate::parts::{abort_request, mark, signal, stop_timer};
 use aom_cells::CellId;
-use aom_requests::{Requests, State};
+use aom_scheduler::{Requests, State};
 use aom_scheduler::{Entry, Schedule, Timer, Timers};
 use std::alloc::{AllocError, Global};
 use std::marker::Model;

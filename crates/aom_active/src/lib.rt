@@ -1,6 +1,6 @@
 //! The active objects of a machine: what each waits for, the order in which they are picked, and their timers.
 //!
-//! `ActiveObjects` keeps the requests of `aom_requests` and the schedule and the timers of `aom_scheduler` together: who has a request has an
+//! `ActiveObjects` keeps the requests of `aom_scheduler` and the schedule and the timers of `aom_scheduler` together: who has a request has an
 //! entry, which is ready as its request is, and a timer runs only for a request that is pending (`IsWhole` of `specs/Agrees.antt`). Contracts
 //! see the three models (`Active`), and each call says what it makes of the requests of the checked machine that they stand for
 //! (`StandsFor`, and `specs/Meanings.antt`): each is one change at one number, and the timer that is due first and the object that is

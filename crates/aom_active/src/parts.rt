@@ -1,7 +1,7 @@
 //! Changes of one of the three parts.
 ghost use Rattle.std.specs.Prelude.{◌≡◌, Some, true, IsTrue};
-ghost use Rattle.aom_requests.specs.Requests.{request_at, is_server, Changes};
-ghost use Rattle.aom_requests.specs.declared.request.Request.{Request};
+ghost use Rattle.aom_scheduler.specs.Requests.{request_at, is_server, Changes};
+ghost use Rattle.aom_scheduler.specs.declared.request.Request.{Request};
 ghost use Rattle.aom_scheduler.specs.Order.{without};
 ghost use Rattle.aom_scheduler.specs.Roster.{IsEnlisted, marked};
 ghost use Rattle.aom_active.specs.Agrees.{may_stand};
@@ -9,7 +9,7 @@ ghost use Rattle.aom_active.specs.Meanings.{is_being_cancelled};
 ghost use Rattle.aom_active.specs.Aborts.{aborted_request};
 
 use aom_cells::CellId;
-use aom_requests::{Requests, State};
+use aom_scheduler::{Requests, State};
 use aom_scheduler::{Schedule, Timers};
 
 /// The status of a request that is cancelled: KErrCancel.

@@ -1,3 +1,4 @@
 pub mod Counts
 pub mod Laws
 mod Writes
+pub mod Numbers

@@ -7,7 +7,7 @@ use Rattle.std.proofs.lemmas.List.Elements.{All-nil, All-cons}
 use Rattle.std.proofs.lemmas.Bool.{cases_eq, eq-eqb, ne_eqb, cond-true, cond-false}
 use Rattle.std.proofs.lemmas.Option.{same_Some}
 use Rattle.std.proofs.lemmas.List.{length-map, length-replicate, get_or_past}
-use Rattle.aom_queues.specs.Lists.{Table, IsIn, empty, list_at, first_of, after_node}
+use Rattle.aom_clients.specs.Lists.{Table, IsIn, empty, list_at, first_of, after_node}
 use Rattle.aom_clients.specs.declared.client.Client.{Client}
 use Rattle.aom_clients.specs.declared.client.Client.TheVariants.{Unconnected, Open}
 use Rattle.aom_clients.specs.declared.place.Place.{Place}

@@ -3,7 +3,7 @@ use Rattle.std.proofs.lemmas.Bool.Decides.{nat_tests}
 use Rattle.std.proofs.Common.{◌≡◌, ◌≢◌, ◌<◌, ◌≤◌, ◌+◌, ℕ, suc, List, [], ◌∷◌, ◌++◌, Some, None, length, refl, sym, ap, ◌∙◌, subst, inl, inr, arith}
 use Rattle.std.specs.Prelude.{map, slice_set}
 use Rattle.std.proofs.lemmas.List.{length-set, length-append, set-set, set_comm, append_assoc, get_or-set_same, get_or-set_other}
-use Rattle.aom_queues.specs.Lists.{Table, IsIn, list_at, with_list, without, first_of, rest_of}
+use Rattle.aom_clients.specs.Lists.{Table, IsIn, list_at, with_list, without, first_of, rest_of}
 use Rattle.aom_clients.specs.declared.place.Place.{Place}
 use Rattle.aom_clients.specs.Table.{closed_place}
 use Rattle.aom_clients.specs.Withdrawals.{without_each, left_each, waiting_each, noted}

@@ -4,7 +4,7 @@ use Rattle.std.proofs.Common.{◌≡◌, ◌<◌, ◌+◌, ◌++◌, ℕ, true, 
 use Rattle.std.specs.Prelude.{map, slice_set}
 use Rattle.std.proofs.lemmas.Bool.{eqb-true}
 use Rattle.std.proofs.lemmas.List.{length-set, get_or_past, take-set-le}
-use Rattle.aom_queues.specs.Lists.{Table, IsIn, IsFree, list_at, with_list, first_of, rest_of}
+use Rattle.aom_clients.specs.Lists.{Table, IsIn, IsFree, list_at, with_list, first_of, rest_of}
 use Rattle.aom_clients.specs.declared.client.Client.{Client}
 use Rattle.aom_clients.specs.declared.place.Place.{Place}
 use Rattle.aom_clients.specs.declared.place.Place.TheVariants.{Queued}

@@ -5,9 +5,9 @@ use Rattle.std.specs.Prelude.{map, slice_index_or, slice_set}
 use Rattle.std.proofs.lemmas.Bool.{cases_eq, eq-eqb}
 use Rattle.std.proofs.lemmas.Option.{same_Some}
 use Rattle.std.proofs.lemmas.List.{length-append, append-nil, get_or-set_same, get_or-set_other}
-use Rattle.aom_queues.specs.Lists.{Table, IsIn, IsFree, list_at, with_list, without, rest_of}
-use Rattle.aom_queues.proofs.Rings.{at-set, free-without}
-use Rattle.aom_queues.proofs.Members.{in-without, without-in, kept, left}
+use Rattle.aom_clients.specs.Lists.{Table, IsIn, IsFree, list_at, with_list, without, rest_of}
+use Rattle.aom_clients.proofs.Rings.{at-set, free-without}
+use Rattle.aom_clients.proofs.Members.{in-without, without-in, kept, left}
 use Rattle.aom_clients.specs.declared.client.Client.{Client}
 use Rattle.aom_clients.specs.declared.client.Client.TheVariants.{Unconnected}
 use Rattle.aom_clients.specs.declared.place.Place.{Place}

@@ -7,8 +7,8 @@ use Rattle.std.proofs.lemmas.Bool.{cases_eq, eq-eqb, ne_eqb, eqb-true, cond-true
 use Rattle.std.proofs.lemmas.Option.{same_Some}
 use Rattle.std.proofs.lemmas.List.{length-set, length-map, get_or-set_same, get_or-set_other, get_or_past, same_lists, get_or_default}
 use Rattle.std.proofs.Math.ListN.{get_or-map}
-use Rattle.aom_queues.specs.Lists.{Table, IsIn, IsOnce, list_at, without}
-use Rattle.aom_queues.proofs.Members.{kept, left}
+use Rattle.aom_clients.specs.Lists.{Table, IsIn, IsOnce, list_at, without}
+use Rattle.aom_clients.proofs.Members.{kept, left}
 use Rattle.aom_clients.specs.declared.client.Client.{Client}
 use Rattle.aom_clients.specs.declared.client.Client.TheVariants.{Unconnected, Connecting, Open, Closing, Gone, Dead, Dying}
 use Rattle.aom_clients.specs.declared.place.Place.{Place}

@@ -1,3 +1,8 @@
+pub mod Members
+pub mod Chains
+pub mod Rings
+pub mod RingSteps
+pub mod Places
 pub mod Plain
 pub mod Entries
 pub mod Tables

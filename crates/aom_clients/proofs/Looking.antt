@@ -2,7 +2,7 @@
 use Rattle.std.proofs.Common.{◌≡◌, ◌⊎◌, ◌∙◌, ℕ, Bool, true, false, cond, List, [], ◌∷◌, Option, Some, None, inl, inr, refl, sym, ap, subst}
 use Rattle.std.specs.Prelude.{◌==◌, ◌≢◌}
 use Rattle.std.proofs.lemmas.Bool.{cases_eq, eq-eqb, ne_eqb, cond-true, cond-false}
-use Rattle.aom_queues.specs.Lists.{IsIn, IsOnce}
+use Rattle.aom_clients.specs.Lists.{IsIn, IsOnce}
 use Rattle.aom_clients.specs.Clients.{State, client_after, client_at, first_client, first_there}
 use Rattle.aom_clients.specs.Table.{has_cell}
 

@@ -1,7 +1,7 @@
 -- Lists that are the same are kept alike, and tell the same state.
 use Rattle.std.proofs.Common.{◌≡◌, ◌++◌, ℕ, List, length, take, drop, sym, ap, ◌∙◌, subst}
 use Rattle.std.proofs.Math.Seq.{take-append_seam}
-use Rattle.aom_queues.specs.Lists.{Table}
+use Rattle.aom_clients.specs.Lists.{Table}
 use Rattle.aom_clients.specs.declared.client.Client.{Client}
 use Rattle.aom_clients.specs.declared.place.Place.{Place}
 use Rattle.aom_clients.specs.Nodes.{IsKept, state_of}

@@ -6,8 +6,8 @@ use Rattle.std.specs.Prelude.{map, filter, slice_set, IfSome, IsNone, IsSome}
 use Rattle.std.proofs.lemmas.Bool.{cases_eq}
 use Rattle.std.proofs.lemmas.Option.{same_Some}
 use Rattle.std.proofs.lemmas.List.{length-set, get_or-set_same, get_or-set_other, take-map, map-set, set-get_or}
-use Rattle.aom_queues.specs.Lists.{Table, IsIn, IsFree, list_at, with_list, without, first_of, rest_of}
-use Rattle.aom_queues.proofs.Members.{in-without, without-in}
+use Rattle.aom_clients.specs.Lists.{Table, IsIn, IsFree, list_at, with_list, without, first_of, rest_of}
+use Rattle.aom_clients.proofs.Members.{in-without, without-in}
 use Rattle.aom_clients.specs.declared.client.Client.{Client}
 use Rattle.aom_clients.specs.declared.client.Client.TheVariants.{Unconnected, Connecting, Open}
 use Rattle.aom_clients.specs.declared.place.Place.{Place}

@@ -5,9 +5,9 @@ use Rattle.std.proofs.lemmas.Bool.{cases_eq}
 use Rattle.std.proofs.lemmas.Bool.Decides.{nat_tests}
 use Rattle.std.proofs.lemmas.List.{length-set, get_or-set_same, get_or-set_other}
 use Rattle.std.proofs.Math.ListN.{get_or-map}
-use Rattle.aom_queues.specs.Lists.{Table, IsIn, list_at, with_list}
-use Rattle.aom_queues.proofs.Rings.{at-set}
-use Rattle.aom_queues.proofs.Members.{in-either, in-left, in-right}
+use Rattle.aom_clients.specs.Lists.{Table, IsIn, list_at, with_list}
+use Rattle.aom_clients.proofs.Rings.{at-set}
+use Rattle.aom_clients.proofs.Members.{in-either, in-left, in-right}
 use Rattle.aom_clients.specs.declared.place.Place.{Place}
 use Rattle.aom_clients.specs.declared.place.Place.TheVariants.{Free, Queued, Held, Discarded}
 use Rattle.aom_clients.specs.Table.{is_out_of}

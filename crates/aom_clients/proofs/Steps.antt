@@ -5,7 +5,7 @@ use Rattle.std.specs.Prelude.{map, slice_index_or, slice_set}
 use Rattle.std.proofs.lemmas.Bool.{eq-eqb, eqb-true}
 use Rattle.std.proofs.lemmas.Option.{same_Some}
 use Rattle.std.proofs.lemmas.List.{length-set, length-map, get_or-set_same, get_or_past, get_or-take}
-use Rattle.aom_queues.specs.Lists.{Table, IsIn, IsFree, list_at, with_list}
+use Rattle.aom_clients.specs.Lists.{Table, IsIn, IsFree, list_at, with_list}
 use Rattle.aom_clients.specs.declared.client.Client.{Client}
 use Rattle.aom_clients.specs.declared.client.Client.TheVariants.{Unconnected, Connecting, Open, Closing, Gone, Dead, Dying}
 use Rattle.aom_clients.specs.declared.place.Place.{Place}

@@ -5,9 +5,9 @@ use Rattle.std.specs.Prelude.{map, filter, slice_index_or, slice_set}
 use Rattle.std.proofs.lemmas.Bool.{cases_eq}
 use Rattle.std.proofs.lemmas.List.{map-set, map-append, length-set, length-map, get_or-set_same, get_or-set_other}
 use Rattle.std.proofs.Math.ListN.{get_or-map}
-use Rattle.aom_queues.specs.Lists.{Table, IsIn, list_at, with_list, without}
-use Rattle.aom_queues.proofs.Rings.{at-set-cases}
-use Rattle.aom_queues.proofs.Members.{in-without, in-either}
+use Rattle.aom_clients.specs.Lists.{Table, IsIn, list_at, with_list, without}
+use Rattle.aom_clients.proofs.Rings.{at-set-cases}
+use Rattle.aom_clients.proofs.Members.{in-without, in-either}
 
 -- a table with as many lists and nodes
 pub record Alike (t u : Table) : Type 0 where

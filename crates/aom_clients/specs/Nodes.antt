@@ -1,6 +1,6 @@
 -- How the calls keep the state: lists of nodes.
 use Rattle.std.specs.Prelude.{◌≡◌, ◌≤◌, ◌<◌, ◌+◌, ◌-◌, ◌⊎◌, ℕ, Bool, true, false, nat_lt, if◌then◌else◌, List, [], ◌∷◌, Option, Some, length, map, take, slice_index_or, ◌==◌}
-use Rattle.aom_queues.specs.Lists.{Table, IsIn, list_at}
+use Rattle.aom_clients.specs.Lists.{Table, IsIn, list_at}
 use Rattle.aom_clients.specs.declared.client.Client.{Client}
 use Rattle.aom_clients.specs.declared.client.Client.TheVariants.{Unconnected, Connecting, Open, Closing, Dying}
 use Rattle.aom_clients.specs.declared.place.Place.{Place}

@@ -1,6 +1,6 @@
 -- What an entry that is taken, and a client that leaves, make of each part of the state.
 use Rattle.std.specs.Prelude.{◌≡◌, ◌<◌, ◌+◌, ◌⊎◌, ◌++◌, ℕ, Bool, true, false, List, [], ◌∷◌, Option, None, Some, length, map, slice_index_or, slice_set}
-use Rattle.aom_queues.specs.Lists.{Table, IsFree, list_at, with_list, without, rest_of}
+use Rattle.aom_clients.specs.Lists.{Table, IsFree, list_at, with_list, without, rest_of}
 use Rattle.aom_clients.specs.declared.client.Client.{Client}
 use Rattle.aom_clients.specs.declared.client.Client.TheVariants.{Unconnected, Connecting, Open, Closing, Gone, Dead, Dying}
 use Rattle.aom_clients.specs.declared.place.Place.{Place}

@@ -1,6 +1,6 @@
 -- What is left once messages were withdrawn one after another.
 use Rattle.std.specs.Prelude.{ℕ, if◌then◌else◌, List, [], ◌∷◌, ◌++◌, map, slice_index_or, slice_set}
-use Rattle.aom_queues.specs.Lists.{without}
+use Rattle.aom_clients.specs.Lists.{without}
 use Rattle.aom_clients.specs.declared.place.Place.{Place}
 use Rattle.aom_clients.specs.declared.place.Place.TheVariants.{Free}
 use Rattle.aom_clients.specs.Table.{closed_place, is_queued}

@@ -1,5 +1,5 @@
 //! The calls.
-ghost use Rattle.aom_queues.specs.Lists.{IsIn, IsOnce};
+ghost use Rattle.aom_clients.specs.Lists.{IsIn, IsOnce};
 ghost use Rattle.std.specs.Prelude.{ℕ, ◌≡◌, ◌<◌, ◌≤◌, ◌++◌, ◌∷◌, [], true, false, Some, None, IfOk, IfSome, IsSome, IsNone, All, length, option_map, replicate, is_some, slice_get};
 ghost use Rattle.aom_clients.specs.Table.{row, completion, session_of, server_of};
 ghost use Rattle.aom_clients.specs.declared.entry.Entry.{Entry};
@@ -11,7 +11,7 @@ use crate::entry::{CLIENTS, PLACES, close_node, connect_node};
 use crate::parts::{client_of, free_place, free_slot, give_up, hold, queue_close, take};
 use crate::withdrawal::{SLOTS, release, withdraw_all};
 use crate::{Client, Completion, Entry, Place, Refusal, Server, Taken};
-use aom_queues::Lists;
+use crate::Lists;
 use arrayvec::ArrayVec;
 use std::alloc::{AllocError, Global};
 use std::marker::Model;

@@ -1,12 +1,12 @@
 //! What an entry that is taken, and a client that leaves, make of each part of the state.
 ghost use Rattle.std.specs.Prelude.{◌≡◌, ◌<◌, IfSome, length};
-ghost use Rattle.aom_queues.specs.Lists.{IsFree, list_at, with_list, first_of, rest_of};
+ghost use Rattle.aom_clients.specs.Lists.{IsFree, list_at, with_list, first_of, rest_of};
 ghost use Rattle.aom_clients.specs.Clients.{MessageBelow};
 ghost use Rattle.aom_clients.specs.Parts.{ConnectBelow, CanClose, client_in, taken_of, if_taken, message_in, unlisted, held_by, given_up, slot_freed, place_freed, close_queued};
 
 use crate::entry::close_node;
 use crate::{Client, Entry, Place, Taken};
-use aom_queues::Lists;
+use crate::Lists;
 
 /// Takes the first entry off a server's queue, with the client that it is of; a connect is listed no more.
 pub fn take(

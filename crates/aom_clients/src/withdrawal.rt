@@ -1,12 +1,12 @@
 //! The messages of a client that closes or dies, or whose server goes: taken off their lists one after another.
 ghost use Rattle.std.specs.Prelude.{◌≡◌, ◌<◌, ◌≤◌, ◌+◌, ◌++◌, [], ℕ, length, map, filter, slice_index_or};
-ghost use Rattle.aom_queues.specs.Lists.{IsIn, IsSound, list_at, with_list, without};
+ghost use Rattle.aom_clients.specs.Lists.{IsIn, IsSound, list_at, with_list, without};
 ghost use Rattle.aom_clients.specs.Table.{is_queued};
 ghost use Rattle.aom_clients.specs.Withdrawals.{without_each, left_at, left_each, noted};
 
 use crate::Place;
 use crate::entry::{CLIENTS, connect_node};
-use aom_queues::Lists;
+use crate::Lists;
 use arrayvec::ArrayVec;
 
 /// The most slots of a client.

@@ -3,7 +3,7 @@ ghost use Rattle.std.specs.Prelude.{◌≡◌, ◌≤◌, ◌+◌, [], IfOk, IfE
 ghost use Rattle.aom_natives.specs.Owed.{OweNothing};
 ghost use Rattle.aom_natives.specs.Slots.{AllAgree};
 ghost use Rattle.aom_run.specs.Calls.{natives_of};
-ghost use Rattle.aom_lines.specs.LineBuffer.{step_lines};
+ghost use Rattle.aom_machine_state.specs.LineBuffer.{step_lines};
 ghost use Rattle.aom_run.specs.Naming.{named_by};
 ghost use Rattle.aom_script.specs.Script.{IsTimely};
 ghost use Rattle.aom_commands.specs.Headline.{AllRunWell, HasNatives, IsFreshOf, RefusesBoot, Represents, outside_of};
@@ -11,7 +11,7 @@ ghost use Rattle.aom_commands.specs.declared.faults.Fault.TheVariants.{Memory};
 
 use crate::Fault;
 use aom_budget::Accepted;
-use aom_lines::LineBuffer;
+use aom_machine_state::LineBuffer;
 use aom_natives::Native;
 use aom_run::{Machine, Outcome, Sink, run_named};
 use aom_script::Script;

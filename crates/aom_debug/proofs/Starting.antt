@@ -2,7 +2,7 @@
 use Rattle.std.proofs.Common.{◌≡◌, ◌∙◌, ℕ, false, [], ap, refl, subst, sym}
 use Rattle.aom_image.specs.Image.{Image}
 use Rattle.aom_semantics.specs.World.{boot_state}
-use Rattle.aom_lines.specs.LineBuffer.{LineBuffer}
+use Rattle.aom_machine_state.specs.LineBuffer.{LineBuffer}
 use Rattle.aom_run.specs.Calls.{StandsFor, natives_of}
 use Rattle.aom_run.specs.declared.machine.Machine.{Machine}
 use Rattle.aom_script.specs.Script.{Script}

@@ -2,7 +2,7 @@
 ghost use Rattle.std.specs.Prelude.{◌≡◌, ◌+◌, ◌≤◌, ◌||◌, [], false, true, IfErr, IfNone, IfOk, IfSome};
 ghost use Rattle.aom_debug_moves.specs.Calls.{Stands};
 ghost use Rattle.aom_debug_words.specs.declared.fault.DebugFault.TheVariants.{OutOfMemory};
-ghost use Rattle.aom_lines.specs.LineBuffer.{step_lines};
+ghost use Rattle.aom_machine_state.specs.LineBuffer.{step_lines};
 ghost use Rattle.aom_script.specs.Script.{IsTimely};
 ghost use Rattle.aom_natives.specs.Slots.{AllAgree};
 ghost use Rattle.aom_debug_moves.specs.Movers.{IsReady, Keeps};
@@ -14,7 +14,7 @@ use aom_debug_moves::{Course, Mover, Progress, Sink, go};
 use aom_debug_names::Names;
 use aom_debug_views::tell;
 use aom_debug_words::{Answer, Breakpoints, DebugFault, Recent, Spot};
-use aom_lines::LineBuffer;
+use aom_machine_state::LineBuffer;
 use aom_natives::Native;
 use aom_run::Machine;
 use aom_script::Script;

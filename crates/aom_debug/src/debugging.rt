@@ -3,7 +3,7 @@ ghost use Rattle.std.specs.Prelude.{ℕ, ◌≡◌, ◌+◌, [], Err, IfErr, IfO
 ghost use Rattle.aom_natives.specs.Owed.{OweNothing};
 ghost use Rattle.aom_natives.specs.Slots.{AllAgree};
 ghost use Rattle.aom_semantics.specs.World.{boot_state};
-ghost use Rattle.aom_lines.specs.LineBuffer.{step_lines};
+ghost use Rattle.aom_machine_state.specs.LineBuffer.{step_lines};
 ghost use Rattle.aom_run.specs.Calls.{StandsFor, natives_of};
 ghost use Rattle.aom_script.specs.Script.{IsTimely, denoted};
 ghost use Rattle.aom_debug.specs.Movers.{IsReady};
@@ -20,7 +20,7 @@ use crate::{Debugger, Reader, Sink};
 use aom_budget::Accepted;
 use aom_commands::{ExitStatus, Fault, accept_bytes, tell};
 use aom_debug_names::Names;
-use aom_lines::LineBuffer;
+use aom_machine_state::LineBuffer;
 use aom_natives::Native;
 use aom_run::Machine;
 use aom_script::{Script, read_script};

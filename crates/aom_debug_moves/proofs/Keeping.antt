@@ -2,7 +2,7 @@
 use Rattle.std.proofs.Common.{◌≡◌, ◌∙◌, ℕ, Bool, true, false, List, Option, Some, None, refl, ap, subst}
 use Rattle.std.specs.Bool.{then_some}
 use Rattle.aom_image.specs.Image.{Image}
-use Rattle.aom_lines.specs.LineBuffer.{LineBuffer}
+use Rattle.aom_machine_state.specs.LineBuffer.{LineBuffer}
 use Rattle.aom_script.specs.Script.{Script}
 use Rattle.aom_machine.specs.Steps.{progress}
 use Rattle.aom_run.specs.Calls.{Stands, natives_of}

@@ -8,7 +8,7 @@ use Rattle.aom_semantics.specs.World.{IsBetween, Environment, Reaches, begins as
 use Rattle.aom_transcript.specs.declared.line.Line.{Line}
 use Rattle.aom_transcript.specs.declared.line.Ending.{Ending}
 use Rattle.aom_transcript.specs.Text.{text_of}
-use Rattle.aom_lines.specs.LineBuffer.{LineBuffer}
+use Rattle.aom_machine_state.specs.LineBuffer.{LineBuffer}
 use Rattle.aom_machine_state.specs.declared.progress.Progress.{Progress}
 use Rattle.aom_machine_state.specs.declared.progress.Progress.TheVariants.{Ended, Running, Turned}
 use Rattle.aom_machine_state.specs.Progress.{progress_by, progress_of}

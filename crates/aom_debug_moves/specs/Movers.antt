@@ -1,6 +1,6 @@
 -- A machine that moves under a script.
 use Rattle.std.specs.Prelude.{◌≡◌, ◌≤◌, ◌+◌, ◌-◌, ◌^◌, ℕ, Bool, true, List, [], Option, Some, None}
-use Rattle.aom_lines.specs.LineBuffer.{step_lines}
+use Rattle.aom_machine_state.specs.LineBuffer.{step_lines}
 use Rattle.aom_machine_state.specs.declared.progress.Progress.{Progress}
 use Rattle.aom_script.specs.Script.{IsTimely}
 use Rattle.aom_semantics.specs.World.{Environment}

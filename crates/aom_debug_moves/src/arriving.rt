@@ -1,7 +1,7 @@
 //! What comes between dispatches, whose lines go out.
 ghost use Rattle.std.specs.Prelude.{◌≡◌, ◌≢◌, IfSome, Option};
 ghost use Rattle.aom_machine.specs.Steps.{progress};
-ghost use Rattle.aom_lines.specs.LineBuffer.{LineBuffer as TurnRecord};
+ghost use Rattle.aom_machine_state.specs.LineBuffer.{LineBuffer as TurnRecord};
 ghost use Rattle.aom_machine_state.specs.declared.progress.Progress.TheVariants.{Turned};
 ghost use Rattle.aom_natives.specs.Slots.{AllAgree};
 ghost use Rattle.aom_semantics.specs.World.{Reaches};

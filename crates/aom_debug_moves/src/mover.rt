@@ -1,6 +1,6 @@
 //! A machine that moves under a script.
 use aom_debug_words::Recent;
-use aom_lines::LineBuffer;
+use aom_machine_state::LineBuffer;
 use aom_run::Machine;
 use aom_script::Script;
 use aom_transcript::Page;

@@ -11,9 +11,9 @@ use Rattle.std.proofs.lemmas.Option.{get_or_from_slice_get, slice_get_within}
 use Rattle.aom_image.specs.Image.{Image}
 use Rattle.aom_cells.specs.Heap.{class_at}
 use Rattle.aom_clients.specs.Clients.{queue_at}
-use Rattle.aom_requests.specs.Requests.{IsEnlisted, is_server as is_served, request_at, state_at, state_of, status_at, status_of}
-use Rattle.aom_requests.specs.declared.request.State.{State as Machine_state}
-use Rattle.aom_requests.specs.declared.request.Request.{Request as Machine_request}
+use Rattle.aom_scheduler.specs.Requests.{IsEnlisted, is_server as is_served, request_at, state_at, state_of, status_at, status_of}
+use Rattle.aom_scheduler.specs.declared.request.State.{State as Machine_state}
+use Rattle.aom_scheduler.specs.declared.request.Request.{Request as Machine_request}
 use Rattle.aom_scheduler.specs.declared.entry.Entry.{Entry}
 use Rattle.aom_active.specs.Agrees.{GoesBefore, HasPriority, Tells as Tells_request, phase_of, queue_in, queued}
 use Rattle.aom_scheduler.proofs.Items.{IsAt, at_head, in_tail, pairs-head, pairs-nil, pairs-tail, place-at, some_is}

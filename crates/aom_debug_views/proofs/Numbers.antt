@@ -4,8 +4,8 @@ use Rattle.std.proofs.Common.{◌≡◌, ◌≤◌, ℕ, Bool, cond, List, [], �
 use Rattle.std.proofs.lemmas.Bool.{ne_eqb}
 use Rattle.aom_cells.specs.Heap.{cell_at, class_of, null}
 use Rattle.aom_cells.specs.declared.cell.Cell.{Cell as Machine_cell}
-use Rattle.aom_cleanup.specs.Items.{entry_in}
-use Rattle.aom_cleanup.specs.declared.item.Item.{Item as Machine_item}
+use Rattle.aom_frames.specs.Items.{entry_in}
+use Rattle.aom_frames.specs.declared.item.Item.{Item as Machine_item}
 use Rattle.aom_image.specs.Image.{Image}
 use Rattle.aom_semantics.specs.Places.{Place}
 use Rattle.aom_semantics.specs.State.{State}

@@ -30,7 +30,7 @@ use Rattle.aom_debug_views.specs.Owners.{further, generations, goings_map, grown
 use Rattle.aom_debug_views.specs.Sights.{counted}
 use Rattle.aom_debug_views.specs.Telling.{gathered}
 use Rattle.aom_cells.specs.Heap.{field_of, null}
-use Rattle.aom_cleanup.specs.declared.item.Item.{Item as Machine_item}
+use Rattle.aom_frames.specs.declared.item.Item.{Item as Machine_item}
 use Rattle.aom_frames.specs.declared.task.Task.{Task as Machine_task}
 use Rattle.aom_frames.specs.declared.task.Task.TheVariants.{Run as Runs_frame}
 use Rattle.aom_machine_instructions.proofs.Running.{not_null}
@@ -39,7 +39,7 @@ use Rattle.std.proofs.lemmas.List.{get_or_past}
 use Rattle.aom_debug_views.proofs.Showing.{as_many_items, entry_there, owned_over}
 use Rattle.aom_debug_views.proofs.Tasks.{as_many_tasks, frame_there, going_over, going_there, register_over, register_there}
 use Rattle.aom_debug_views.proofs.Sums.{bit, sum_add, sum_none, sum_of, sum_of_add, sum_of_none, sum_of_one, sum_of_same, sum_one, sum_same, sum_to}
-use Rattle.aom_queues.specs.Lists.{IsIn, IsOnce}
+use Rattle.aom_clients.specs.Lists.{IsIn, IsOnce}
 use Rattle.std.specs.List.{flat_map}
 use Rattle.aom_roles.specs.Things.{is_object}
 

@@ -8,9 +8,9 @@ use Rattle.aom_image.specs.Image.{Image}
 use Rattle.aom_cells.specs.Heap.{Heap, cell_at, class_at, null}
 use Rattle.aom_cells.specs.Heap.{class_of as class_of_cell}
 use Rattle.aom_cells.specs.declared.cell.Cell.{Cell as Machine_cell}
-use Rattle.aom_cleanup.specs.Items.{entry_in, owned_by}
-use Rattle.aom_cleanup.specs.declared.item.Item.{Item as Machine_item}
-use Rattle.aom_cleanup.specs.declared.item.Item.TheVariants.{Object as Holds_object}
+use Rattle.aom_frames.specs.Items.{entry_in, owned_by}
+use Rattle.aom_frames.specs.declared.item.Item.{Item as Machine_item}
+use Rattle.aom_frames.specs.declared.item.Item.TheVariants.{Object as Holds_object}
 use Rattle.aom_semantics.specs.Owned.{over}
 use Rattle.aom_semantics.specs.Places.{Cell, Entry, Object, Place, held, named}
 use Rattle.aom_semantics.specs.State.{Item, State}

@@ -1,6 +1,6 @@
 -- Sums over the first numbers, and over a list.
 use Rattle.std.proofs.Common.{◌≡◌, ◌<◌, ℕ, zero, suc, ◌+◌, Bool, false, cond, ◌==◌, List, [], ◌∷◌, inl, inr, refl, arith}
-use Rattle.aom_queues.specs.Lists.{IsIn, IsOnce}
+use Rattle.aom_clients.specs.Lists.{IsIn, IsOnce}
 
 abbrev pub sum_to : (ℕ → ℕ) → ℕ → ℕ
 sum_to f zero = 0

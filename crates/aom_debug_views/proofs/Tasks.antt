@@ -16,7 +16,7 @@ use Rattle.aom_semantics.specs.Owned.{over}
 use Rattle.aom_semantics.specs.Places.{Elsewhere, Entry, Going, In_service, Object, Register, Root, held}
 use Rattle.aom_semantics.specs.State.{Frame, Run, State, Task}
 use Rattle.aom_machine_state.specs.declared.parts.Parts.{Parts}
-use Rattle.aom_cleanup.specs.Items.{entry_in}
+use Rattle.aom_frames.specs.Items.{entry_in}
 use Rattle.aom_machine_state.specs.Agrees.{SameFrame, SameTask, SameTasks, number, word_in, word_of}
 use Rattle.aom_machine_state.specs.Agrees.{Represents as Machine_shows}
 use Rattle.aom_machine_state.specs.Places.{going_in, going_of, register_in, value}

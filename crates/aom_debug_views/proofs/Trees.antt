@@ -28,7 +28,7 @@ use Rattle.aom_machine_state.specs.Places.{session_with}
 use Rattle.aom_machine_state.specs.Serving.{holds, is_taken, message_name, sent_by}
 use Rattle.aom_machine_state.specs.Stands.{Machine, StandsFor}
 use Rattle.aom_machine_state.specs.Tokens.{class_in as class_of_token}
-use Rattle.aom_tokens.specs.Tokens.{class_at as token_class}
+use Rattle.aom_cells.specs.Tokens.{class_at as token_class}
 use Rattle.aom_debug_names.specs.Names.{Names, class_by}
 use Rattle.aom_debug_names.specs.Answers.{hearer_by}
 use Rattle.aom_debug_words.specs.declared.answer.Source.{Source}

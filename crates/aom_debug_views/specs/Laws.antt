@@ -1,7 +1,7 @@
 -- The laws of the map of owners and of the order of choice.
 use Rattle.std.specs.Prelude.{◌≡◌, ℕ, suc, Bool, false, not, cond, ◌==◌, List, [], ◌∷◌, Option, None, Some}
 use Rattle.aom_clients.specs.Clients.{sessions_at}
-use Rattle.aom_queues.specs.Lists.{IsOnce}
+use Rattle.aom_clients.specs.Lists.{IsOnce}
 use Rattle.aom_machine_state.specs.declared.parts.Parts.{Parts}
 use Rattle.aom_semantics.specs.Places.{Cell, Object, Place as Owner, named}
 use Rattle.aom_machine_state.specs.Serving.{owner_of, waits_in}

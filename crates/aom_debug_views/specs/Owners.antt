@@ -7,8 +7,8 @@ use Rattle.aom_cells.specs.Heap.{null}
 use Rattle.aom_clients.specs.Clients.{place_at}
 use Rattle.aom_clients.specs.declared.place.Place.{Place as Message_place}
 use Rattle.aom_clients.specs.declared.place.Place.TheVariants.{Discarded, Free, Held, Queued}
-use Rattle.aom_cleanup.specs.declared.item.Item.{Item as Machine_item}
-use Rattle.aom_cleanup.specs.declared.item.Item.TheVariants.{Object as Holds_object, Operation as Holds_operation, Mark as Is_mark}
+use Rattle.aom_frames.specs.declared.item.Item.{Item as Machine_item}
+use Rattle.aom_frames.specs.declared.item.Item.TheVariants.{Object as Holds_object, Operation as Holds_operation, Mark as Is_mark}
 use Rattle.aom_frames.specs.declared.frame.Frame.{Frame as Machine_frame}
 use Rattle.aom_frames.specs.declared.task.Task.{Task as Machine_task}
 use Rattle.aom_frames.specs.declared.task.Task.TheVariants.{Run as Runs_frame, Destroy as Destroys}
@@ -21,7 +21,7 @@ use Rattle.aom_semantics.specs.Owned.{over}
 use Rattle.aom_semantics.specs.Places.{Cell, Elsewhere, Entry, Field, Going, In_service, Object, Place, Register, Root, Sender, Service, Session, Token, held, service_of}
 use Rattle.aom_semantics.specs.State.{A_mark, An_object, An_operation, Destroy, Item, Run, State, Task}
 use Rattle.aom_machine_state.specs.declared.parts.Parts.{Parts}
-use Rattle.aom_tokens.specs.Tokens.{class_at}
+use Rattle.aom_cells.specs.Tokens.{class_at}
 use Rattle.aom_debug_names.specs.Names.{Names, class_by}
 use Rattle.aom_debug_names.specs.Answers.{hearer_by}
 use Rattle.aom_debug_words.specs.declared.answer.Source.{Source}

@@ -7,8 +7,8 @@ use Rattle.aom_image.specs.Image.{Image}
 use Rattle.aom_image.specs.declared.method.Thing.{Thing}
 use Rattle.aom_image.specs.declared.method.Thing.TheVariants.{Object as An_object_of, Message}
 use Rattle.aom_cells.specs.Heap.{Heap, class_at}
-use Rattle.aom_cleanup.specs.declared.item.Item.{Item as Machine_item}
-use Rattle.aom_cleanup.specs.declared.item.Item.TheVariants.{Object as Holds_object, Operation as Holds_operation, Mark as Is_mark}
+use Rattle.aom_frames.specs.declared.item.Item.{Item as Machine_item}
+use Rattle.aom_frames.specs.declared.item.Item.TheVariants.{Object as Holds_object, Operation as Holds_operation, Mark as Is_mark}
 use Rattle.aom_semantics.specs.Owned.{over}
 use Rattle.aom_semantics.specs.Places.{Cell, Entry, Object, count_cells, held}
 use Rattle.aom_semantics.specs.State.{A_mark, An_object, An_operation, Item, State}

@@ -12,7 +12,7 @@ use crate::sending::tell_any_by;
 use aom_debug_names::Names;
 use aom_debug_words::{Answer, DebugFault, Phase};
 use aom_machine_state::Parts;
-use aom_requests::State;
+use aom_scheduler::State;
 use aom_run::Sink;
 use aom_scheduler::Entry;
 

@@ -1,7 +1,7 @@
 //! What a place owns, as a value.
 ghost use Rattle.std.specs.Prelude.{◌≡◌, ◌<◌, cond, slice_index_or};
 ghost use Rattle.aom_cells.specs.Heap.{field_at, null};
-ghost use Rattle.aom_cleanup.specs.Items.{entry_in};
+ghost use Rattle.aom_frames.specs.Items.{entry_in};
 ghost use Rattle.aom_clients.specs.Clients.{client_at};
 ghost use Rattle.aom_machine.specs.Agreement.{AgreesInAll};
 ghost use Rattle.aom_image.specs.Image.{Image};

@@ -1,7 +1,7 @@
 //! The map of owners.
 ghost use Rattle.std.specs.Prelude.{◌≡◌, ℕ, ◌<◌, ◌≤◌, IfErr, IfOk, cond, length, slice_index_or};
 ghost use Rattle.aom_cells.specs.Heap.{null};
-ghost use Rattle.aom_cleanup.specs.Items.{entry_in, owned_by};
+ghost use Rattle.aom_frames.specs.Items.{entry_in, owned_by};
 ghost use Rattle.aom_machine.specs.Agreement.{AgreesInAll};
 ghost use Rattle.aom_image.specs.Image.{Image};
 ghost use Rattle.aom_machine_state.specs.Places.{going_in, going_of};
@@ -19,7 +19,7 @@ use crate::tree::tell_place;
 use crate::way;
 use aom_budget::Accepted;
 use aom_cells::NULL;
-use aom_cleanup::Item;
+use aom_frames::Item;
 use aom_debug_names::Names;
 use aom_debug_words::DebugFault;
 use aom_frames::{Frame, Task};

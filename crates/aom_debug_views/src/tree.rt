@@ -5,7 +5,7 @@ ghost use Rattle.aom_clients.specs.Clients.{client_after, client_at, first_clien
 ghost use Rattle.aom_image.specs.Image.{Image};
 ghost use Rattle.aom_machine_state.specs.Places.{session_with};
 ghost use Rattle.aom_machine_state.specs.Stands.{Stands};
-ghost use Rattle.aom_queues.specs.Lists.{IsIn};
+ghost use Rattle.aom_clients.specs.Lists.{IsIn};
 ghost use Rattle.aom_run.specs.Runs.{after};
 ghost use Rattle.aom_semantics.specs.Places.{Place as PlaceOf, held};
 ghost use Rattle.aom_transcript.specs.Text.{ended};
@@ -21,7 +21,7 @@ use aom_clients::{Client, NO_CELL, Place};
 use aom_debug_names::Names;
 use aom_debug_words::{DebugFault, Source};
 use aom_machine_state::Parts;
-use aom_messages::MessageId;
+use aom_cells::MessageId;
 use aom_run::Sink;
 
 /// How many generations may hang from a place: an object that another owns is of a lower class, and a message owns nothing.

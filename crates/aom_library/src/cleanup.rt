@@ -1,3 +1,3 @@
 //! The cleanup stack.
 
-pub use aom_cleanup::{Cleanup, Item};
+pub use aom_frames::{Cleanup, Item};

@@ -1,3 +1,3 @@
 //! The bounded store of messages.
 
-pub use aom_messages::{MessageId, Messages};
+pub use aom_cells::{MessageId, Messages};

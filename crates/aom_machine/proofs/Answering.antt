@@ -20,7 +20,7 @@ use Rattle.aom_image.specs.declared.class.ClassKind.{ClassKind}
 use Rattle.aom_image.specs.declared.method.Thing.{Thing}
 use Rattle.aom_image.specs.declared.method.Thing.TheVariants.{Message as A_message, Object as An_object_of}
 use Rattle.aom_roles.specs.Things.{is_object}
-use Rattle.aom_messages.specs.Store.{count}
+use Rattle.aom_cells.specs.Store.{count}
 use Rattle.aom_machine_state.proofs.Messages.{many_without, messages_in}
 use Rattle.aom_machine_state.proofs.Premises.{waiting_there}
 use Rattle.aom_machine_state.specs.Serving.{asked_by}

@@ -6,13 +6,13 @@ use Rattle.std.specs.Int.{w32, cast_signed, cast_unsigned}
 use Rattle.std.proofs.lemmas.Bool.{cases_lt, eqb-true, le-ltb, lt-ltb}
 use Rattle.std.proofs.lemmas.List.{length-set}
 use Rattle.aom_cells.specs.Heap.{null}
-use Rattle.aom_cleanup.specs.declared.item.Item.TheVariants.{Mark as Is_mark}
+use Rattle.aom_frames.specs.declared.item.Item.TheVariants.{Mark as Is_mark}
 use Rattle.aom_frames.specs.declared.dispatch.Dispatch.{Dispatch as Machine_dispatch}
 use Rattle.aom_frames.specs.declared.frame.Frame.{Frame as Machine_frame}
 use Rattle.aom_frames.specs.declared.task.Task.{Task as Machine_task}
 use Rattle.aom_frames.specs.declared.task.Task.TheVariants.{Dispatched as Ends, Run as Runs_frame, Trapped as Is_trap}
 use Rattle.aom_image.specs.Image.{Image}
-use Rattle.aom_messages.specs.Store.{Store, word_at as message_word}
+use Rattle.aom_cells.specs.Store.{Store, word_at as message_word}
 use Rattle.aom_roles.specs.Tables.{at}
 use Rattle.aom_semantics.specs.Places.{Cell, Elsewhere, Entry, Field, Going, Place, Register, held, word_field}
 use Rattle.aom_semantics.specs.State.{A_mark, Dispatch, Dispatched, Frame, Run, State, Task, Trapped, word}

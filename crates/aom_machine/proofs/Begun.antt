@@ -18,8 +18,8 @@ use Rattle.aom_frames.specs.declared.dispatch.Subject.{Subject}
 use Rattle.aom_image.specs.Image.{Image}
 use Rattle.aom_image.specs.declared.method.Role.TheVariants.{Accept as Accepts_role, Service as Attends_role}
 use Rattle.aom_image.specs.declared.method.Thing.TheVariants.{Object as An_object_of}
-use Rattle.aom_lines.specs.LineBuffer.{LineBuffer}
-use Rattle.aom_messages.specs.Store.{Store, word_at}
+use Rattle.aom_machine_state.specs.LineBuffer.{LineBuffer}
+use Rattle.aom_cells.specs.Store.{Store, word_at}
 use Rattle.aom_roles.specs.Tables.{at}
 use Rattle.aom_shape.specs.declared.kind.Kind.TheVariants.{Null}
 use Rattle.aom_safety.proofs.ClientsTurn.{first_sent, fit_moved, fit_taken, tasks_begun}

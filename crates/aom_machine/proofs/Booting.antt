@@ -6,7 +6,7 @@ use Rattle.aom_classes.specs.Linked.{IsLinked}
 use Rattle.aom_classes.specs.Roles.{main_of}
 use Rattle.aom_cells.specs.Heap.{Heap, null, cell_at, word_of, count}
 use Rattle.aom_cells.specs.declared.cell.Cell.{Cell as Machine_cell}
-use Rattle.aom_cleanup.specs.Items.{Stack as Machine_items}
+use Rattle.aom_frames.specs.Items.{Stack as Machine_items}
 use Rattle.aom_frames.specs.Tasks.{fresh}
 use Rattle.aom_frames.specs.declared.task.Task.TheVariants.{Run as Runs_frame, Trapped as Is_trap, Dispatched as Ends}
 use Rattle.aom_frames.specs.declared.dispatch.Dispatch.TheVariants.{Main}
@@ -39,7 +39,7 @@ use Rattle.aom_machine_instructions.proofs.Rooms.{boot_room}
 use Rattle.aom_machine_instructions.proofs.Running.{begun_frame, begun_registers}
 use Rattle.aom_machine.proofs.Waiting.{none_waits}
 use Rattle.aom_machine_state.specs.Stands.{Sound, StandsFor}
-use Rattle.aom_native_sessions.specs.Sessions.{Standing, is_open}
+use Rattle.aom_cells.specs.Sessions.{Standing, is_open}
 use Rattle.aom_machine_state.proofs.CellWords.{all_same}
 use Rattle.std.proofs.lemmas.List.{length-replicate}
 

@@ -13,7 +13,7 @@ use Rattle.aom_clients.specs.declared.client.Client.TheVariants.{Unconnected}
 use Rattle.aom_clients.specs.declared.place.Place.TheVariants.{Free}
 use Rattle.aom_clients.specs.declared.refusal.Refusal.{Refusal}
 use Rattle.aom_image.specs.Image.{Image}
-use Rattle.aom_messages.specs.Store.{Store, message_at}
+use Rattle.aom_cells.specs.Store.{Store, message_at}
 use Rattle.aom_roles.specs.Shapes.{kind_of}
 use Rattle.aom_semantics.specs.Clients.{Listed, asked_server, client_at, commanded, count_messages, most_of, refusal}
 use Rattle.aom_semantics.specs.Lines.{refusal_line}
@@ -26,7 +26,7 @@ use Rattle.aom_transcript.specs.declared.event.Command.{Command}
 use Rattle.aom_transcript.specs.declared.event.Command.TheVariants.{Close, Connect, Die, Send}
 use Rattle.aom_transcript.specs.declared.line.Line.{Line}
 use Rattle.aom_transcript.specs.declared.line.Line.TheVariants.{Refuse}
-use Rattle.aom_lines.specs.LineBuffer.{LineBuffer}
+use Rattle.aom_machine_state.specs.LineBuffer.{LineBuffer}
 use Rattle.aom_machine_state.proofs.Commanding.{connect_refused, found_server, same_close, same_connect, same_die, same_send, send_refused}
 use Rattle.aom_machine_state.proofs.Leaving.{freed_kept, freed_once, messages_withdrawn}
 use Rattle.aom_machine_state.proofs.Listing.{first_asked}

@@ -25,7 +25,7 @@ use Rattle.aom_image.specs.declared.method.Role.TheVariants.{Accept as Accepts_r
 use Rattle.aom_image.specs.declared.method.Thing.{Thing}
 use Rattle.aom_image.specs.declared.method.Thing.TheVariants.{Message as A_message, Object as An_object_of}
 use Rattle.aom_roles.specs.Things.{is_object}
-use Rattle.aom_messages.specs.Store.{word_at as message_word}
+use Rattle.aom_cells.specs.Store.{word_at as message_word}
 use Rattle.aom_semantics.proofs.Maps.{held_lives, held_moved, named_moved, requested_moved}
 use Rattle.aom_safety.proofs.Services.{held_served, service_moved, service_there}
 use Rattle.aom_safety.proofs.Signals.{at_rest}

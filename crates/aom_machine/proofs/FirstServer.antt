@@ -14,7 +14,7 @@ use Rattle.aom_image.specs.declared.class.ClassKind.TheVariants.{Active, Plain, 
 use Rattle.aom_image.specs.declared.method.Thing.{Thing}
 use Rattle.aom_image.specs.declared.method.Thing.TheVariants.{Message, Object as An_object_of}
 use Rattle.aom_roles.specs.Things.{is_object}
-use Rattle.aom_queues.specs.Lists.{first_of, list_at}
+use Rattle.aom_clients.specs.Lists.{first_of, list_at}
 use Rattle.aom_machine_instructions.proofs.RequestActs.{kind_found}
 use Rattle.aom_roles.specs.Classes.{kind_in, sessions_in, sessions_of}
 use Rattle.aom_roles.specs.Shapes.{kind_of}

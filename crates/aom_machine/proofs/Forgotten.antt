@@ -3,7 +3,7 @@ use Rattle.std.proofs.lemmas.Bool.Decides.{nat_tests}
 use Rattle.std.proofs.Common.{ap, arith, Bool, false, length, List, None, refl, subst, suc, sym, true, ℕ, zero, ◌+◌, ◌<◌, ◌==◌, ◌∙◌, ◌∷◌, ◌≡◌, drop, slice_index_or, take, []}
 use Rattle.std.specs.Prelude.{is_some, ◌||◌}
 use Rattle.std.proofs.lemmas.Bool.{eq-eqb, eqb-true, false≢true}
-use Rattle.aom_messages.specs.Store.{Changes, IsKept, Store, count, message_at}
+use Rattle.aom_cells.specs.Store.{Changes, IsKept, Store, count, message_at}
 use Rattle.aom_semantics.specs.Servers.{is_among}
 use Rattle.aom_machine.specs.Clients.{AreKept, Forgets}
 

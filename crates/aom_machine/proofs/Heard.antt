@@ -8,9 +8,9 @@ use Rattle.aom_clients.specs.Table.{code_of}
 use Rattle.aom_clients.specs.declared.refusal.Refusal.{Refusal}
 use Rattle.aom_clients.specs.declared.server.Server.{Server}
 use Rattle.aom_image.specs.Image.{Image}
-use Rattle.aom_lines.specs.LineBuffer.{LineBuffer}
-use Rattle.aom_messages.specs.Store.{Store}
-use Rattle.aom_requests.specs.Requests.{is_server, request_at}
+use Rattle.aom_machine_state.specs.LineBuffer.{LineBuffer}
+use Rattle.aom_cells.specs.Store.{Store}
+use Rattle.aom_scheduler.specs.Requests.{is_server, request_at}
 use Rattle.aom_semantics.specs.Places.{requested}
 use Rattle.aom_semantics.specs.State.{State}
 use Rattle.aom_transcript.specs.declared.event.Command.{Command}

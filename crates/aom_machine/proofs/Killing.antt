@@ -8,14 +8,14 @@ use Rattle.std.specs.Prelude.{option_map}
 use Rattle.aom_image.specs.Image.{Image}
 use Rattle.aom_roles.specs.Things.{is_object}
 use Rattle.aom_cells.specs.Heap.{Heap, Lives, class_at}
-use Rattle.aom_lines.specs.LineBuffer.{LineBuffer}
+use Rattle.aom_machine_state.specs.LineBuffer.{LineBuffer}
 use Rattle.aom_active.proofs.Cells.{asked_lives}
 use Rattle.aom_active.proofs.Asking.{queued_same}
 use Rattle.aom_active.proofs.Telling.{standing_follows}
 use Rattle.aom_active.specs.Agrees.{Active, StandsFor as Asks_for, queued, timer_in}
 use Rattle.aom_active.specs.Meanings.{Makes, asked_anew}
 use Rattle.aom_determinism.specs.Owed.{serves}
-use Rattle.aom_native_sessions.specs.Sessions.{Sets, Standing, is_open}
+use Rattle.aom_cells.specs.Sessions.{Sets, Standing, is_open}
 use Rattle.aom_roles.specs.Tables.{at}
 use Rattle.aom_safety.proofs.ClientsTurn.{fit_same, same_bereaved}
 use Rattle.aom_safety.proofs.Counts.{count_bereaved}
@@ -27,7 +27,7 @@ use Rattle.aom_semantics.specs.Natives.{all_bereaved, bereaved, is_owed, termina
 use Rattle.aom_semantics.specs.Places.{Cell, Request, in_session, named, requested, word_field}
 use Rattle.aom_semantics.specs.State.{Counters, State}
 use Rattle.aom_semantics.specs.Tokens.{awaited}
-use Rattle.aom_tokens.specs.Tokens.{Kept as Kept_tokens}
+use Rattle.aom_cells.specs.Tokens.{Kept as Kept_tokens}
 use Rattle.aom_semantics.specs.World.{Kills, heard_one, without_native}
 use Rattle.aom_progress.specs.Left.{is_entry}
 use Rattle.aom_progress.proofs.Pushed.{reset_same}
@@ -43,8 +43,8 @@ use Rattle.aom_machine.specs.Turns.{Takes}
 use Rattle.aom_machine.proofs.Served.{class_told, coded, message_silent, unserved_message, untimed, untold}
 use Rattle.aom_clients.specs.Clients.{State as Kept_state}
 use Rattle.aom_clients.specs.declared.client.Client.{Client}
-use Rattle.aom_messages.specs.Store.{Store}
-use Rattle.aom_queues.specs.Lists.{Table}
+use Rattle.aom_cells.specs.Store.{Store}
+use Rattle.aom_clients.specs.Lists.{Table}
 use Rattle.aom_semantics.specs.Clients.{count_messages}
 use Rattle.aom_machine_state.specs.Messages.{is_a_message}
 use Rattle.aom_machine_state.specs.Services.{SameServices}

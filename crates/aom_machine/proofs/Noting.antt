@@ -9,7 +9,7 @@ use Rattle.aom_active.specs.Meanings.{queued_anew}
 use Rattle.aom_clients.specs.Clients as kept
 use Rattle.aom_clients.specs.declared.client.Client.{Client}
 use Rattle.aom_image.specs.Image.{Image}
-use Rattle.aom_requests.specs.Requests.{is_server as is_kept_server, request_at}
+use Rattle.aom_scheduler.specs.Requests.{is_server as is_kept_server, request_at}
 use Rattle.aom_semantics.specs.Places.{Cell, Object, Request, Service, named, requested, service_of}
 use Rattle.aom_semantics.specs.Servers.{has_more}
 use Rattle.aom_machine_state.proofs.Beside.{Beside, NamedBeside}

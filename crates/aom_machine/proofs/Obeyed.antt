@@ -7,7 +7,7 @@ use Rattle.aom_active.specs.Agrees.{Active}
 use Rattle.aom_clients.specs.Clients as kept
 use Rattle.aom_image.specs.Image.{Image}
 use Rattle.aom_image.specs.declared.method.Thing.TheVariants.{Message}
-use Rattle.aom_messages.specs.Store.{Store}
+use Rattle.aom_cells.specs.Store.{Store}
 use Rattle.aom_safety.proofs.ClientsCommand.{fit_commanded}
 use Rattle.aom_safety.proofs.ClientsFacts.{waiting_well}
 use Rattle.aom_safety.proofs.Obeying.{commanded_well}

@@ -9,7 +9,7 @@ use Rattle.aom_clients.specs.declared.client.Client.{Client}
 use Rattle.aom_clients.specs.declared.client.Client.TheVariants.{Open, Unconnected}
 use Rattle.aom_clients.specs.declared.refusal.Refusal.{Refusal}
 use Rattle.aom_image.specs.Image.{Image}
-use Rattle.aom_messages.specs.Store.{Store, word_of, message_at}
+use Rattle.aom_cells.specs.Store.{Store, word_of, message_at}
 use Rattle.aom_roles.specs.Tables.{at}
 use Rattle.aom_semantics.specs.Clients.{client_at, commanded, leaving, refusal, room, sending}
 use Rattle.aom_semantics.specs.Places.{Cell, Message_of, named}

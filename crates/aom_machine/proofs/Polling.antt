@@ -5,8 +5,8 @@ use Rattle.std.specs.Prelude.{◌&&◌, IfSome, IsTrue, is_some}
 use Rattle.std.proofs.lemmas.Bool.{and_parts}
 use Rattle.aom_image.specs.Image.{Image}
 use Rattle.aom_cells.specs.Heap.{Lives}
-use Rattle.aom_lines.specs.LineBuffer.{LineBuffer}
-use Rattle.aom_requests.specs.Requests.{is_pending, request_at}
+use Rattle.aom_machine_state.specs.LineBuffer.{LineBuffer}
+use Rattle.aom_scheduler.specs.Requests.{is_pending, request_at}
 use Rattle.aom_active.proofs.Halves.{timer_anew}
 use Rattle.aom_active.specs.Agrees.{Active, queued, timer_in}
 use Rattle.aom_active.specs.Meanings.{Makes}

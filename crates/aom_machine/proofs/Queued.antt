@@ -21,7 +21,7 @@ use Rattle.aom_image.specs.declared.method.Role.TheVariants.{Accept as Accepts_r
 use Rattle.aom_image.specs.declared.method.Thing.{Thing}
 use Rattle.aom_image.specs.declared.method.Thing.TheVariants.{Object as An_object_of}
 use Rattle.aom_roles.specs.Things.{is_object}
-use Rattle.aom_messages.specs.Store.{IsKept}
+use Rattle.aom_cells.specs.Store.{IsKept}
 use Rattle.aom_semantics.proofs.Maps.{held_lives}
 use Rattle.aom_safety.proofs.Signals.{at_rest}
 use Rattle.aom_safety.specs.Claims.{items_of}

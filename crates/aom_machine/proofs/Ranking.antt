@@ -13,7 +13,7 @@ use Rattle.aom_safety.specs.WellTyped.{WellTyped}
 use Rattle.aom_frames.specs.declared.frame.Frame.{Frame as Machine_frame}
 use Rattle.aom_frames.specs.declared.task.Task.{Task as Machine_task}
 use Rattle.aom_frames.specs.declared.task.Task.TheVariants.{Trapped as Is_trap, Closing as Closes, Destroy as Destroys, Unwind as Unwinds, Dispatched as Ends}
-use Rattle.aom_cleanup.specs.declared.item.Item.{Item as Machine_item}
+use Rattle.aom_frames.specs.declared.item.Item.{Item as Machine_item}
 use Rattle.aom_progress.specs.Worths.{over_worth}
 use Rattle.aom_progress.specs.Ranks.{closing_rank, price, rank_worths, left_in, end_rank, waiting_rank, tasks_rank, destructions, operations, rank}
 use Rattle.aom_progress.proofs.Goings.{cells_stand_or_go}

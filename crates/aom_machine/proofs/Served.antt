@@ -11,7 +11,7 @@ use Rattle.aom_roles.specs.Things.{is_object}
 use Rattle.aom_roles.specs.Shapes.{kind_of}
 use Rattle.aom_semantics.proofs.Maps.{named_name}
 use Rattle.aom_cells.specs.Heap.{class_at}
-use Rattle.aom_requests.specs.Requests.{request_at}
+use Rattle.aom_scheduler.specs.Requests.{request_at}
 use Rattle.aom_active.specs.Agrees.{timer_in}
 use Rattle.aom_determinism.proofs.Cells.{native_served}
 use Rattle.aom_determinism.specs.Owed.{owes, serves}

@@ -5,8 +5,8 @@ use Rattle.std.specs.Prelude.{is_some}
 use Rattle.aom_image.specs.Image.{Image}
 use Rattle.aom_active.specs.Agrees.{Active}
 use Rattle.aom_active.specs.Meanings as meanings
-use Rattle.aom_requests.specs.Requests.{is_server as is_served, request_at}
-use Rattle.aom_lines.specs.LineBuffer.{LineBuffer}
+use Rattle.aom_scheduler.specs.Requests.{is_server as is_served, request_at}
+use Rattle.aom_machine_state.specs.LineBuffer.{LineBuffer}
 use Rattle.aom_safety.proofs.Signals.{signals_are_ready}
 use Rattle.aom_semantics.specs.Places.{named, requested}
 use Rattle.aom_semantics.specs.Servers.{is_server}

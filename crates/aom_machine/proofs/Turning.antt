@@ -14,15 +14,15 @@ use Rattle.aom_rules.specs.Typing.{Typing}
 use Rattle.aom_roles.specs.Tables.{at}
 use Rattle.aom_cells.specs.Heap.{Heap, cell_at, class_at, class_of, null}
 use Rattle.aom_cells.specs.declared.cell.Cell.{Cell as Machine_cell}
-use Rattle.aom_cleanup.specs.declared.item.Item.{Item as Machine_item}
-use Rattle.aom_cleanup.specs.declared.item.Item.TheVariants.{Mark as Is_mark}
+use Rattle.aom_frames.specs.declared.item.Item.{Item as Machine_item}
+use Rattle.aom_frames.specs.declared.item.Item.TheVariants.{Mark as Is_mark}
 use Rattle.aom_frames.specs.Tasks.{fresh}
 use Rattle.aom_frames.specs.declared.dispatch.Dispatch.{Dispatch as Machine_dispatch}
 use Rattle.aom_frames.specs.declared.dispatch.Dispatch.TheVariants.{Object as Of_one}
 use Rattle.aom_frames.specs.declared.dispatch.Subject.{Subject}
 use Rattle.aom_frames.specs.declared.task.Task.{Task as Machine_task}
 use Rattle.aom_frames.specs.declared.task.Task.TheVariants.{Dispatched as Ends, Run as Runs_frame, Trapped as Is_trap}
-use Rattle.aom_lines.specs.LineBuffer.{LineBuffer}
+use Rattle.aom_machine_state.specs.LineBuffer.{LineBuffer}
 use Rattle.aom_transcript.specs.declared.line.Ending.TheVariants.{Limit, Waiting}
 use Rattle.aom_transcript.specs.declared.line.Line.TheVariants.{Run as Run_line}
 use Rattle.aom_active.proofs.Asking.{are_wanted, asked_set, queued_same}
@@ -32,7 +32,7 @@ use Rattle.aom_active.proofs.Telling.{standing_follows, told_server, told_state,
 use Rattle.aom_active.specs.Agrees.{Active, StandsFor as Asks_for, queued, timer_in}
 use Rattle.aom_active.specs.Meanings.{IsFirstDue, IsFirstReady, Makes, asked_anew}
 use Rattle.aom_active.specs.Meanings as meanings
-use Rattle.aom_requests.specs.Requests.{is_server as is_served, request_at}
+use Rattle.aom_scheduler.specs.Requests.{is_server as is_served, request_at}
 use Rattle.aom_safety.proofs.Signals.{at_rest, signals_are_ready}
 use Rattle.aom_safety.proofs.Storing.{Alike, rerequested_alike}
 use Rattle.aom_safety.proofs.ClientsTurn.{fit_same, on_none, same_requested}

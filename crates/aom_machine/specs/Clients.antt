@@ -10,8 +10,8 @@ use Rattle.aom_clients.specs.declared.client.Client.{Client}
 use Rattle.aom_clients.specs.declared.place.Place.TheVariants.{Free}
 use Rattle.aom_clients.specs.declared.server.Server.{Server}
 use Rattle.aom_clients.specs.declared.refusal.Refusal.{Refusal}
-use Rattle.aom_messages.specs.Store.{Changes, IsKept, Store, count, message_at}
-use Rattle.aom_queues.specs.Lists.{Table, first_of, list_at}
+use Rattle.aom_cells.specs.Store.{Changes, IsKept, Store, count, message_at}
+use Rattle.aom_clients.specs.Lists.{Table, first_of, list_at}
 use Rattle.aom_semantics.specs.Clients.{most_of}
 use Rattle.aom_semantics.specs.Places.{named}
 use Rattle.aom_semantics.specs.Servers.{is_among}
@@ -19,7 +19,7 @@ use Rattle.aom_semantics.specs.State.{State as Checked}
 use Rattle.aom_semantics.specs.World.{Obeys}
 use Rattle.aom_transcript.specs.declared.event.Command.{Command}
 use Rattle.aom_transcript.specs.declared.event.Command.TheVariants.{Connect, Send, Close, Die}
-use Rattle.aom_lines.specs.LineBuffer.{LineBuffer}
+use Rattle.aom_machine_state.specs.LineBuffer.{LineBuffer}
 use Rattle.aom_machine_state.specs.Stands.{Machine}
 use Rattle.aom_machine.specs.Turns.{Takes}
 

@@ -6,8 +6,8 @@ use Rattle.aom_machine_state.specs.declared.parts.Parts.{Parts}
 use Rattle.aom_semantics.specs.State.{Static, Task, Run, Trapped, Destroy, Closing, Unwind, Dispatched}
 use Rattle.aom_frames.specs.declared.task.Task.{Task as Machine_task}
 use Rattle.aom_frames.specs.declared.task.Task.TheVariants.{Run as Runs_frame, Trapped as Is_trap, Destroy as Destroys, Closing as Closes, Unwind as Unwinds, Dispatched as Ends}
-use Rattle.aom_cleanup.specs.declared.item.Item.{Item as Machine_item}
-use Rattle.aom_cleanup.specs.declared.item.Item.TheVariants.{Object as Holds_object, Operation as Holds_operation, Mark as Is_mark}
+use Rattle.aom_frames.specs.declared.item.Item.{Item as Machine_item}
+use Rattle.aom_frames.specs.declared.item.Item.TheVariants.{Object as Holds_object, Operation as Holds_operation, Mark as Is_mark}
 use Rattle.aom_progress.specs.Ranks.{tasks_rank, destructions, cell_rank}
 use Rattle.aom_semantics.specs.Places.{Elsewhere, Root}
 use Rattle.aom_machine_state.specs.Agrees.{dispatch_of}

@@ -5,7 +5,7 @@ use Rattle.aom_image.specs.Image.{Image}
 use Rattle.aom_image.specs.declared.method.Role.TheVariants.{Accept as Accepts_role, Service as Attends}
 use Rattle.aom_classes.specs.Roles.{role_of}
 use Rattle.aom_cells.specs.Heap.{class_at}
-use Rattle.aom_requests.specs.Requests.{is_server, request_at}
+use Rattle.aom_scheduler.specs.Requests.{is_server, request_at}
 use Rattle.aom_active.specs.Agrees.{Active}
 use Rattle.aom_active.specs.Meanings.{Asks}
 use Rattle.aom_clients.specs.Clients as clients
@@ -14,7 +14,7 @@ use Rattle.aom_clients.specs.Table.{session_of}
 use Rattle.aom_clients.specs.declared.entry.Entry.{Entry}
 use Rattle.aom_clients.specs.declared.entry.Entry.TheVariants.{Connect, Message, Close}
 use Rattle.aom_clients.specs.declared.entry.Taken.{Taken}
-use Rattle.aom_messages.specs.Store.{IsKept, Store, word_at}
+use Rattle.aom_cells.specs.Store.{IsKept, Store, word_at}
 use Rattle.aom_transcript.specs.declared.line.Asked.{Asked}
 use Rattle.aom_transcript.specs.declared.line.Asked.TheVariants as lines
 use Rattle.aom_transcript.specs.declared.line.Line.TheVariants.{Serve}
@@ -24,7 +24,7 @@ use Rattle.aom_frames.specs.declared.dispatch.Stage.TheVariants.{Accepts, Parts 
 use Rattle.aom_frames.specs.declared.dispatch.Subject.{Subject}
 use Rattle.aom_frames.specs.declared.frame.Frame.{Frame}
 use Rattle.aom_frames.specs.declared.task.Task.TheVariants.{Dispatched}
-use Rattle.aom_lines.specs.LineBuffer.{LineBuffer}
+use Rattle.aom_machine_state.specs.LineBuffer.{LineBuffer}
 use Rattle.aom_machine_state.specs.declared.parts.Parts.{Parts}
 use Rattle.aom_machine_state.specs.Places.{with_tasks}
 use Rattle.aom_machine_state.specs.Serving.{message_name}

@@ -4,18 +4,18 @@ use Rattle.aom_image.specs.Image.{Image}
 use Rattle.aom_image.specs.declared.method.Role.TheVariants.{Run as Handles}
 use Rattle.aom_classes.specs.Roles.{role_of}
 use Rattle.aom_cells.specs.Heap.{class_at}
-use Rattle.aom_requests.specs.Requests.{state_at, status_at}
+use Rattle.aom_scheduler.specs.Requests.{state_at, status_at}
 use Rattle.aom_transcript.specs.declared.line.Line.TheVariants.{Run as Run_line}
 use Rattle.aom_frames.specs.Tasks.{fresh}
 use Rattle.aom_frames.specs.declared.task.Task.TheVariants.{Run, Trapped, Dispatched}
 use Rattle.aom_frames.specs.declared.dispatch.Dispatch.{Dispatch}
 use Rattle.aom_frames.specs.declared.dispatch.Dispatch.TheVariants.{Object as Of_one}
 use Rattle.aom_frames.specs.declared.frame.Frame.{Frame}
-use Rattle.aom_cleanup.specs.declared.item.Item.TheVariants.{Mark}
+use Rattle.aom_frames.specs.declared.item.Item.TheVariants.{Mark}
 use Rattle.aom_semantics.specs.Places.{Cell}
 use Rattle.aom_semantics.specs.State.{Goes, State}
 use Rattle.aom_semantics.specs.World.{Candidate, Completes, Completion, IsBetween, Picks, Timed, Turning, cell_at, first_due, first_ready, has_signal, turned, written_by}
-use Rattle.aom_lines.specs.LineBuffer.{LineBuffer}
+use Rattle.aom_machine_state.specs.LineBuffer.{LineBuffer}
 use Rattle.aom_machine_state.specs.declared.parts.Parts.{Parts}
 use Rattle.aom_machine_state.specs.Stands.{Machine, StandsFor}
 

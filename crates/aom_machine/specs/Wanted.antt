@@ -3,7 +3,7 @@ use Rattle.std.specs.Prelude.{ℕ, ℤ, Bool, ◌&&◌, not, cond, Option, Some,
 use Rattle.std.specs.Int.{w32, cast_signed}
 use Rattle.aom_instructions.specs.declared.instr.Instr.{Instr}
 use Rattle.aom_frames.specs.Tasks.{register_here}
-use Rattle.aom_native_sessions.specs.Sessions.{is_killed, is_open}
+use Rattle.aom_cells.specs.Sessions.{is_killed, is_open}
 use Rattle.aom_semantics.specs.Wanted.{Exchange, Nothing, An_open, A_start, An_ask, A_cancel, A_close, exchange, Wanted, Opens, Starts, Asks, Cancels, Closes}
 use Rattle.aom_machine_state.specs.declared.parts.Parts.{Parts}
 use Rattle.aom_machine.specs.declared.wanted.Wanted.{Wanted as Machine_wanted}

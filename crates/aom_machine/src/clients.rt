@@ -4,7 +4,7 @@ ghost use Rattle.aom_clients.specs.Nodes.{named_by};
 ghost use Rattle.aom_clients.specs.declared.place.Place.TheVariants.{Free};
 ghost use Rattle.aom_machine.specs.Clients.{AreKept, Acts, CanAct, Forgets, IsInRange, Obeyed, Sends, asked_by, first_server, queue_changed};
 ghost use Rattle.aom_machine.specs.Servers.{NotesIf};
-ghost use Rattle.aom_messages.specs.Store.{message_at};
+ghost use Rattle.aom_cells.specs.Store.{message_at};
 ghost use Rattle.aom_machine_state.specs.Progress.{progress_by};
 ghost use Rattle.aom_machine_state.specs.Stands.{Stands, StandsFor};
 ghost use Rattle.aom_machine_state.specs.declared.progress.Progress.TheVariants.{Turned};
@@ -14,10 +14,10 @@ ghost use Rattle.std.specs.Prelude.{◌≡◌, ◌<◌, ◌≤◌, ◌+◌, ◌^
 use crate::servers::note_queue;
 use aom_clients::{Client, Clients, Refusal, Server};
 use aom_image::ClassKind;
-use aom_lines::LineBuffer;
+use aom_machine_state::LineBuffer;
 use aom_linked::Linked;
 use aom_machine_state::Parts;
-use aom_messages::Messages;
+use aom_cells::Messages;
 use aom_transcript::{Command, Line};
 
 /// The server that the client asks or has a session with.

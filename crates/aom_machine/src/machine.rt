@@ -4,14 +4,14 @@
 ghost use Rattle.std.specs.Prelude.{◌≡◌, ◌<◌, ◌≤◌, ◌+◌, ◌++◌, ◌∷◌, ◌^◌, ◌↔◌, ◌⊎◌, [], IfOk, IfSome, IsTrue, Option, false, length, option_map, suc, true};
 ghost use Rattle.aom_cells.specs.Heap.{count};
 ghost use Rattle.aom_semantics.specs.World.{AnswersWell, Completion, Cuts, Hears, Kills, Passes, Polls, Waits, boot_state, due_of, first_due, ready_count, signal_count};
-ghost use Rattle.aom_lines.specs.LineBuffer.{LineBuffer as TurnRecord, step_lines};
+ghost use Rattle.aom_machine_state.specs.LineBuffer.{LineBuffer as TurnRecord, step_lines};
 ghost use Rattle.aom_determinism.specs.Owed.{owes};
 ghost use Rattle.aom_machine.specs.Agreement.{AgreesInAll};
 ghost use Rattle.aom_machine.specs.Clients.{IsInRange, Obeyed};
 ghost use Rattle.aom_machine_state.specs.Stands.{Stands, StandsFor};
 ghost use Rattle.aom_machine.specs.Steps.{StaysIdle, Stepped, SteppedOn, Wants, progress, rank, timers};
 ghost use Rattle.aom_machine.specs.Turns.{Answers, Completed, NoneDue, Picked, Takes, TakesAll};
-ghost use Rattle.aom_native_sessions.specs.Sessions.{is_killed};
+ghost use Rattle.aom_cells.specs.Sessions.{is_killed};
 ghost use Rattle.aom_semantics.specs.State.{Dispatch, Dispatched, State};
 ghost use Rattle.aom_semantics.specs.Wanted.{wanted};
 ghost use Rattle.aom_machine.specs.Wanted.{as_wanted};
@@ -21,7 +21,7 @@ ghost use Rattle.aom_machine_state.specs.declared.progress.Progress.TheVariants.
 use crate::wanted::{self, Wanted};
 use crate::{clients, moves, natives, turns};
 use aom_budget::Accepted;
-use aom_lines::LineBuffer;
+use aom_machine_state::LineBuffer;
 use aom_machine_state::{Counters, Parts, Progress};
 use aom_transcript::Command;
 use std::alloc::{AllocError, Global};

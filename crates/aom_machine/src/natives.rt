@@ -7,8 +7,8 @@ ghost use Rattle.aom_machine.specs.Serving.{Bereaves, Finishes, serves_class};
 ghost use Rattle.aom_machine_state.specs.Stands.{Stands, StandsFor};
 ghost use Rattle.aom_machine.specs.Turns.{Takes};
 ghost use Rattle.aom_machine_state.specs.declared.progress.Progress.TheVariants.{Turned};
-ghost use Rattle.aom_requests.specs.Requests.{is_pending, request_at};
-ghost use Rattle.aom_native_sessions.specs.Sessions.{Sets, is_killed, is_open};
+ghost use Rattle.aom_scheduler.specs.Requests.{is_pending, request_at};
+ghost use Rattle.aom_cells.specs.Sessions.{Sets, is_killed, is_open};
 ghost use Rattle.aom_semantics.specs.Enlisted.{is_unanswered};
 ghost use Rattle.aom_semantics.specs.Natives.{is_owed, terminated_request};
 ghost use Rattle.aom_semantics.specs.Places.{Request};
@@ -18,7 +18,7 @@ ghost use Rattle.std.specs.Prelude.{◌≡◌, ◌<◌, ◌+◌, ◌^◌, ◌&&�
 
 use crate::wanted;
 use aom_cells::CellId;
-use aom_lines::LineBuffer;
+use aom_machine_state::LineBuffer;
 use aom_linked::Linked;
 use aom_machine_instructions::TERMINATED;
 use aom_machine_state::Parts;

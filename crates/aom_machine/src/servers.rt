@@ -3,7 +3,7 @@ ghost use Rattle.aom_classes.specs.Roles.{role_of};
 ghost use Rattle.aom_machine.specs.Servers.{AreRead, Begins, HasCaller, CanTake, HasSession, Notes, ServesFirst, serve_asked, told_words};
 ghost use Rattle.aom_machine.specs.Turns.{IsIdle};
 ghost use Rattle.aom_image.specs.declared.method.Role.TheVariants.{Accept, Service};
-ghost use Rattle.aom_messages.specs.Store.{IsKept};
+ghost use Rattle.aom_cells.specs.Store.{IsKept};
 ghost use Rattle.std.specs.Prelude.{◌≡◌, ◌<◌, ℕ, IsSome, length};
 
 use crate::turns::run_under;
@@ -11,10 +11,10 @@ use aom_cells::CellId;
 use aom_clients::{Entry, Taken};
 use aom_frames::{Dispatch, Frame, Stage, Subject, Task};
 use aom_image::Role;
-use aom_lines::LineBuffer;
+use aom_machine_state::LineBuffer;
 use aom_linked::Linked;
 use aom_machine_state::Parts;
-use aom_messages::{MessageId, Messages};
+use aom_cells::{MessageId, Messages};
 use aom_transcript::{Asked, Line};
 
 /// What waits in a queue, as a line shows it.

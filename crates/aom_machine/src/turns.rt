@@ -10,7 +10,7 @@ use crate::servers;
 use aom_cells::CellId;
 use aom_frames::{Dispatch, Frame, Subject, Task};
 use aom_image::Role;
-use aom_lines::LineBuffer;
+use aom_machine_state::LineBuffer;
 use aom_linked::Linked;
 use aom_machine_state::Parts;
 use aom_transcript::Line;

@@ -11,8 +11,8 @@ use Rattle.aom_semantics.specs.Calls.{below_top}
 use Rattle.aom_safety.specs.Claims.{Dispatching}
 use Rattle.aom_safety.specs.WellTyped.{WellTyped, Good, Fits}
 use Rattle.aom_safety.proofs.Layers.{dispatch_layer}
-use Rattle.aom_cleanup.specs.Items.{Stack as Machine_items, entry_in}
-use Rattle.aom_cleanup.specs.declared.item.Item.TheVariants.{Mark as Is_mark}
+use Rattle.aom_frames.specs.Items.{Stack as Machine_items, entry_in}
+use Rattle.aom_frames.specs.declared.item.Item.TheVariants.{Mark as Is_mark}
 use Rattle.aom_frames.specs.declared.task.Task.TheVariants.{Dispatched as Ends}
 use Rattle.aom_frames.specs.declared.dispatch.Dispatch.{Dispatch as Machine_dispatch}
 use Rattle.aom_machine_state.specs.declared.parts.Parts.{Parts}

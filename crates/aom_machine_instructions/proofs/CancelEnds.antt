@@ -30,7 +30,7 @@ use Rattle.aom_safety.proofs.Layers.{method_layer}
 use Rattle.aom_safety.proofs.Requesting.{active_listed, main_of_none, of_object}
 use Rattle.aom_safety.proofs.Storing.{ended_alike}
 use Rattle.aom_safety.proofs.Straight.{At}
-use Rattle.aom_requests.specs.Requests.{is_pending, request_at}
+use Rattle.aom_scheduler.specs.Requests.{is_pending, request_at}
 use Rattle.aom_active.specs.Agrees.{Active, StandsFor, queued}
 use Rattle.aom_active.specs.Meanings.{asked_anew, is_being_cancelled}
 use Rattle.aom_active.proofs.Telling.{told_cancelling, told_over}

@@ -7,8 +7,8 @@ use Rattle.std.proofs.lemmas.List.{length-set, length-replicate}
 use Rattle.aom_image.specs.Image.{Image}
 use Rattle.aom_instructions.specs.declared.instr.Instr.TheVariants.{PopDelete}
 use Rattle.aom_cells.specs.Heap.{null}
-use Rattle.aom_cleanup.specs.declared.item.Item.{Item as Machine_item}
-use Rattle.aom_cleanup.specs.declared.item.Item.TheVariants.{Object as Holds_object, Operation as Holds_operation}
+use Rattle.aom_frames.specs.declared.item.Item.{Item as Machine_item}
+use Rattle.aom_frames.specs.declared.item.Item.TheVariants.{Object as Holds_object, Operation as Holds_operation}
 use Rattle.aom_rules.specs.Typing.{Typing}
 use Rattle.aom_semantics.specs.Cleanup.{dealt_with as deals_with, destroyed, operation_frame, tops_entry, top_is_whole, top_place}
 use Rattle.aom_semantics.specs.Places.{moved, Place, Register, Entry, Going, Object, changed, held}
@@ -17,7 +17,7 @@ use Rattle.aom_semantics.specs.State.{Static, frame_of, Run, Item, An_object, St
 use Rattle.aom_safety.specs.WellTyped.{WellTyped}
 use Rattle.aom_frames.specs.Tasks.{fresh, with_register}
 use Rattle.aom_frames.specs.declared.task.Task.TheVariants.{Run as Runs_frame}
-use Rattle.aom_cleanup.specs.Items.{IsAboveMark}
+use Rattle.aom_frames.specs.Items.{IsAboveMark}
 use Rattle.aom_machine_instructions.proofs.Housing.{at_hand, needs_met}
 use Rattle.aom_machine_instructions.specs.Next.{IsNext, counting}
 use Rattle.aom_machine_instructions.proofs.Topping.{entry_tops, top_lives}

@@ -19,7 +19,7 @@ use Rattle.aom_semantics.specs.State.{Dispatch, guarded, Home, Inside, Frame, fr
 use Rattle.aom_semantics.specs.Lines.{dispatch_lines}
 use Rattle.aom_semantics.specs.Moves.{needs_end, answered, asked, asking, is_counted, closed, error_frame, failed, main_ends, object_ends, dispatch_ends, step, step_task, written_task}
 use Rattle.aom_safety.specs.WellTyped.{WellTyped}
-use Rattle.aom_lines.specs.LineBuffer.{LineBuffer}
+use Rattle.aom_machine_state.specs.LineBuffer.{LineBuffer}
 use Rattle.aom_frames.specs.Tasks.{below_first, fresh, with_register}
 use Rattle.aom_frames.specs.declared.frame.Frame.{Frame as Machine_frame}
 use Rattle.aom_frames.specs.declared.task.Task.{Task as Machine_task}

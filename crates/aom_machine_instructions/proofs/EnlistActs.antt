@@ -11,7 +11,7 @@ use Rattle.aom_cells.specs.Heap.{class_at}
 use Rattle.aom_image.specs.Image.{Image}
 use Rattle.aom_image.specs.declared.method.Thing.TheVariants.{Object as An_object_of}
 use Rattle.aom_instructions.specs.declared.instr.Instr.TheVariants.{Enlist}
-use Rattle.aom_queues.specs.Lists.{IsFree, IsIn, Table, list_at, with_list}
+use Rattle.aom_clients.specs.Lists.{IsFree, IsIn, Table, list_at, with_list}
 use Rattle.aom_roles.specs.Classes.{sessions_in}
 use Rattle.aom_safety.proofs.Services.{service_asked}
 use Rattle.aom_safety.proofs.Storing.{requested_here, requested_there, rerequested_alike}

@@ -7,9 +7,9 @@ use Rattle.aom_image.specs.Image.{Image}
 use Rattle.aom_instructions.specs.declared.instr.Instr.TheVariants.{Push, PushOperation, Pop, PopOperation, NewOrLeave}
 use Rattle.aom_roles.specs.Tests.{AllTrue}
 use Rattle.aom_cells.specs.Heap.{Heap, null}
-use Rattle.aom_cleanup.specs.Items.{Stack as Machine_items, owned_by}
-use Rattle.aom_cleanup.specs.declared.item.Item.{Item as Machine_item}
-use Rattle.aom_cleanup.specs.declared.item.Item.TheVariants.{Object as Holds_object, Operation as Holds_operation}
+use Rattle.aom_frames.specs.Items.{Stack as Machine_items, owned_by}
+use Rattle.aom_frames.specs.declared.item.Item.{Item as Machine_item}
+use Rattle.aom_frames.specs.declared.item.Item.TheVariants.{Object as Holds_object, Operation as Holds_operation}
 use Rattle.aom_roles.specs.Tables.{put_at}
 use Rattle.aom_semantics.specs.Calls.{below_top}
 use Rattle.aom_semantics.specs.Cleanup.{leave_needs, no_memory, tops_operation, to_trap}
@@ -18,7 +18,7 @@ use Rattle.aom_semantics.specs.Effects.{Effect, Leaves, Pushed, Pushed_operation
 use Rattle.aom_semantics.specs.State.{Task, Run, Item, An_object, Counters, State, Choice, raised, word, Frame, Unwind, An_operation}
 use Rattle.aom_semantics.specs.Words.{read}
 use Rattle.aom_semantics.proofs.Maps.{held_moved}
-use Rattle.aom_lines.specs.LineBuffer.{LineBuffer}
+use Rattle.aom_machine_state.specs.LineBuffer.{LineBuffer}
 use Rattle.aom_frames.specs.Tasks.{on_top, with_register, register_here}
 use Rattle.aom_frames.specs.declared.frame.Frame.{Frame as Machine_frame}
 use Rattle.aom_frames.specs.declared.task.Task.{Task as Machine_task}

@@ -49,7 +49,7 @@ use Rattle.aom_machine_instructions.proofs.Running.{begun_as, Aside, agrees_with
 use Rattle.aom_machine_state.proofs.Cells.{unowned}
 use Rattle.aom_machine_instructions.proofs.ObjectActs.{shown}
 use Rattle.aom_machine_instructions.proofs.WordActs.{plain_at}
-use Rattle.aom_cleanup.specs.declared.item.Item.{Item}
+use Rattle.aom_frames.specs.declared.item.Item.{Item}
 use Rattle.aom_machine_state.proofs.Alike.{Alike, both_go, alike, by_task, by_tasks}
 
 -- a method at its first place shows nothing, and has no word

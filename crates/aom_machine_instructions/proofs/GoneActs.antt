@@ -18,9 +18,9 @@ use Rattle.aom_frames.specs.declared.task.Task.{Task as Machine_task}
 use Rattle.aom_frames.specs.declared.task.Task.TheVariants.{Destroy as Destroys}
 use Rattle.aom_image.specs.Image.{Image}
 use Rattle.aom_image.specs.declared.method.Thing.TheVariants.{Object as An_object_of}
-use Rattle.aom_lines.specs.LineBuffer.{LineBuffer}
-use Rattle.aom_messages.specs.Store.{Store, count as count_kept, message_at}
-use Rattle.aom_native_sessions.specs.Sessions.{Sets, Standing}
+use Rattle.aom_machine_state.specs.LineBuffer.{LineBuffer}
+use Rattle.aom_cells.specs.Store.{Store, count as count_kept, message_at}
+use Rattle.aom_cells.specs.Sessions.{Sets, Standing}
 use Rattle.aom_semantics.proofs.Maps.{held_lives, held_without, named_without, requested_without, unnamed}
 use Rattle.aom_safety.proofs.Sifted.{cell_of, cell_of_sifted, kept as left_of, named_cell, object_in, request_in, requested_cell, service_cell, service_in, tidy_sifted, unqueued_so}
 use Rattle.aom_safety.proofs.Storing.{Alike}

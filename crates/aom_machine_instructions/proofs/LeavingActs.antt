@@ -8,7 +8,7 @@ use Rattle.aom_image.specs.Image.{Image}
 use Rattle.aom_instructions.specs.declared.instr.Instr.TheVariants.{Leave, LeaveIf}
 use Rattle.aom_roles.specs.Tests.{AllTrue}
 use Rattle.aom_cells.specs.Heap.{Heap}
-use Rattle.aom_cleanup.specs.declared.item.Item.{Item}
+use Rattle.aom_frames.specs.declared.item.Item.{Item}
 use Rattle.aom_semantics.specs.Calls.{none_owns_but}
 use Rattle.aom_semantics.specs.Cleanup.{above_trap_is_free, leave_needs, to_trap}
 use Rattle.aom_semantics.specs.Places.{Place, Register, Cell, held}

@@ -13,7 +13,7 @@ use Rattle.aom_frames.specs.declared.task.Task.TheVariants.{Closing as Closes, D
 use Rattle.aom_image.specs.Image.{Image}
 use Rattle.aom_image.specs.WellFormed.{WellFormed}
 use Rattle.aom_roles.specs.Things.{is_object}
-use Rattle.aom_lines.specs.LineBuffer.{LineBuffer}
+use Rattle.aom_machine_state.specs.LineBuffer.{LineBuffer}
 use Rattle.aom_rules.specs.Typing.{Typing}
 use Rattle.aom_semantics.proofs.Maps.{held_lives}
 use Rattle.aom_semantics.specs.Destruction as checked

@@ -8,7 +8,7 @@ use Rattle.aom_cells.specs.Heap.{null}
 use Rattle.aom_clients.specs.Clients.{after_complete, place_at}
 use Rattle.aom_clients.specs.Table.{completion}
 use Rattle.aom_clients.specs.declared.place.Completion.{Completion}
-use Rattle.aom_cleanup.specs.declared.item.Item.{Item}
+use Rattle.aom_frames.specs.declared.item.Item.{Item}
 use Rattle.aom_frames.specs.Tasks.{on_top, register_here, with_register}
 use Rattle.aom_frames.specs.declared.task.Task.{Task as Machine_task}
 use Rattle.aom_frames.specs.declared.task.Task.TheVariants.{Run as Runs_frame}
@@ -17,8 +17,8 @@ use Rattle.aom_image.specs.Image.{Image}
 use Rattle.aom_image.specs.declared.method.Thing.TheVariants.{Message}
 use Rattle.aom_instructions.specs.declared.instr.Instr.TheVariants.{Reply, TakeMessage}
 use Rattle.aom_roles.specs.Tests.{AllTrue}
-use Rattle.aom_lines.specs.LineBuffer.{LineBuffer}
-use Rattle.aom_messages.specs.Store.{Changes, Store, count, first_number}
+use Rattle.aom_machine_state.specs.LineBuffer.{LineBuffer}
+use Rattle.aom_cells.specs.Store.{Changes, Store, count, first_number}
 use Rattle.aom_roles.specs.Tables.{put_at}
 use Rattle.aom_semantics.proofs.Maps.{held_moved, held_without}
 use Rattle.aom_safety.proofs.Things.{stands_message}
@@ -30,7 +30,7 @@ use Rattle.aom_semantics.specs.State.{Choice, Run, State, next, set_word}
 use Rattle.aom_semantics.specs.Tokens.{order_in, redeemed_by, token_of}
 use Rattle.aom_semantics.specs.Words.{read}
 use Rattle.aom_safety.proofs.Sources.{has_sender}
-use Rattle.aom_tokens.specs.Tokens.{class_at}
+use Rattle.aom_cells.specs.Tokens.{class_at}
 use Rattle.aom_machine_state.specs.declared.parts.Parts.{Parts}
 use Rattle.aom_machine_state.specs.Places as places
 use Rattle.aom_machine_state.specs.Places.{Others, others, set_register, value_in}

@@ -7,7 +7,7 @@ use Rattle.aom_instructions.specs.declared.instr.Instr.TheVariants.{Ask, Close, 
 use Rattle.aom_roles.specs.Kinds.{is_native_kind, is_active_kind, is_listed_kind}
 use Rattle.aom_cells.specs.Heap.{Lives}
 use Rattle.aom_roles.specs.Tables.{put_at}
-use Rattle.aom_native_sessions.specs.Sessions.{Sets, Standing, is_killed, is_open}
+use Rattle.aom_cells.specs.Sessions.{Sets, Standing, is_killed, is_open}
 use Rattle.aom_semantics.specs.Effects.{Sessioned, applied, sets, updates}
 use Rattle.aom_semantics.specs.Natives.{connected, native_of, opens, replied, resessioned}
 use Rattle.aom_semantics.specs.Places.{Register, held}

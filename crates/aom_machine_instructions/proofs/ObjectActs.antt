@@ -17,7 +17,7 @@ use Rattle.aom_semantics.specs.Places.{Place, Register, Field, Cell, held, with_
 use Rattle.aom_semantics.specs.Effects.{applied, deletes, jumps_unless}
 use Rattle.aom_semantics.specs.State.{word, next, set_word, Run, Counters, raised}
 use Rattle.aom_semantics.specs.Moves.{is_refused, makes, makes_cell}
-use Rattle.aom_lines.specs.LineBuffer.{LineBuffer}
+use Rattle.aom_machine_state.specs.LineBuffer.{LineBuffer}
 use Rattle.aom_frames.specs.Tasks.{on_top, with_register, register_here}
 use Rattle.aom_frames.specs.declared.frame.Frame.{Frame as Machine_frame}
 use Rattle.aom_frames.specs.declared.task.Task.{Task as Machine_task}
@@ -35,7 +35,7 @@ use Rattle.aom_machine_instructions.proofs.Running.{Top, by_top, register_shows,
 use Rattle.aom_machine_state.proofs.CellWords.{all_same, zeros_at}
 use Rattle.aom_machine_instructions.proofs.GoingOn.{goes_on_with, still_none, written}
 use Rattle.aom_machine_instructions.proofs.WordActs.{jumps, passes, plain_does, plain_at}
-use Rattle.aom_cleanup.specs.declared.item.Item.{Item}
+use Rattle.aom_frames.specs.declared.item.Item.{Item}
 use Rattle.aom_machine_state.proofs.Sessions.{natives_made}
 
 -- what a register shows that has no word

@@ -21,16 +21,16 @@ use Rattle.aom_instructions.specs.declared.instr.Instr.TheVariants.{Abort, Cance
 use Rattle.aom_roles.specs.Things.{is_object}
 use Rattle.aom_roles.specs.Tests.{AllTrue}
 use Rattle.aom_roles.specs.Kinds.{is_active_kind, is_listed_kind}
-use Rattle.aom_native_sessions.specs.Sessions.{is_killed, is_open}
+use Rattle.aom_cells.specs.Sessions.{is_killed, is_open}
 use Rattle.aom_semantics.specs.Natives.{is_served_by_dead, native_of, own_session, started}
 use Rattle.aom_classes.specs.Roles.{or_else, role_of}
 use Rattle.aom_cells.specs.Heap.{null, Heap, Lives, cell_at, class_at, class_of}
 use Rattle.aom_cells.specs.declared.cell.Cell.{Cell as Machine_cell}
 use Rattle.aom_roles.specs.Classes.{kind_in, sessions_in, sessions_of}
 use Rattle.aom_roles.specs.Shapes.{kind_of}
-use Rattle.aom_requests.specs.Requests.{request_at, state_at, state_of, status_at}
-use Rattle.aom_requests.specs.declared.request.State.TheVariants.{Active as Machine_active}
-use Rattle.aom_requests.specs.declared.request.Request.{Request as Machine_request}
+use Rattle.aom_scheduler.specs.Requests.{request_at, state_at, state_of, status_at}
+use Rattle.aom_scheduler.specs.declared.request.State.TheVariants.{Active as Machine_active}
+use Rattle.aom_scheduler.specs.declared.request.Request.{Request as Machine_request}
 use Rattle.aom_active.specs.Agrees.{Active, StandsFor, queued}
 use Rattle.aom_active.specs.Meanings.{Enlists, Makes, Times, asked_anew, begun_with, is_being_cancelled, is_busy, is_waited_for}
 use Rattle.aom_active.proofs.Asking.{asked_set, newest, newest_timer, queued_same}
@@ -48,11 +48,11 @@ use Rattle.aom_safety.proofs.Storing.{rerequested_alike}
 use Rattle.aom_safety.proofs.Services.{service_asked}
 use Rattle.aom_safety.specs.Requests.{Known, Suits}
 use Rattle.aom_semantics.specs.Tokens.{awaited}
-use Rattle.aom_queues.specs.Lists.{Table}
+use Rattle.aom_clients.specs.Lists.{Table}
 use Rattle.aom_machine_state.proofs.Services.{services_rerequested, services_rerequested_with}
 use Rattle.aom_machine_state.proofs.Tokens.{tokens_forgotten}
 use Rattle.aom_machine_state.specs.Serving.{message_name}
-use Rattle.aom_tokens.specs.Tokens.{Kept, Sets}
+use Rattle.aom_cells.specs.Tokens.{Kept, Sets}
 use Rattle.aom_machine_state.specs.Services.{SameServices}
 use Rattle.aom_frames.specs.Tasks.{with_view, view_here, fresh, register_here, this_here}
 use Rattle.aom_frames.specs.declared.task.Task.TheVariants.{Run as Runs_frame}

@@ -26,9 +26,9 @@ use Rattle.aom_safety.proofs.Finishing.{all_parts}
 use Rattle.aom_semantics.proofs.Maps.{at-put_at, held_lives, held_moved}
 use Rattle.aom_safety.proofs.Straight.{claim_register, fits_unowning}
 use Rattle.aom_safety.proofs.Layers.{mark_layer, method_layer}
-use Rattle.aom_cleanup.specs.Items.{Stack as Machine_items}
-use Rattle.aom_cleanup.specs.declared.item.Item.TheVariants.{Mark as Is_mark}
-use Rattle.aom_cleanup.specs.declared.item.Item.{Item}
+use Rattle.aom_frames.specs.Items.{Stack as Machine_items}
+use Rattle.aom_frames.specs.declared.item.Item.TheVariants.{Mark as Is_mark}
+use Rattle.aom_frames.specs.declared.item.Item.{Item}
 use Rattle.aom_frames.specs.Tasks.{Runs, method_here, place_here, register_here, below_first}
 use Rattle.aom_frames.specs.declared.frame.Frame.{Frame as Machine_frame}
 use Rattle.aom_frames.specs.declared.task.Task.{Task as Machine_task}

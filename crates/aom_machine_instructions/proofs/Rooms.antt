@@ -6,8 +6,8 @@ use Rattle.aom_image.specs.Views.{instr_at}
 use Rattle.aom_instructions.specs.declared.instr.Instr.{Instr}
 use Rattle.aom_instructions.specs.declared.instr.Instr.TheVariants.{Push, PushOperation, Trap}
 use Rattle.aom_instructions.specs.declared.instr.Target.{Target}
-use Rattle.aom_cleanup.specs.Items.{entries_in, marks_in}
-use Rattle.aom_cleanup.specs.declared.item.Item.{Item as Machine_item}
+use Rattle.aom_frames.specs.Items.{entries_in, marks_in}
+use Rattle.aom_frames.specs.declared.item.Item.{Item as Machine_item}
 use Rattle.aom_frames.specs.Tasks.{Runs, method_here, place_here}
 use Rattle.aom_roles.specs.Tables.{at}
 use Rattle.aom_rules.specs.Typing.{Typing}

@@ -5,8 +5,8 @@ use Rattle.aom_image.specs.Image.{Image}
 use Rattle.aom_cells.specs.Heap.{null}
 use Rattle.aom_clients.specs.Clients as kept
 use Rattle.aom_clients.specs.Table.{no_cell}
-use Rattle.aom_cleanup.specs.Items.{Stack as Machine_items}
-use Rattle.aom_cleanup.specs.declared.item.Item.TheVariants.{Mark as Is_mark}
+use Rattle.aom_frames.specs.Items.{Stack as Machine_items}
+use Rattle.aom_frames.specs.declared.item.Item.TheVariants.{Mark as Is_mark}
 use Rattle.aom_frames.specs.declared.dispatch.Dispatch.TheVariants.{Server as Of_one_served}
 use Rattle.aom_frames.specs.declared.dispatch.Stage.TheVariants as stages
 use Rattle.aom_frames.specs.declared.dispatch.Subject.{Subject}

@@ -15,9 +15,9 @@ use Rattle.aom_image.specs.declared.class.ClassKind.{ClassKind}
 use Rattle.aom_image.specs.declared.method.Thing.TheVariants.{Message}
 use Rattle.aom_instructions.specs.declared.instr.Instr.TheVariants.{Hand, Reply}
 use Rattle.aom_roles.specs.Tests.{AllTrue}
-use Rattle.aom_lines.specs.LineBuffer.{LineBuffer}
-use Rattle.aom_messages.specs.Store.{Changes, Store, count, first_number, message_at}
-use Rattle.aom_requests.specs.Requests.{is_pending, request_at, state_at}
+use Rattle.aom_machine_state.specs.LineBuffer.{LineBuffer}
+use Rattle.aom_cells.specs.Store.{Changes, Store, count, first_number, message_at}
+use Rattle.aom_scheduler.specs.Requests.{is_pending, request_at, state_at}
 use Rattle.aom_roles.specs.Tables.{put_at}
 use Rattle.aom_safety.proofs.Handing.{token_active}
 use Rattle.aom_rules.specs.Typing.{Typing}
@@ -50,7 +50,7 @@ use Rattle.aom_machine_state.specs.Serving.{message_name}
 use Rattle.aom_machine_state.specs.Tokens as meant
 use Rattle.aom_machine_state.specs.Tokens.{LetsGo, class_in, no_words}
 use Rattle.aom_machine_state.specs.declared.parts.Parts.{Parts}
-use Rattle.aom_tokens.specs.Tokens.{Kept, Sets, class_at, redeemed}
+use Rattle.aom_cells.specs.Tokens.{Kept, Sets, class_at, redeemed}
 use Rattle.aom_machine_instructions.specs.Acts.{At_hand, Does, Tells}
 use Rattle.aom_machine_instructions.specs.Next.{IsNext, counting}
 use Rattle.aom_machine_instructions.specs.Tokens.{Answers, Hands, HandsNone, HandsOne, IsAnswerable, Pends, Redeems, RedeemsOne}

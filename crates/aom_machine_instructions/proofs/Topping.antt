@@ -7,9 +7,9 @@ use Rattle.aom_image.specs.Image.{Image}
 use Rattle.aom_image.specs.Views.{gives_of, instr_at}
 use Rattle.aom_instructions.specs.declared.instr.Instr.TheVariants.{Pop, PopOperation, Return}
 use Rattle.aom_image.specs.declared.method.Gives.{Gives}
-use Rattle.aom_cleanup.specs.Items.{IsAboveMark, IsMarked, IsNotAboveMark}
-use Rattle.aom_cleanup.specs.declared.item.Item.{Item as Machine_item}
-use Rattle.aom_cleanup.specs.declared.item.Item.TheVariants.{Mark as Is_mark}
+use Rattle.aom_frames.specs.Items.{IsAboveMark, IsMarked, IsNotAboveMark}
+use Rattle.aom_frames.specs.declared.item.Item.{Item as Machine_item}
+use Rattle.aom_frames.specs.declared.item.Item.TheVariants.{Mark as Is_mark}
 use Rattle.aom_rules.specs.Typing.{Typing}
 use Rattle.aom_shape.specs.declared.kind.Entry.{Entry as Pushed}
 use Rattle.aom_semantics.specs.Calls.{is_level, result_needs, result_register}

@@ -11,9 +11,9 @@ use Rattle.aom_image.specs.Views.{instr_at}
 use Rattle.aom_image.specs.declared.method.Gives.{Gives}
 use Rattle.aom_image.specs.declared.method.Gives.TheVariants.{Maybe as A_maybe, Own as An_own, Word as A_word}
 use Rattle.aom_cells.specs.Heap.{null}
-use Rattle.aom_cleanup.specs.Items.{Stack as Machine_items, IsAboveMark, IsMarked}
-use Rattle.aom_cleanup.specs.declared.item.Item.{Item as Machine_item}
-use Rattle.aom_cleanup.specs.declared.item.Item.TheVariants.{Mark as Is_mark}
+use Rattle.aom_frames.specs.Items.{Stack as Machine_items, IsAboveMark, IsMarked}
+use Rattle.aom_frames.specs.declared.item.Item.{Item as Machine_item}
+use Rattle.aom_frames.specs.declared.item.Item.TheVariants.{Mark as Is_mark}
 use Rattle.aom_roles.specs.Tables.{at, put_at}
 use Rattle.aom_rules.specs.Typing.{Typing}
 use Rattle.aom_safety.proofs.View.{under_dispatch}
@@ -30,7 +30,7 @@ use Rattle.aom_safety.specs.Traps.{AllAtTraps}
 use Rattle.aom_safety.proofs.Straight.{claim_register}
 use Rattle.aom_semantics.proofs.Maps.{at-put_at}
 use Rattle.aom_safety.proofs.Layers.{leave_layer}
-use Rattle.aom_lines.specs.LineBuffer.{LineBuffer}
+use Rattle.aom_machine_state.specs.LineBuffer.{LineBuffer}
 use Rattle.aom_frames.specs.Tasks.{Runs, method_here, place_here, below_first}
 use Rattle.aom_frames.specs.declared.frame.Frame.{Frame as Machine_frame}
 use Rattle.aom_frames.specs.declared.task.Task.{Task as Machine_task}

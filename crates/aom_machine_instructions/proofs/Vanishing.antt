@@ -10,8 +10,8 @@ use Rattle.aom_clients.specs.Clients.{State, after_next_gone, first_entry, gone,
 use Rattle.aom_clients.specs.declared.entry.Entry.{Entry}
 use Rattle.aom_clients.specs.declared.entry.Entry.TheVariants.{Message}
 use Rattle.aom_clients.specs.declared.entry.Taken.{Taken}
-use Rattle.aom_messages.specs.Store.{Store, message_at}
-use Rattle.aom_lines.specs.LineBuffer.{LineBuffer}
+use Rattle.aom_cells.specs.Store.{Store, message_at}
+use Rattle.aom_machine_state.specs.LineBuffer.{LineBuffer}
 use Rattle.aom_machine_state.specs.declared.parts.Parts.{Parts}
 use Rattle.aom_machine_instructions.specs.Serving.{AllKept, Drops, EntryKept, IsOnce, answers, count_messages, gone_line, gone_lines, has_message, is_message}
 use Rattle.aom_machine_state.proofs.Serving.{front_false}

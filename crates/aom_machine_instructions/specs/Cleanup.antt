@@ -7,15 +7,15 @@ use Rattle.aom_instructions.specs.declared.instr.Instr.{Instr}
 use Rattle.aom_image.specs.declared.method.Gives.{Gives}
 use Rattle.aom_image.specs.declared.method.Gives.TheVariants.{Nothing, Word as A_word, Own as An_own, Maybe as A_maybe, Left}
 use Rattle.aom_cells.specs.Heap.{Heap, null, Lives, class_at}
-use Rattle.aom_cleanup.specs.declared.item.Item.{Item}
-use Rattle.aom_cleanup.specs.declared.item.Item.TheVariants.{Object, Operation, Mark}
+use Rattle.aom_frames.specs.declared.item.Item.{Item}
+use Rattle.aom_frames.specs.declared.item.Item.TheVariants.{Object, Operation, Mark}
 use Rattle.aom_rules.specs.Typing.{Typing}
 use Rattle.aom_semantics.specs.Calls.{called, result_register}
 use Rattle.aom_semantics.specs.Cleanup.{arrival, unwound}
 use Rattle.aom_semantics.specs.State.{State, Task, Unwind, Goes}
 use Rattle.aom_safety.specs.Kept.{IsKept}
 use Rattle.aom_safety.specs.WellTyped.{WellTyped}
-use Rattle.aom_lines.specs.LineBuffer.{LineBuffer}
+use Rattle.aom_machine_state.specs.LineBuffer.{LineBuffer}
 use Rattle.aom_frames.specs.Tasks.{fresh, with_register}
 use Rattle.aom_frames.specs.declared.task.Task.TheVariants.{Run}
 use Rattle.aom_machine_state.specs.declared.parts.Parts.{Parts}

@@ -10,12 +10,12 @@ use Rattle.aom_image.specs.declared.method.Role.{Role}
 use Rattle.aom_image.specs.declared.method.Role.TheVariants.{Cancel}
 use Rattle.aom_roles.specs.Shapes.{kind_of}
 use Rattle.aom_cells.specs.Heap.{Lives, class_at}
-use Rattle.aom_requests.specs.Requests.{is_pending, request_at}
+use Rattle.aom_scheduler.specs.Requests.{is_pending, request_at}
 use Rattle.aom_active.specs.Agrees.{Active}
 use Rattle.aom_active.specs.Meanings.{Makes, Times, begun_with, is_being_cancelled}
 use Rattle.aom_semantics.specs.Enlisted.{cancelled, due_after, completed_at_once}
 use Rattle.aom_semantics.specs.Natives.{started}
-use Rattle.aom_native_sessions.specs.Sessions.{Standing, is_killed, is_open}
+use Rattle.aom_cells.specs.Sessions.{Standing, is_killed, is_open}
 use Rattle.aom_frames.specs.Tasks.{Runs, method_here}
 use Rattle.aom_machine_state.specs.declared.parts.Parts.{Parts}
 use Rattle.aom_machine_state.specs.Fields.{this}

@@ -8,10 +8,10 @@ use Rattle.aom_clients.specs.declared.entry.Entry.{Entry}
 use Rattle.aom_clients.specs.declared.entry.Entry.TheVariants.{Connect, Message, Close}
 use Rattle.aom_clients.specs.declared.entry.Taken.{Taken}
 use Rattle.aom_clients.specs.declared.place.Completion.{Completion}
-use Rattle.aom_messages.specs.Store.{Changes, IsKept, Store, count, first_number, message_at}
+use Rattle.aom_cells.specs.Store.{Changes, IsKept, Store, count, first_number, message_at}
 use Rattle.aom_transcript.specs.declared.line.Line.{Line}
 use Rattle.aom_transcript.specs.declared.line.Line.TheVariants.{Discard, Reply}
-use Rattle.aom_lines.specs.LineBuffer.{LineBuffer}
+use Rattle.aom_machine_state.specs.LineBuffer.{LineBuffer}
 use Rattle.aom_cells.specs.Heap.{null}
 use Rattle.aom_frames.specs.declared.dispatch.Dispatch.TheVariants.{Server}
 use Rattle.aom_frames.specs.declared.dispatch.Stage.{Stage}

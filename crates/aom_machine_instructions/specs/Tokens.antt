@@ -4,15 +4,15 @@ use Rattle.aom_active.specs.Meanings.{Makes}
 use Rattle.aom_cells.specs.Heap.{null}
 use Rattle.aom_clients.specs.Clients.{place_at}
 use Rattle.aom_clients.specs.Table.{completion}
-use Rattle.aom_lines.specs.LineBuffer.{LineBuffer}
-use Rattle.aom_messages.specs.Store.{Changes, IsKept, count, first_number, message_at}
+use Rattle.aom_machine_state.specs.LineBuffer.{LineBuffer}
+use Rattle.aom_cells.specs.Store.{Changes, IsKept, count, first_number, message_at}
 use Rattle.aom_machine_state.specs.declared.parts.Parts.{Parts}
 use Rattle.aom_machine_state.specs.Tokens as meant
 use Rattle.aom_machine_state.specs.Tokens.{LetsGo, no_words}
-use Rattle.aom_requests.specs.Requests.{is_pending, request_at}
+use Rattle.aom_scheduler.specs.Requests.{is_pending, request_at}
 use Rattle.aom_semantics.specs.Enlisted.{completed_at_once}
 use Rattle.aom_semantics.specs.Tokens.{busy, promised}
-use Rattle.aom_tokens.specs.Tokens.{Sets, class_at, redeemed}
+use Rattle.aom_cells.specs.Tokens.{Sets, class_at, redeemed}
 use Rattle.aom_machine_instructions.specs.Serving.{Completes}
 
 -- ---- a token is replied to

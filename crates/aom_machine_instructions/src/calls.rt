@@ -1,7 +1,7 @@
 //! Calls, returns, and `stop`.
 ghost use Rattle.aom_machine_instructions.specs.Ends.{heard, told_by};
 ghost use Rattle.aom_machine_instructions.specs.Going.{ending_here};
-ghost use Rattle.aom_cleanup.specs.Items.{IsMarked};
+ghost use Rattle.aom_frames.specs.Items.{IsMarked};
 ghost use Rattle.aom_machine_state.specs.Places.{IsTrapped, with_tasks, next, set_register};
 ghost use Rattle.aom_machine_state.specs.Room.{ReturnsTo};
 ghost use Rattle.aom_machine_instructions.specs.Requests.{EndsCancel, IsCancelled, IsOver};
@@ -21,7 +21,7 @@ ghost use Rattle.aom_machine_instructions.specs.Next.{IsNext};
 use crate::requests::counted;
 use crate::{going, servers};
 use aom_cells::NULL;
-use aom_cleanup::Item;
+use aom_frames::Item;
 use aom_frames::{Callee, Dispatch, Task, TaskKind, View};
 use aom_image::{ClassNumber, Gives, Instr, MethodNumber, Register, Role, Target};
 use aom_linked::Linked;

@@ -1,7 +1,7 @@
 //! Instructions on the cleanup stack.
 ghost use Rattle.std.specs.Prelude.{◌≡◌, ◌<◌, ◌+◌, ℕ, List, length, true};
 ghost use Rattle.aom_frames.specs.Tasks.{Runs};
-ghost use Rattle.aom_cleanup.specs.Items.{IsAboveMark};
+ghost use Rattle.aom_frames.specs.Items.{IsAboveMark};
 ghost use Rattle.aom_image.specs.Image.{Image};
 ghost use Rattle.aom_instructions.specs.declared.instr.Instr.TheVariants.{Push, PushOperation, Pop, PopOperation, PopDelete, NewOrLeave};
 ghost use Rattle.aom_machine_instructions.specs.Acts.{Does, DoesIn};
@@ -11,10 +11,10 @@ ghost use Rattle.aom_machine_instructions.specs.Next.{IsNext};
 use crate::leaving::{self, NO_MEMORY};
 use crate::{going, objects};
 use aom_cells::NULL;
-use aom_cleanup::Item;
+use aom_frames::Item;
 use aom_frames::{Frame, Task};
 use aom_image::{ClassNumber, MethodNumber, Register};
-use aom_lines::LineBuffer;
+use aom_machine_state::LineBuffer;
 use aom_linked::Linked;
 use aom_machine_state::Parts;
 

@@ -13,14 +13,14 @@ ghost use Rattle.aom_machine_instructions.specs.Going.{destructed, destructor_fr
 ghost use Rattle.aom_machine_instructions.specs.Moves.{Moves};
 ghost use Rattle.aom_machine_instructions.specs.Next.{IsNext};
 ghost use Rattle.aom_machine_instructions.specs.Serving.{CanVanish, answers};
-ghost use Rattle.aom_lines.specs.LineBuffer.{LineBuffer as TurnRecord};
+ghost use Rattle.aom_machine_state.specs.LineBuffer.{LineBuffer as TurnRecord};
 ghost use Rattle.aom_machine_state.specs.Stands.{Stands};
 
 use crate::servers;
 use aom_cells::NULL;
 use aom_frames::{Dispatch, Frame, Task, TaskKind, View};
 use aom_image::{ClassNumber, MethodNumber, Register, Role};
-use aom_lines::LineBuffer;
+use aom_machine_state::LineBuffer;
 use aom_linked::Linked;
 use aom_machine_state::Parts;
 use aom_roles::{parent_of, sessions_at};

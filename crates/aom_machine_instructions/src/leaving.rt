@@ -4,7 +4,7 @@ ghost use Rattle.std.specs.Prelude.{true, ◌≡◌, ◌<◌, ◌≤◌, ◌+◌
 ghost use Rattle.aom_image.specs.Image.{Image};
 ghost use Rattle.aom_image.specs.Views.{instr_at};
 ghost use Rattle.aom_instructions.specs.declared.instr.Instr.TheVariants.{Leave, LeaveIf};
-ghost use Rattle.aom_cleanup.specs.Items.{IsMarked};
+ghost use Rattle.aom_frames.specs.Items.{IsMarked};
 ghost use Rattle.aom_semantics.specs.Calls.{called, result_register};
 ghost use Rattle.aom_frames.specs.Tasks.{Runs, method_here, place_here, below_first};
 ghost use Rattle.aom_machine_instructions.specs.Acts.{Does, leaving};
@@ -20,7 +20,7 @@ use crate::{cleanup, servers};
 use aom_cells::NULL;
 use aom_frames::{Dispatch, Stage, Task, TaskKind};
 use aom_image::{Gives, Instr, Register};
-use aom_lines::LineBuffer;
+use aom_machine_state::LineBuffer;
 use aom_linked::Linked;
 use aom_machine_state::Parts;
 use aom_transcript::Line;

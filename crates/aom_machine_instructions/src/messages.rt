@@ -7,17 +7,17 @@ ghost use Rattle.aom_machine_instructions.specs.Acts.{Does, Tells};
 ghost use Rattle.aom_machine_instructions.specs.Next.{IsNext};
 ghost use Rattle.aom_machine_instructions.specs.Serving.{Completes, IsTaken, completion_line};
 ghost use Rattle.aom_machine_instructions.specs.Tokens.{Answers, Hands, IsAnswerable, Pends, Redeems};
-ghost use Rattle.aom_messages.specs.Store.{IsKept};
-ghost use Rattle.aom_requests.specs.Requests.{state_at};
-ghost use Rattle.aom_requests.specs.declared.request.State.{State};
+ghost use Rattle.aom_cells.specs.Store.{IsKept};
+ghost use Rattle.aom_scheduler.specs.Requests.{state_at};
+ghost use Rattle.aom_scheduler.specs.declared.request.State.{State};
 
 use crate::objects;
 use aom_cells::{CellId, NULL};
 use aom_clients::Completion;
 use aom_image::{ClassNumber, Register};
-use aom_lines::LineBuffer;
+use aom_machine_state::LineBuffer;
 use aom_machine_state::Parts;
-use aom_messages::MessageId;
+use aom_cells::MessageId;
 use aom_transcript::Line;
 use std::mem;
 

@@ -9,7 +9,7 @@ ghost use Rattle.aom_machine_instructions.specs.Next.{IsNext};
 
 use aom_cells::NULL;
 use aom_image::{ClassNumber, Place, Register};
-use aom_lines::LineBuffer;
+use aom_machine_state::LineBuffer;
 use aom_machine_state::Parts;
 
 /// A number comes to a register, and the method goes on.

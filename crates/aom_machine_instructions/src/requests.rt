@@ -14,8 +14,8 @@ ghost use Rattle.aom_machine_state.specs.Places.{next, to_place};
 ghost use Rattle.aom_machine_state.specs.Fields.{this};
 ghost use Rattle.aom_machine_instructions.specs.Next.{IsNext};
 ghost use Rattle.aom_machine_instructions.specs.Requests.{Issues, kind_here, provider_of};
-ghost use Rattle.aom_requests.specs.Requests.{state_at, status_at};
-ghost use Rattle.aom_requests.specs.declared.request.State.{State};
+ghost use Rattle.aom_scheduler.specs.Requests.{state_at, status_at};
+ghost use Rattle.aom_scheduler.specs.declared.request.State.{State};
 ghost use Rattle.aom_semantics.specs.Words.{word_or_zero};
 
 use crate::{going, natives};

@@ -10,9 +10,9 @@ use crate::messages;
 use crate::natives::TERMINATED;
 use aom_clients::{Clients, Entry, Taken};
 use aom_frames::{Dispatch, Stage, Task, TaskKind};
-use aom_lines::LineBuffer;
+use aom_machine_state::LineBuffer;
 use aom_machine_state::Parts;
-use aom_messages::MessageId;
+use aom_cells::MessageId;
 use aom_transcript::Line;
 
 /// The method that a dispatch ran under its trap has returned, with that number: what `accept` gives is the session of the client, and a

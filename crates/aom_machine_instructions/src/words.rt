@@ -6,7 +6,7 @@ ghost use Rattle.aom_machine_instructions.specs.Acts.{Does, Tells};
 ghost use Rattle.aom_machine_instructions.specs.Next.{IsNext};
 
 use aom_image::{Register, WordIndex};
-use aom_lines::LineBuffer;
+use aom_machine_state::LineBuffer;
 use aom_machine_state::Parts;
 use aom_transcript::Line;
 

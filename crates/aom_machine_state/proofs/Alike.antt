@@ -3,7 +3,7 @@ use Rattle.std.proofs.lemmas.Bool.Decides.{nat_tests}
 use Rattle.std.proofs.Common.{List, [], ◌∷◌, ◌≡◌, ◌<◌, ℕ, ℤ, length, ap, arith}
 use Rattle.std.specs.Int.{w32, cast_signed}
 use Rattle.aom_image.proofs.Given.{cons_given}
-use Rattle.aom_cleanup.specs.Items.{IsAboveMark}
+use Rattle.aom_frames.specs.Items.{IsAboveMark}
 use Rattle.aom_frames.specs.Tasks.{Runs, below_first}
 use Rattle.aom_machine_state.specs.Places.{IsClosing, IsDestroying, IsEnding, IsTrapped, IsUnwinding}
 use Rattle.aom_semantics.specs.State.{Frame, Task, Run, Trapped, Destroy, Closing, Unwind, Dispatch, Dispatched, Item, An_object, An_operation, A_mark}
@@ -12,8 +12,8 @@ use Rattle.aom_frames.specs.declared.dispatch.Dispatch.{Dispatch as Machine_disp
 use Rattle.aom_frames.specs.declared.task.Task.{Task as Machine_task}
 use Rattle.aom_frames.specs.declared.task.Task.TheVariants.{Run as Runs_frame, Trapped as Is_trap, Destroy as Destroys}
 use Rattle.aom_frames.specs.declared.task.Task.TheVariants.{Closing as Closes, Unwind as Unwinds, Dispatched as Ends}
-use Rattle.aom_cleanup.specs.declared.item.Item.{Item as Machine_item}
-use Rattle.aom_cleanup.specs.declared.item.Item.TheVariants.{Object as Holds_object, Operation as Holds_operation, Mark as Is_mark}
+use Rattle.aom_frames.specs.declared.item.Item.{Item as Machine_item}
+use Rattle.aom_frames.specs.declared.item.Item.TheVariants.{Object as Holds_object, Operation as Holds_operation, Mark as Is_mark}
 use Rattle.aom_machine_state.specs.Agrees.{SameFrame, SameTask, SameTasks, SameDispatch, SameItem, SameItems}
 
 -- a task of the machine and the one that it stands for

@@ -14,7 +14,7 @@ use Rattle.aom_semantics.specs.Places.{set_service, set_word_field, with_new, wi
 use Rattle.aom_semantics.specs.Clients.{each_unslotted}
 use Rattle.aom_semantics.specs.State.{Frame, Home, Inside, State, Task}
 use Rattle.aom_semantics.specs.Words.{here, stored}
-use Rattle.aom_requests.specs.Requests.{request_at}
+use Rattle.aom_scheduler.specs.Requests.{request_at}
 use Rattle.aom_semantics.proofs.Maps.{named_moved, requested_moved, requested_without, unrequested}
 use Rattle.aom_safety.proofs.Services.{named_served, requested_served, service_here, service_moved, service_stored, service_there}
 use Rattle.aom_safety.proofs.Unslotting.{each_unslotted_alike, each_unslotted_requests}

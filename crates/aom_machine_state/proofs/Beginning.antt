@@ -11,8 +11,8 @@ use Rattle.aom_clients.specs.declared.client.Client.TheVariants.{Unconnected}
 use Rattle.aom_clients.specs.declared.entry.Entry.{Entry}
 use Rattle.aom_clients.specs.declared.place.Place.TheVariants.{Free}
 use Rattle.aom_image.specs.Image.{Image}
-use Rattle.aom_messages.specs.Store.{Store}
-use Rattle.aom_queues.specs.Lists.{Table, empty as no_list}
+use Rattle.aom_cells.specs.Store.{Store}
+use Rattle.aom_clients.specs.Lists.{Table, empty as no_list}
 use Rattle.aom_semantics.specs.Places.{requested}
 use Rattle.aom_semantics.specs.Servers.{is_among}
 use Rattle.aom_machine_state.specs.Listing.{SameListed, order_in}
@@ -21,8 +21,8 @@ use Rattle.aom_machine_state.specs.Services.{SameServices}
 use Rattle.aom_machine_state.specs.Serving.{AreSized, Once, SameClients, asked_by, holds, sent_by, sessionless}
 use Rattle.aom_machine_state.specs.Tokens.{SameTokens}
 use Rattle.aom_machine_state.proofs.CellWords.{all_same}
-use Rattle.aom_tokens.specs.Tokens.{Kept, class_kept, none_of}
-use Rattle.aom_tokens.specs.declared.tokens.Token.{Token}
+use Rattle.aom_cells.specs.Tokens.{Kept, class_kept, none_of}
+use Rattle.aom_cells.specs.declared.tokens.Token.{Token}
 
 -- each client is unconnected, and nothing waits anywhere
 pub first_client : (cells c : ℕ) → client_at (at_first cells) c ≡ Unconnected

@@ -10,8 +10,8 @@ use Rattle.aom_cells.specs.Heap.{Heap}
 use Rattle.aom_image.specs.Image.{Image}
 use Rattle.aom_image.specs.declared.method.Thing.TheVariants.{Message}
 use Rattle.aom_roles.specs.Things.{is_object}
-use Rattle.aom_queues.specs.Lists.{Table}
-use Rattle.aom_native_sessions.specs.Sessions.{Standing, is_open}
+use Rattle.aom_clients.specs.Lists.{Table}
+use Rattle.aom_cells.specs.Sessions.{Standing, is_open}
 use Rattle.aom_roles.specs.Tables.{at}
 use Rattle.aom_safety.proofs.Dropping.{requested_unnamed}
 use Rattle.aom_safety.proofs.Services.{named_served, requested_served}

@@ -20,7 +20,7 @@ use Rattle.aom_machine_state.specs.Fields.{PutsWord, PutsField}
 use Rattle.aom_machine_state.proofs.Values.{cases}
 use Rattle.aom_machine_state.proofs.CellWords.{words_stored}
 use Rattle.aom_machine_state.proofs.Cells.{class_told}
-use Rattle.aom_cleanup.specs.declared.item.Item.{Item}
+use Rattle.aom_frames.specs.declared.item.Item.{Item}
 
 -- a field of a cell is read as it was written, and the others as before
 field_left : (c : Option Machine_cell) (f g x : ℕ) → (f == g) ≡ false → field_of (with_field c f x) g ≡ field_of c g

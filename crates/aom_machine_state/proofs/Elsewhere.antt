@@ -5,7 +5,7 @@ use Rattle.std.specs.List.{list_any}
 use Rattle.std.specs.Prelude.{filter, map, ◌||◌}
 use Rattle.std.proofs.lemmas.Bool.{eq-eqb, eqb-true, ne_eqb}
 use Rattle.aom_cells.specs.Heap.{Heap, null}
-use Rattle.aom_cleanup.specs.declared.item.Item.{Item}
+use Rattle.aom_frames.specs.declared.item.Item.{Item}
 use Rattle.aom_clients.specs.Clients as kept
 use Rattle.aom_clients.specs.Clients.{client_at, queue_at}
 use Rattle.aom_clients.specs.Nodes.{is_leaving}

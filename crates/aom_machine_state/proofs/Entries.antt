@@ -4,9 +4,9 @@ use Rattle.std.proofs.Common.{zero, suc, ◌≡◌, ℕ, ◌<◌, ◌≤◌, ◌
 use Rattle.std.specs.Prelude.{is_some}
 use Rattle.std.proofs.lemmas.Bool.{eq-eqb, eqb-true, false≢true, ne_eqb}
 use Rattle.aom_cells.specs.Heap.{Heap, null}
-use Rattle.aom_cleanup.specs.Items.{entry_in, item_at, owned_by}
-use Rattle.aom_cleanup.specs.declared.item.Item.{Item as Machine_item}
-use Rattle.aom_cleanup.specs.declared.item.Item.TheVariants.{Object as Holds_object, Mark as Is_mark}
+use Rattle.aom_frames.specs.Items.{entry_in, item_at, owned_by}
+use Rattle.aom_frames.specs.declared.item.Item.{Item as Machine_item}
+use Rattle.aom_frames.specs.declared.item.Item.TheVariants.{Object as Holds_object, Mark as Is_mark}
 use Rattle.aom_semantics.specs.Calls.{below_top, entry_at}
 use Rattle.aom_semantics.specs.Places.{Place, Entry, changed}
 use Rattle.aom_semantics.specs.State.{Item, An_object, An_operation}

@@ -6,7 +6,7 @@ use Rattle.std.specs.Prelude.{is_some, ◌||◌}
 use Rattle.std.proofs.lemmas.Bool.{eq-eqb, eqb-true, false≢true, ne_eqb}
 use Rattle.aom_image.specs.Image.{Image}
 use Rattle.aom_roles.specs.Things.{is_object}
-use Rattle.aom_messages.specs.Store.{Store, count, message_at, word_at}
+use Rattle.aom_cells.specs.Store.{Store, count, message_at, word_at}
 use Rattle.aom_roles.specs.Tables.{at}
 use Rattle.aom_semantics.proofs.Maps.{same_place-true, same_place_refl, tidy_without, without_none}
 use Rattle.aom_safety.proofs.ClientsReturn.{without_so}

@@ -10,16 +10,16 @@ use Rattle.aom_clients.specs.Clients.{State as Kept_state}
 use Rattle.aom_clients.specs.declared.client.Client.{Client}
 use Rattle.aom_image.specs.Image.{Image}
 use Rattle.aom_image.specs.declared.method.Thing.TheVariants.{Message}
-use Rattle.aom_messages.specs.Store.{Changes, Store, count}
-use Rattle.aom_queues.specs.Lists.{Table}
-use Rattle.aom_native_sessions.specs.Sessions.{Standing}
+use Rattle.aom_cells.specs.Store.{Changes, Store, count}
+use Rattle.aom_clients.specs.Lists.{Table}
+use Rattle.aom_cells.specs.Sessions.{Standing}
 use Rattle.aom_safety.proofs.Services.{service_asked, service_unnamed}
 use Rattle.aom_safety.proofs.Storing.{rerequested_alike}
 use Rattle.aom_semantics.specs.Places.{Cell, Elsewhere, Object, Place, Request, Root, Service, Token, named, requested, service_of, set_request, unserved}
 use Rattle.aom_semantics.specs.Servers.{is_queue}
 use Rattle.aom_semantics.specs.State.{Inside}
 use Rattle.aom_semantics.specs.Tokens.{awaited, promised, with_token}
-use Rattle.aom_tokens.specs.Tokens.{Kept, Sets}
+use Rattle.aom_cells.specs.Tokens.{Kept, Sets}
 use Rattle.aom_machine_state.proofs.Asking.{cells_asked}
 use Rattle.aom_machine_state.proofs.Beside.{Beside, beside_message, cells_beside, listed_beside, natives_beside, requests_beside}
 use Rattle.aom_machine_state.proofs.Listing.{listed_alike}

@@ -15,7 +15,7 @@ use Rattle.aom_clients.specs.declared.place.Place.{Place}
 use Rattle.aom_clients.specs.declared.place.Place.TheVariants.{Queued}
 use Rattle.aom_image.specs.Image.{Image}
 use Rattle.aom_roles.specs.Things.{is_object}
-use Rattle.aom_messages.specs.Store.{Store, count, message_at}
+use Rattle.aom_cells.specs.Store.{Store, count, message_at}
 use Rattle.aom_roles.specs.Shapes.{kind_of}
 use Rattle.aom_rules.specs.Typing.{Typing}
 use Rattle.aom_safety.proofs.ClientsFacts.{waiting_message as queued_message}

@@ -1,3 +1,4 @@
+pub mod Found
 pub mod Values
 pub mod Entries
 pub mod Overs

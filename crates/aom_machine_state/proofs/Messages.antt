@@ -8,7 +8,7 @@ use Rattle.aom_image.specs.Image.{Image}
 use Rattle.aom_image.specs.declared.method.Thing.{Thing}
 use Rattle.aom_image.specs.declared.method.Thing.TheVariants.{Message}
 use Rattle.aom_roles.specs.Things.{is_object}
-use Rattle.aom_messages.specs.Store.{Changes, Store, count, message_at, word_at, word_of}
+use Rattle.aom_cells.specs.Store.{Changes, Store, count, message_at, word_at, word_of}
 use Rattle.aom_roles.specs.Tables.{at}
 use Rattle.aom_safety.proofs.Counts.{counted_by, counted_without}
 use Rattle.aom_semantics.proofs.Maps.{named_moved, named_without, unnamed}

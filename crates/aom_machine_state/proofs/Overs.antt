@@ -2,7 +2,7 @@
 use Rattle.std.proofs.lemmas.Bool.Decides.{nat_tests}
 use Rattle.std.proofs.Common.{◌≡◌, ℕ, ◌<◌, Bool, true, false, length, List, ◌∷◌, arith}
 use Rattle.aom_cells.specs.Heap.{Heap}
-use Rattle.aom_cleanup.specs.declared.item.Item.{Item}
+use Rattle.aom_frames.specs.declared.item.Item.{Item}
 use Rattle.aom_semantics.specs.Places.{Place}
 use Rattle.aom_semantics.specs.State.{Task, Trapped}
 use Rattle.aom_frames.specs.declared.task.Task.{Task as Machine_task}

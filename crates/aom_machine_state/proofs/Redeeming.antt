@@ -15,10 +15,10 @@ use Rattle.aom_clients.specs.declared.client.Client.{Client}
 use Rattle.aom_image.specs.Image.{Image}
 use Rattle.aom_image.specs.declared.method.Thing.TheVariants.{Message}
 use Rattle.aom_roles.specs.Things.{is_object}
-use Rattle.aom_messages.specs.Store.{Changes, Store, count}
-use Rattle.aom_queues.specs.Lists.{Table}
+use Rattle.aom_cells.specs.Store.{Changes, Store, count}
+use Rattle.aom_clients.specs.Lists.{Table}
 use Rattle.aom_rules.specs.Typing.{Typing}
-use Rattle.aom_native_sessions.specs.Sessions.{Standing}
+use Rattle.aom_cells.specs.Sessions.{Standing}
 use Rattle.aom_safety.proofs.Apart.{living_waits, redeems_none, redeems_one, void_waits_none}
 use Rattle.aom_semantics.proofs.Maps.{held_lives, unnamed}
 use Rattle.aom_safety.proofs.Redeeming.{redeemed_alike, redeeming, requested_redeemed}
@@ -33,9 +33,9 @@ use Rattle.aom_semantics.specs.Servers.{is_queue}
 use Rattle.aom_semantics.specs.State.{State}
 use Rattle.aom_semantics.specs.Tokens.{TokensApart, all_redeemed, awaited, order_in, redeemed_request, redeemed_with}
 use Rattle.aom_safety.specs.WellTyped.{WellTyped}
-use Rattle.aom_tokens.specs.Tokens.{Kept, Sets, class_at, class_kept, is_at, live_at, object_at, object_kept, token_at}
-use Rattle.aom_tokens.specs.Tokens as kept
-use Rattle.aom_tokens.specs.declared.tokens.Token.{Token as Machine_token}
+use Rattle.aom_cells.specs.Tokens.{Kept, Sets, class_at, class_kept, is_at, live_at, object_at, object_kept, token_at}
+use Rattle.aom_cells.specs.Tokens as kept
+use Rattle.aom_cells.specs.declared.tokens.Token.{Token as Machine_token}
 use Rattle.aom_machine_state.proofs.Asking.{requests_as}
 use Rattle.aom_machine_state.proofs.Beside.{listed_beside}
 use Rattle.aom_machine_state.proofs.Cells.{cells_as}

@@ -10,11 +10,11 @@ use Rattle.aom_clients.specs.Table.{completion, is_queued}
 use Rattle.aom_image.specs.Image.{Image}
 use Rattle.aom_image.specs.declared.method.Thing.TheVariants.{Message}
 use Rattle.aom_roles.specs.Things.{is_object}
-use Rattle.aom_messages.specs.Store.{Changes, Store, count, message_at}
-use Rattle.aom_queues.specs.Lists.{Table}
+use Rattle.aom_cells.specs.Store.{Changes, Store, count, message_at}
+use Rattle.aom_clients.specs.Lists.{Table}
 use Rattle.aom_roles.specs.Shapes.{kind_of}
 use Rattle.aom_rules.specs.Typing.{Typing}
-use Rattle.aom_native_sessions.specs.Sessions.{Standing}
+use Rattle.aom_cells.specs.Sessions.{Standing}
 use Rattle.aom_semantics.proofs.Maps.{held_lives, same_place-true, unnamed}
 use Rattle.aom_safety.proofs.Services.{service_unnamed, service_without}
 use Rattle.aom_safety.proofs.Sifted.{cell_name, cell_of, cell_placed, held_cell, object_in, request_in, requested_cell}
@@ -43,7 +43,7 @@ use Rattle.aom_machine_state.proofs.Serving.{names_apart}
 use Rattle.aom_machine_state.proofs.Told.{sent_untold, token_unsent, untold_sent}
 use Rattle.aom_machine_state.proofs.Tokens.{tokens_still}
 use Rattle.aom_semantics.specs.Tokens.{awaited}
-use Rattle.aom_tokens.specs.Tokens.{Kept}
+use Rattle.aom_cells.specs.Tokens.{Kept}
 
 module _ (p : Image) (t : Typing) (s : State) (w : WellTyped p t s) (g : Place) (o : Object) (there : held s.cells g ≡ Some o) (message : o.thing ≡ Message) where
   abbrev pub left : List Cell

@@ -10,8 +10,8 @@ use Rattle.aom_image.specs.Image.{Image}
 use Rattle.aom_image.specs.declared.method.Argument.{Argument}
 use Rattle.aom_image.specs.declared.method.Argument.TheVariants.{Own as Takes_own, Word as Takes_word}
 use Rattle.aom_image.specs.declared.method.Thing.TheVariants.{Object as An_object_of}
-use Rattle.aom_messages.specs.Store.{Store}
-use Rattle.aom_queues.specs.Lists.{Table}
+use Rattle.aom_cells.specs.Store.{Store}
+use Rattle.aom_clients.specs.Lists.{Table}
 use Rattle.aom_semantics.proofs.Maps.{named_moved, requested_moved}
 use Rattle.aom_safety.proofs.Storing.{named_set_word, rerequested_alike, resessioned_alike, resessioned_requests}
 use Rattle.aom_semantics.specs.Calls.{passed_cells}
@@ -22,7 +22,7 @@ use Rattle.aom_semantics.specs.Servers.{is_queue}
 use Rattle.aom_semantics.specs.State.{AtRoot, Frame, Home, Inside, State, Static, Task}
 use Rattle.aom_semantics.specs.Tokens.{awaited}
 use Rattle.aom_semantics.specs.Words.{stored}
-use Rattle.aom_tokens.specs.Tokens.{Kept}
+use Rattle.aom_cells.specs.Tokens.{Kept}
 use Rattle.aom_machine_state.proofs.Listing.{listed_alike, listed_same}
 use Rattle.aom_machine_state.proofs.Messages.{messages_asked, messages_made, messages_moved, messages_opened, messages_written}
 use Rattle.aom_machine_state.proofs.Still.{Still, same_still, still_itself, still_moved, still_new, still_requested, still_sessioned, still_written}

@@ -6,7 +6,7 @@ use Rattle.aom_image.specs.Image.{Image}
 use Rattle.aom_image.specs.declared.method.Argument.{Argument}
 use Rattle.aom_image.specs.declared.method.Argument.TheVariants.{Own as Takes_own, Word as Takes_word}
 use Rattle.aom_image.specs.declared.method.Thing.{Thing}
-use Rattle.aom_native_sessions.specs.Sessions.{Sets, Standing, is_open}
+use Rattle.aom_cells.specs.Sessions.{Sets, Standing, is_open}
 use Rattle.aom_safety.proofs.Counts.{count_opened}
 use Rattle.aom_safety.proofs.Sessions.{session_asked, session_moved, session_new, session_set_word, session_unnamed, session_without}
 use Rattle.aom_semantics.specs.Calls.{passed_cells}

@@ -14,7 +14,7 @@ use Rattle.aom_safety.proofs.Redeeming.{redeemed_alike, requested_redeemed}
 use Rattle.aom_safety.proofs.Services.{service_unnamed, service_without}
 use Rattle.aom_semantics.specs.Places.{Cell, Object, Place, Service, Tidy, Token, held, named, requested, service_of, unserved, without}
 use Rattle.aom_semantics.specs.Tokens.{TokensApart, all_redeemed, awaited, order_in, redeemed_request, with_token}
-use Rattle.aom_tokens.specs.Tokens.{Kept, Sets, class_at, class_kept, live_at, object_at, object_kept}
+use Rattle.aom_cells.specs.Tokens.{Kept, Sets, class_at, class_kept, live_at, object_at, object_kept}
 
 other_than : (m x : ℕ) → (m == x) ≡ false → x ≢ m
 other_than m x e same = false≢true (sym e ∙ eq-eqb m x (sym same))

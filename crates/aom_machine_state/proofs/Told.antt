@@ -18,7 +18,7 @@ use Rattle.aom_machine_state.proofs.Tokens.{tokens_still}
 use Rattle.aom_machine_state.proofs.Vanishing.{service_lost}
 use Rattle.aom_machine_state.specs.Serving.{message_name}
 use Rattle.aom_machine_state.specs.Tokens.{SameTokens}
-use Rattle.aom_tokens.specs.Tokens.{Kept}
+use Rattle.aom_cells.specs.Tokens.{Kept}
 
 -- ---- what one source tells
 

@@ -3,7 +3,7 @@ use Rattle.std.proofs.Common.{List, [], ap, refl, sym, ℕ, pos, ◌∙◌, ◌�
 use Rattle.aom_cells.specs.Heap.{Heap}
 use Rattle.aom_image.specs.Image.{Image}
 use Rattle.aom_machine_state.specs.Agrees.{SameCells, SameNatives, thing_of}
-use Rattle.aom_native_sessions.specs.Sessions.{Standing}
+use Rattle.aom_cells.specs.Sessions.{Standing}
 use Rattle.aom_roles.specs.Tables.{at}
 use Rattle.aom_safety.proofs.Unslotting.{each_unslotted_alike}
 use Rattle.aom_semantics.proofs.Altering.{Reads, count_kept, read_kept, sessions, unslotting}

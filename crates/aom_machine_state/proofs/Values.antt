@@ -14,7 +14,7 @@ use Rattle.aom_frames.specs.declared.task.Task.{Task as Machine_task}
 use Rattle.aom_frames.specs.declared.task.Task.TheVariants.{Run as Runs_frame, Destroy as Destroys}
 use Rattle.aom_machine_state.specs.Places.{Others, register_in, going_in, value_in}
 use Rattle.aom_machine_state.specs.Agrees.{word_in, word_at, Represents, SameTasks}
-use Rattle.aom_cleanup.specs.declared.item.Item.{Item}
+use Rattle.aom_frames.specs.declared.item.Item.{Item}
 use Rattle.std.proofs.lemmas.List.{nil_from_length}
 use Rattle.aom_machine_state.proofs.Alike.{by_tasks}
 

@@ -23,10 +23,10 @@ use Rattle.aom_frames.specs.declared.dispatch.Dispatch.TheVariants.{Main, MainLe
 use Rattle.aom_frames.specs.declared.dispatch.Stage.{Stage as Machine_stage}
 use Rattle.aom_frames.specs.declared.dispatch.Stage.TheVariants as stages
 use Rattle.aom_frames.specs.declared.dispatch.Subject.{Subject}
-use Rattle.aom_cleanup.specs.declared.item.Item.{Item as Machine_item}
-use Rattle.aom_cleanup.specs.declared.item.Item.TheVariants.{Object as Holds_object, Operation as Holds_operation, Mark as Is_mark}
+use Rattle.aom_frames.specs.declared.item.Item.{Item as Machine_item}
+use Rattle.aom_frames.specs.declared.item.Item.TheVariants.{Object as Holds_object, Operation as Holds_operation, Mark as Is_mark}
 use Rattle.aom_machine_state.specs.declared.parts.Parts.{Parts}
-use Rattle.aom_native_sessions.specs.Sessions.{Standing, is_open}
+use Rattle.aom_cells.specs.Sessions.{Standing, is_open}
 use Rattle.aom_machine_state.specs.Places.{value}
 use Rattle.aom_machine_state.specs.Services.{SameServices}
 

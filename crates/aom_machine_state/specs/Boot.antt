@@ -7,11 +7,11 @@ use Rattle.aom_cells.specs.Heap.{null}
 use Rattle.aom_frames.specs.Tasks.{fresh}
 use Rattle.aom_frames.specs.declared.task.Task.TheVariants.{Run, Trapped, Dispatched}
 use Rattle.aom_frames.specs.declared.dispatch.Dispatch.TheVariants.{Main}
-use Rattle.aom_cleanup.specs.declared.item.Item.TheVariants.{Mark}
+use Rattle.aom_frames.specs.declared.item.Item.TheVariants.{Mark}
 use Rattle.aom_active.specs.Agrees.{StandsFor}
 use Rattle.aom_clients.specs.Clients.{at_first}
-use Rattle.aom_queues.specs.Lists.{empty as no_list}
-use Rattle.aom_tokens.specs.Tokens.{none_of}
+use Rattle.aom_clients.specs.Lists.{empty as no_list}
+use Rattle.aom_cells.specs.Tokens.{none_of}
 use Rattle.aom_machine_state.specs.declared.parts.Parts.{Parts}
 
 -- time 0, main at hand under its trap, the mark of the trap, no cell, no message, and no client that asked for anything

@@ -3,10 +3,10 @@ use Rattle.std.specs.Prelude.{◌≡◌, ◌≢◌, ◌⊎◌, ◌+◌, ℕ, Som
 use Rattle.std.specs.List.{list_any}
 use Rattle.aom_cells.specs.Heap.{Heap, null, cell_at, count, blank, Changes}
 use Rattle.aom_semantics.specs.State.{raised}
-use Rattle.aom_lines.specs.LineBuffer.{LineBuffer}
+use Rattle.aom_machine_state.specs.LineBuffer.{LineBuffer}
 use Rattle.aom_machine_state.specs.declared.parts.Parts.{Parts}
-use Rattle.aom_queues.specs.Lists.{Table, without}
-use Rattle.aom_requests.specs.Requests.{request_at}
+use Rattle.aom_clients.specs.Lists.{Table, without}
+use Rattle.aom_scheduler.specs.Requests.{request_at}
 use Rattle.aom_active.specs.Agrees.{Active}
 use Rattle.aom_active.specs.Meanings.{Removes}
 

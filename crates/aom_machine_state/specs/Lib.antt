@@ -1,3 +1,4 @@
+pub mod LineBuffer
 pub mod Counts
 pub mod Progress
 pub mod Places

@@ -1,7 +1,7 @@
 -- The servers of each class, in the order in which they were enlisted.
 use Rattle.std.specs.Prelude.{◌≡◌, ◌<◌, ◌&&◌, ℕ, Bool, false, AllPairs, List, Option, Some, None, length}
 use Rattle.aom_image.specs.Image.{Image}
-use Rattle.aom_queues.specs.Lists.{Table, list_at}
+use Rattle.aom_clients.specs.Lists.{Table, list_at}
 use Rattle.aom_semantics.specs.Clients.{is_of_class}
 use Rattle.aom_semantics.specs.Places.{Cell, Object, Request, named, requested}
 use Rattle.aom_semantics.specs.Servers.{is_among, is_server}

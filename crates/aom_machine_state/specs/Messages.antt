@@ -2,7 +2,7 @@
 use Rattle.std.specs.Prelude.{◌≡◌, ◌<◌, ◌≤◌, ℕ, Bool, false, not, is_some, List, Option, Some, None}
 use Rattle.aom_image.specs.Image.{Image}
 use Rattle.aom_roles.specs.Things.{is_object}
-use Rattle.aom_messages.specs.Store.{Store, count, message_at, word_at}
+use Rattle.aom_cells.specs.Store.{Store, count, message_at, word_at}
 use Rattle.aom_machine_state.specs.Serving.{message_name}
 use Rattle.aom_semantics.specs.Clients.{count_messages}
 use Rattle.aom_semantics.specs.Places.{Cell, Object, named, word_field}

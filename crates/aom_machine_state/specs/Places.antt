@@ -6,8 +6,8 @@ use Rattle.aom_semantics.specs.Places.{Place, Register, Entry, Field, Going, Els
 use Rattle.aom_frames.specs.Tasks.{register_of, on_top, with_register, with_counter, with_place, place_here}
 use Rattle.aom_frames.specs.declared.task.Task.{Task}
 use Rattle.aom_frames.specs.declared.task.Task.TheVariants.{Run, Trapped, Destroy, Closing, Unwind, Dispatched}
-use Rattle.aom_cleanup.specs.Items.{entry_in, item_at, owned_by}
-use Rattle.aom_cleanup.specs.declared.item.Item.{Item}
+use Rattle.aom_frames.specs.Items.{entry_in, item_at, owned_by}
+use Rattle.aom_frames.specs.declared.item.Item.{Item}
 use Rattle.aom_clients.specs.Clients.{client_at, queue_at}
 use Rattle.aom_clients.specs.Clients as kept
 use Rattle.aom_clients.specs.Table.{no_cell}

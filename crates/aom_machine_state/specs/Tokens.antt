@@ -3,7 +3,7 @@ use Rattle.std.specs.Prelude.{◌≡◌, ℕ, ℤ, pos, true, is_some, length, L
 use Rattle.aom_active.specs.Agrees.{Active}
 use Rattle.aom_active.specs.Meanings.{Makes}
 use Rattle.aom_image.specs.Image.{Image}
-use Rattle.aom_tokens.specs.Tokens.{Kept, Sets, class_at, live_at, object_at}
+use Rattle.aom_cells.specs.Tokens.{Kept, Sets, class_at, live_at, object_at}
 use Rattle.aom_machine_state.specs.Serving.{message_name}
 use Rattle.aom_semantics.specs.Places.{Cell, Token, requested, service_of}
 use Rattle.aom_semantics.specs.Tokens.{awaited, order_in, redeemed_with}

@@ -2,24 +2,24 @@
 ghost use Rattle.std.specs.Prelude.{◌≡◌, ◌≤◌, [], ◌∷◌, None, IfOk, false, replicate};
 ghost use Rattle.aom_active.specs.Agrees.{StandsFor};
 ghost use Rattle.aom_cells.specs.Heap.{null};
-ghost use Rattle.aom_cleanup.specs.declared.item.Item.TheVariants.{Mark};
+ghost use Rattle.aom_frames.specs.declared.item.Item.TheVariants.{Mark};
 ghost use Rattle.aom_clients.specs.Clients.{at_first};
 ghost use Rattle.aom_frames.specs.Tasks.{fresh};
 ghost use Rattle.aom_frames.specs.declared.dispatch.Dispatch.TheVariants.{Main};
 ghost use Rattle.aom_frames.specs.declared.task.Task.TheVariants.{Dispatched, Run, Trapped};
-ghost use Rattle.aom_queues.specs.Lists.{empty as no_list};
-ghost use Rattle.aom_tokens.specs.Tokens.{none_of};
+ghost use Rattle.aom_clients.specs.Lists.{empty as no_list};
+ghost use Rattle.aom_cells.specs.Tokens.{none_of};
 
 use aom_active::ActiveObjects;
 use aom_cells::{Cells, NULL};
-use aom_cleanup::Cleanup;
+use aom_frames::Cleanup;
 use aom_clients::Clients;
 use aom_frames::{Dispatch, Frame, Task, Tasks};
 use aom_image::MethodNumber;
-use aom_messages::Messages;
-use aom_native_sessions::Sessions;
-use aom_queues::Lists;
-use aom_tokens::Tokens;
+use aom_cells::Messages;
+use aom_cells::Sessions;
+use aom_clients::Lists;
+use aom_cells::Tokens;
 use std::alloc::{AllocError, Global};
 
 /// How many tasks may be at hand. Methods are at most 257, each over at most three tasks that are none.

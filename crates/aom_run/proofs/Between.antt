@@ -8,7 +8,7 @@ use Rattle.aom_machine.proofs.Progressing.{is_as_far}
 use Rattle.aom_machine_state.specs.declared.progress.Progress.TheVariants.{Turned}
 use Rattle.aom_machine.specs.Steps.{progress, timers}
 use Rattle.aom_machine_state.specs.declared.counters.Counters.{Counters}
-use Rattle.aom_lines.specs.LineBuffer.{LineBuffer}
+use Rattle.aom_machine_state.specs.LineBuffer.{LineBuffer}
 use Rattle.aom_run.specs.Calls.{Completed as Completes_one, Delivered, NoneIsDue, Polled, Stands, StandsFor, Takes, natives_of}
 use Rattle.aom_run.specs.declared.machine.Machine.{Machine}
 use Rattle.aom_semantics.specs.Places.{named}

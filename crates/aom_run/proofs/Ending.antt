@@ -14,7 +14,7 @@ use Rattle.aom_semantics.specs.Natives.{is_dead}
 use Rattle.aom_semantics.specs.State.{Counters, State}
 use Rattle.aom_semantics.specs.World.{AnswersWell, Completion, Hears, Kills, Environment, Polls, cell_at, delivers, first_living, lives}
 use Rattle.aom_transcript.specs.declared.event.Event.TheVariants.{Kill}
-use Rattle.aom_lines.specs.LineBuffer.{LineBuffer}
+use Rattle.aom_machine_state.specs.LineBuffer.{LineBuffer}
 use Rattle.aom_machine_state.specs.Stands.{Machine as Core, StandsFor as Core_stands}
 use Rattle.aom_machine.specs.Turns.{Answers, Takes as Core_takes}
 use Rattle.aom_run.specs.declared.machine.Machine.{Machine}

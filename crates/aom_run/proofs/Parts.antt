@@ -3,7 +3,7 @@ use Rattle.std.proofs.lemmas.Bool.Decides.{nat_tests}
 use Rattle.std.proofs.Common.{◌≡◌, ◌≤◌, ℕ, suc, List, [], ◌++◌, Option, None, length, ap, arith, subst, sym, ◌∙◌}
 use Rattle.aom_determinism.proofs.Ending.{above, top}
 use Rattle.aom_image.specs.Image.{Image}
-use Rattle.aom_lines.specs.LineBuffer.{LineBuffer}
+use Rattle.aom_machine_state.specs.LineBuffer.{LineBuffer}
 use Rattle.aom_safety.proofs.Guarded.{goes_same}
 use Rattle.aom_safety.proofs.Turned.{commanded_kept}
 use Rattle.aom_semantics.specs.Places.{Object, named}

@@ -6,7 +6,7 @@ use Rattle.aom_semantics.specs.Moves.{written}
 use Rattle.aom_semantics.specs.State.{State}
 use Rattle.aom_semantics.specs.World.{Reaches, begins, moves as moved, turns, IsBusy, Environment}
 use Rattle.aom_transcript.specs.declared.line.Line.{Line}
-use Rattle.aom_lines.specs.LineBuffer.{LineBuffer}
+use Rattle.aom_machine_state.specs.LineBuffer.{LineBuffer}
 use Rattle.aom_machine_state.specs.declared.progress.Progress.{Progress}
 use Rattle.aom_machine.specs.Steps.{Steps, rests, moves, Settles, settled, settles, IsUncounted, Quiet, begins as none, goes_on as then_on}
 use Rattle.aom_run.specs.Calls.{Stands, StandsFor, SteppedOn}

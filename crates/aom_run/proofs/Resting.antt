@@ -7,7 +7,7 @@ use Rattle.aom_machine_state.specs.declared.progress.Progress.TheVariants.{Turne
 use Rattle.aom_machine.specs.Steps.{progress}
 use Rattle.aom_image.specs.declared.method.Thing.{Thing}
 use Rattle.aom_image.specs.declared.method.Thing.TheVariants.{Message, Object as An_object_of}
-use Rattle.aom_lines.specs.LineBuffer.{LineBuffer}
+use Rattle.aom_machine_state.specs.LineBuffer.{LineBuffer}
 use Rattle.aom_run.specs.Calls.{NoneIsDue, Picked, Stands, StandsFor, Takes, TakesAll, natives_of}
 use Rattle.aom_run.specs.declared.machine.Machine.{Machine}
 use Rattle.aom_safety.proofs.Counting.{dispatches_are_counted}

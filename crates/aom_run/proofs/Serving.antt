@@ -22,7 +22,7 @@ use Rattle.aom_semantics.specs.World.{AnswersWell, Completes, Completion, Cuts, 
 use Rattle.aom_transcript.specs.declared.event.Command.{Command}
 use Rattle.aom_transcript.specs.declared.event.Event.{Event}
 use Rattle.aom_transcript.specs.declared.event.Event.TheVariants.{Client}
-use Rattle.aom_lines.specs.LineBuffer.{LineBuffer}
+use Rattle.aom_machine_state.specs.LineBuffer.{LineBuffer}
 use Rattle.aom_machine_state.specs.Stands.{Machine as Core, StandsFor as Core_stands}
 use Rattle.aom_machine.specs.Clients.{Obeyed}
 use Rattle.aom_machine.specs.Steps.{timers}

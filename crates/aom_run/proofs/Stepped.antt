@@ -13,7 +13,7 @@ use Rattle.aom_run.proofs.Named.{elsewhere, there, turned_false}
 use Rattle.aom_semantics.specs.State.{State}
 use Rattle.aom_semantics.specs.Wanted.{Wanted, Starts, wanted}
 use Rattle.aom_determinism.specs.Owed.{FindsWell, is_for}
-use Rattle.aom_lines.specs.LineBuffer.{LineBuffer}
+use Rattle.aom_machine_state.specs.LineBuffer.{LineBuffer}
 use Rattle.aom_machine_state.specs.declared.progress.Progress.{Progress}
 use Rattle.aom_machine_state.specs.declared.progress.Progress.TheVariants.{Running}
 use Rattle.aom_machine_state.specs.Agrees.{heard_by}

@@ -4,7 +4,7 @@ use Rattle.std.proofs.Common.{arith, ◌≡◌, ◌≢◌, ℕ, List, [], ◌++�
 use Rattle.aom_semantics.specs.State.{State}
 use Rattle.aom_transcript.specs.declared.line.Line.{Line}
 use Rattle.aom_run.specs.Naming.{text_by}
-use Rattle.aom_lines.specs.LineBuffer.{LineBuffer}
+use Rattle.aom_machine_state.specs.LineBuffer.{LineBuffer}
 use Rattle.aom_machine_state.specs.declared.progress.Progress.{Progress}
 use Rattle.aom_machine_state.specs.declared.progress.Progress.TheVariants.{Running}
 use Rattle.aom_machine_state.specs.Progress.{progress_of}

@@ -8,7 +8,7 @@ use Rattle.aom_semantics.specs.World.{boot_state, IsBusy, Run_of, Environment}
 use Rattle.aom_transcript.specs.declared.line.Line.{Line}
 use Rattle.aom_transcript.specs.declared.line.Ending.{Ending}
 use Rattle.aom_transcript.specs.declared.line.Ending.TheVariants as endings
-use Rattle.aom_lines.specs.LineBuffer.{LineBuffer, step_lines}
+use Rattle.aom_machine_state.specs.LineBuffer.{LineBuffer, step_lines}
 use Rattle.aom_run.specs.Naming.{text_by, transcript_by}
 use Rattle.aom_run.specs.declared.outcome.Outcome.{Outcome}
 use Rattle.aom_run.specs.declared.outcome.Outcome.TheVariants.{Stopped, Waiting, MainLeft, Limit, Error, WriteFault}

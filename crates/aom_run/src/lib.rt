@@ -5,6 +5,7 @@
 //! machine, or a beginning of one where the sink failed (`Ran` of `specs/Runs.antt`), and `run_named` the same of that transcript with the
 //! names of classes in place of their numbers (`specs/Naming.antt`). No call but `Machine::boot` takes memory, by
 //! signature. A run knows what a machine's calls promise, and nothing of how it keeps its cells.
+//! A `Sink` takes bytes and a `Reader` gives them; each says of itself what it has taken or given, and whether it has failed.
 #![tactic(auto)]
 
 mod asking;
@@ -14,6 +15,7 @@ mod laws;
 mod machine;
 mod naming;
 mod outcome;
+mod reader;
 mod runs;
 mod sink;
 mod turns;
@@ -24,6 +26,7 @@ pub use fault::BootFault;
 pub use laws::numbers_are_transcripts;
 pub use machine::Machine;
 pub use outcome::Outcome;
+pub use reader::Reader;
 pub use runs::{run, run_named};
 pub use sink::{Sink, write_text};
 pub use turns::take_turns;

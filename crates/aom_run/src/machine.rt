@@ -1,7 +1,7 @@
 //! A machine and the natives beside it.
 ghost use Rattle.std.specs.Prelude.{ℤ, ◌≡◌, ◌<◌, ◌≤◌, ◌+◌, ◌↔◌, IfErr, IfOk, map, option_map, length, Some};
 ghost use Rattle.aom_machine.specs.Steps.{rank};
-ghost use Rattle.aom_lines.specs.LineBuffer.{step_lines};
+ghost use Rattle.aom_machine_state.specs.LineBuffer.{step_lines};
 ghost use Rattle.aom_machine_state.specs.Stands.{StandsFor as CoreStands};
 ghost use Rattle.aom_machine_state.specs.declared.progress.Progress.TheVariants.{Running};
 ghost use Rattle.aom_run.specs.Answers.{KeepsUnasked, MayHear, asked_of};
@@ -13,7 +13,7 @@ ghost use Rattle.aom_semantics.specs.World.{boot_state};
 
 use crate::BootFault;
 use aom_budget::Accepted;
-use aom_lines::LineBuffer;
+use aom_machine_state::LineBuffer;
 use aom_machine::{Progress, Wanted};
 use aom_natives::{Native, Natives};
 use aom_transcript::Event;

@@ -11,7 +11,7 @@ ghost use Rattle.aom_transcript.specs.declared.event.TimedEvent.{TimedEvent};
 ghost use Rattle.aom_run.specs.Turns.{AllPolled, CanHear, CompletesDue, HasCome, HearsAll, IsDue, IsLate, Keeps, NoneHasCome, Settles, TakesTurns, hearing, to_come, waiting};
 
 use crate::Machine;
-use aom_lines::LineBuffer;
+use aom_machine_state::LineBuffer;
 use aom_natives::Native;
 use aom_transcript::{Ending, Event, TimedEvent};
 

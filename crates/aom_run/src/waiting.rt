@@ -11,7 +11,7 @@ ghost use Rattle.aom_transcript.specs.declared.event.Event.TheVariants.{Client, 
 ghost use Rattle.aom_semantics.specs.World.{Hears, first_living, Passes};
 
 use crate::Machine;
-use aom_lines::LineBuffer;
+use aom_machine_state::LineBuffer;
 use aom_natives::{Native, Natives};
 use aom_transcript::{Command, Event};
 

@@ -4,3 +4,4 @@ pub mod Places
 pub mod Ready
 pub mod Pending
 pub mod Dues
+pub mod Requests

@@ -1,5 +1,5 @@
 use Rattle.std.proofs.Common.{◌<◌, ◌++◌, ◌∷◌, [], ap, sym, subst, ◌∙◌}
-use Rattle.aom_queues.specs.Lists.{IsFree, list_at, with_list}
+use Rattle.aom_clients.specs.Lists.{IsFree, list_at, with_list}
 use Rattle.aom_clients.specs.Parts.{CanClose, close_queued}
 use Rattle.aom_clients.proofs.parts.queue_close.Goals as goal
 

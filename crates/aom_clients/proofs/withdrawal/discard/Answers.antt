@@ -1,6 +1,6 @@
 use Rattle.std.proofs.Common.{◌∙◌, ap, length, refl, arith}
 use Rattle.std.proofs.lemmas.List.{length-set}
-use Rattle.aom_queues.specs.Lists.{list_at}
+use Rattle.aom_clients.specs.Lists.{list_at}
 use Rattle.aom_clients.specs.Table.{closed_place}
 use Rattle.aom_clients.specs.Withdrawals.{left_each}
 use Rattle.aom_clients.proofs.Leaving.{place}

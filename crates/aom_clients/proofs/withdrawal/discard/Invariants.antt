@@ -1,5 +1,5 @@
 use Rattle.std.proofs.Common.{◌≡◌, ◌<◌, ℕ, [], length}
-use Rattle.aom_queues.specs.Lists.{IsIn, list_at, with_list}
+use Rattle.aom_clients.specs.Lists.{IsIn, list_at, with_list}
 use Rattle.aom_clients.specs.Withdrawals.{left_each}
 use Rattle.aom_clients.proofs.withdrawal.discard.Given as goal
 

@@ -1,5 +1,5 @@
 use Rattle.std.proofs.Common.{◌∙◌, arith, ap}
-use Rattle.aom_queues.specs.Lists.{Table}
+use Rattle.aom_clients.specs.Lists.{Table}
 use Rattle.aom_clients.proofs.Draining.{Released, released}
 use Rattle.aom_clients.proofs.withdrawal.release.Goals as goal
 

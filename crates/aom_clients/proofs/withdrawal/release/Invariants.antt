@@ -1,5 +1,5 @@
 use Rattle.std.proofs.Common.{◌≡◌, ◌+◌, ◌++◌, [], length}
-use Rattle.aom_queues.specs.Lists.{list_at, with_list}
+use Rattle.aom_clients.specs.Lists.{list_at, with_list}
 use Rattle.aom_clients.proofs.withdrawal.release.Given as goal
 
 -- the messages that are left come behind those that were moved

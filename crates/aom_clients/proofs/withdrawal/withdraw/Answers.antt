@@ -1,6 +1,6 @@
 use Rattle.std.proofs.Common.{◌≡◌, ◌++◌, [], length, refl, sym, ap, ◌∙◌, arith}
 use Rattle.std.proofs.lemmas.List.{length-set, append-nil}
-use Rattle.aom_queues.specs.Lists.{list_at}
+use Rattle.aom_clients.specs.Lists.{list_at}
 use Rattle.aom_clients.specs.Table.{closed_place}
 use Rattle.aom_clients.specs.Withdrawals.{waiting_each, left_each}
 use Rattle.aom_clients.proofs.Leaving.{place, waiting-is}

@@ -2,7 +2,7 @@
 use Rattle.std.proofs.Common.{arith, ap, refl, ◌+◌}
 use Rattle.std.proofs.lemmas.Result.{IfOk-weaker}
 use Rattle.aom_image.specs.Image.{Image}
-use Rattle.aom_lines.specs.LineBuffer.{step_lines}
+use Rattle.aom_machine_state.specs.LineBuffer.{step_lines}
 use Rattle.aom_run.specs.Calls.{natives_of}
 use Rattle.aom_semantics.specs.World.{boot_state}
 use Rattle.aom_debug.proofs.Starting.{begun_of}

@@ -7,7 +7,7 @@ use Rattle.std.proofs.lemmas.List.{append-nil}
 use Rattle.std.proofs.lemmas.Result.{IfErr-weaker, IfOk-weaker, err_from_is_err_and}
 use Rattle.aom_clients.proofs.Looking.{after-in, first-in, from, from-first, from-next}
 use Rattle.aom_clients.specs.Clients.{client_after, sessions_at}
-use Rattle.aom_queues.specs.Lists.{IsIn, IsOnce}
+use Rattle.aom_clients.specs.Lists.{IsIn, IsOnce}
 use Rattle.aom_semantics.specs.Places.{Elsewhere, Field, Session}
 use Rattle.aom_debug_views.specs.Owners.{By_field, By_session, Represents, branch_text, further, owned_line}
 use Rattle.aom_debug_views.proofs.Telling.{none_sent, part_further, tells_all, tells_further}

@@ -4,7 +4,7 @@ use Rattle.std.specs.List.{flat_map}
 use Rattle.aom_clients.proofs.Looking.{from}
 use Rattle.aom_clients.specs.Clients.{sessions_at}
 use Rattle.aom_image.specs.Image.{Image}
-use Rattle.aom_queues.specs.Lists.{IsIn}
+use Rattle.aom_clients.specs.Lists.{IsIn}
 use Rattle.aom_debug_views.specs.Owners.{Way, owned_line, way_text}
 use Rattle.aom_debug_views.specs.Telling.{Tells, gathered}
 use Rattle.aom_debug_views.proofs.Trees.{below, done_text}

@@ -1,6 +1,6 @@
 -- What is outstanding is pending in the table.
 use Rattle.std.proofs.Common.{sym, ◌∙◌, rules}
-use Rattle.aom_requests.specs.Requests.{request_at}
+use Rattle.aom_scheduler.specs.Requests.{request_at}
 use Rattle.aom_machine.proofs.Killing.{spares, terminates}
 use Rattle.aom_machine_state.proofs.Owed.{pending_told}
 use Rattle.aom_machine.proofs.natives.fail_requests.Goals as goal

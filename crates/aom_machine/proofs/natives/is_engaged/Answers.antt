@@ -2,7 +2,7 @@
 use Rattle.std.proofs.Common.{Bool, ap, false, refl, sym, true, ◌∙◌, ◌≡◌}
 use Rattle.std.specs.Prelude.{◌&&◌, ◌||◌}
 use Rattle.aom_cells.specs.Heap.{class_at}
-use Rattle.aom_native_sessions.specs.Sessions.{is_open}
+use Rattle.aom_cells.specs.Sessions.{is_open}
 use Rattle.aom_semantics.specs.Natives.{is_owed}
 use Rattle.aom_machine.specs.Serving.{serves_class}
 use Rattle.aom_machine.proofs.Served.{served_class, unserved_class}

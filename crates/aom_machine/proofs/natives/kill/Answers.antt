@@ -1,6 +1,6 @@
 -- A native is killed as the checked machine kills it.
 use Rattle.std.proofs.Common.{ap, subst, sym, ◌∙◌, ◌++◌, ◌∷◌, []}
-use Rattle.aom_native_sessions.specs.Sessions.{Standing}
+use Rattle.aom_cells.specs.Sessions.{Standing}
 use Rattle.aom_semantics.specs.World.{Kills}
 use Rattle.aom_machine.specs.Turns.{Takes}
 use Rattle.aom_machine.proofs.Killing.{killed_is, kills, kills_no_timer}

@@ -3,7 +3,7 @@ use Rattle.std.proofs.Common.{ap, arith, of_z, refl, rules, subst, suc, w32, Fit
 use Rattle.std.specs.Int.{cast_unsigned}
 use Rattle.std.proofs.lemmas.Int.{to_z-of_z}
 use Rattle.aom_frames.specs.Tasks.{with_register}
-use Rattle.aom_messages.specs.Store.{word_at}
+use Rattle.aom_cells.specs.Store.{word_at}
 use Rattle.aom_machine.specs.Servers.{IsWord, told_word}
 use Rattle.aom_machine.proofs.servers.tell_words.Goals as goal
 

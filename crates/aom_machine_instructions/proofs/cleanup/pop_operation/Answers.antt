@@ -1,5 +1,5 @@
 use Rattle.std.proofs.Common.{None, Some, IfNone, IfSome, ◌≡◌, ◌∷◌}
-use Rattle.aom_cleanup.specs.Items.{IsEntry, IsNotAboveMark}
+use Rattle.aom_frames.specs.Items.{IsEntry, IsNotAboveMark}
 use Rattle.aom_machine_state.specs.Places.{next}
 use Rattle.aom_machine_instructions.specs.Acts.{Does}
 use Rattle.aom_instructions.specs.declared.instr.Instr.TheVariants.{PopOperation}

@@ -3,7 +3,7 @@ use Rattle.std.specs.Int.{w32}
 use Rattle.std.proofs.lemmas.Int.{to_z-of_z}
 use Rattle.aom_machine_state.specs.Tokens as meant
 use Rattle.aom_machine_state.specs.Tokens.{LetsGo}
-use Rattle.aom_tokens.specs.Tokens.{redeemed}
+use Rattle.aom_cells.specs.Tokens.{redeemed}
 use Rattle.aom_machine_instructions.proofs.messages.redeem.Goals as goal
 
 pub returns-in-Some : goal.returns-in-Some

@@ -3,7 +3,7 @@ use Rattle.std.proofs.Common.{rules, ◌≡◌, ◌∙◌, FitsSigned, None, Som
 use Rattle.std.specs.Int.{w32}
 use Rattle.std.proofs.lemmas.Int.{int_wrap_fits}
 use Rattle.aom_machine_instructions.specs.Natives.{begins_with}
-use Rattle.aom_native_sessions.specs.Sessions.{is_killed, is_open}
+use Rattle.aom_cells.specs.Sessions.{is_killed, is_open}
 use Rattle.aom_semantics.specs.Natives.{started}
 use Rattle.aom_machine_instructions.proofs.natives.declined.Goals as goal
 

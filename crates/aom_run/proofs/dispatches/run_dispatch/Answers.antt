@@ -1,6 +1,6 @@
 use Rattle.std.proofs.Common.{ap, arith, length, refl, subst, sym, take, ◌+◌, ◌∙◌, ◌≤◌}
 use Rattle.aom_image.specs.Image.{Image}
-use Rattle.aom_lines.specs.LineBuffer.{LineBuffer, step_lines}
+use Rattle.aom_machine_state.specs.LineBuffer.{LineBuffer, step_lines}
 use Rattle.aom_run.specs.Naming.{named_by, text_by}
 use Rattle.aom_run.specs.Runs.{after}
 use Rattle.aom_run.specs.Beside.{KeepsUnnamed}

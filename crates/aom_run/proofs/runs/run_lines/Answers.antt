@@ -1,6 +1,6 @@
 use Rattle.std.proofs.Common.{Some, ap, arith, length, refl, sym, [], ◌∙◌}
 use Rattle.aom_image.specs.Image.{Image}
-use Rattle.aom_lines.specs.LineBuffer.{LineBuffer}
+use Rattle.aom_machine_state.specs.LineBuffer.{LineBuffer}
 use Rattle.aom_semantics.specs.World.{boot_state}
 use Rattle.aom_run.specs.Calls.{Stands, natives_of}
 use Rattle.aom_run.specs.Naming.{named_by}

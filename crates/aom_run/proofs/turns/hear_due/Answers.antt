@@ -1,6 +1,6 @@
 -- Each event that has come is heard, up to one that is told by a line.
 use Rattle.std.proofs.Common.{arith, false, inl, inr, length, refl, subst, sym, ◌<◌, ◌≡◌, ◌∙◌}
-use Rattle.aom_lines.specs.LineBuffer.{LineBuffer}
+use Rattle.aom_machine_state.specs.LineBuffer.{LineBuffer}
 use Rattle.aom_run.specs.Beside.{is_for_native}
 use Rattle.aom_run.specs.Calls.{Delivered, EventInRange}
 use Rattle.aom_run.specs.Turns.{TellsEnd}

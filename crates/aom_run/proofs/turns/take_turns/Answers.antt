@@ -1,6 +1,6 @@
 use Rattle.std.proofs.Common.{ap, arith, length, subst, sym, true, Some, ◌∙◌, ◌<◌}
 use Rattle.aom_transcript.specs.declared.line.Ending.TheVariants.{Waiting}
-use Rattle.aom_lines.specs.LineBuffer.{LineBuffer}
+use Rattle.aom_machine_state.specs.LineBuffer.{LineBuffer}
 use Rattle.aom_run.specs.Calls.{Picked, natives_of}
 use Rattle.aom_run.proofs.Keeping.{as_many}
 use Rattle.aom_run.proofs.Serving.{cut_so, waited_so}

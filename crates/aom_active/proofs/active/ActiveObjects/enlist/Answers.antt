@@ -1,7 +1,7 @@
 use Rattle.std.proofs.Common.{None, pos, refl, w32}
 use Rattle.std.proofs.lemmas.Int.{to_z-of_z}
-use Rattle.aom_requests.specs.declared.request.Request.{Request}
-use Rattle.aom_requests.specs.declared.request.State.{State}
+use Rattle.aom_scheduler.specs.declared.request.Request.{Request}
+use Rattle.aom_scheduler.specs.declared.request.State.{State}
 use Rattle.aom_active.proofs.Calls.{enlists_it}
 use Rattle.aom_active.proofs.active.ActiveObjects.enlist.Goals as goal
 

@@ -1,7 +1,7 @@
 use Rattle.std.specs.Prelude.{is_some}
 use Rattle.std.proofs.Common.{ap, arith, rules, Bool, None, Option, [], refl, replicate, subst, sym, ℕ, ◌≡◌}
 use Rattle.std.proofs.lemmas.Grind.{common_steps}
-use Rattle.aom_requests.specs.Requests.{request_at}
+use Rattle.aom_scheduler.specs.Requests.{request_at}
 use Rattle.aom_active.specs.Agrees.{IsWhole, StandsFor, Tells, may_stand}
 use Rattle.aom_active.proofs.active.ActiveObjects.with_limit.Goals as goal
 

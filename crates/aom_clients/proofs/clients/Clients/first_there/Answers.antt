@@ -1,5 +1,5 @@
 use Rattle.std.proofs.Common.{◌≡◌, ◌<◌, ◌∙◌, IfSome, ap, arith, false, length, subst, sym, true}
-use Rattle.aom_queues.specs.Lists.{IsOnce}
+use Rattle.aom_clients.specs.Lists.{IsOnce}
 use Rattle.aom_clients.specs.Clients.{State, client_at, first_there, sessions_at}
 use Rattle.aom_clients.specs.Table.{has_cell}
 use Rattle.aom_clients.proofs.Looking.{after-in, first-in, found, from, from-first, from-next, looked}

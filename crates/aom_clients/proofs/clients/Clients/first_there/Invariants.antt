@@ -1,6 +1,6 @@
 use Rattle.std.proofs.Common.{◌≡◌, ◌<◌, ℕ, Some, length}
 use Rattle.aom_clients.specs.Clients.{first_there, sessions_at}
-use Rattle.aom_queues.specs.Lists.{IsIn}
+use Rattle.aom_clients.specs.Lists.{IsIn}
 use Rattle.aom_clients.proofs.Looking.{from}
 use Rattle.aom_clients.proofs.clients.Clients.first_there.Given as goal
 

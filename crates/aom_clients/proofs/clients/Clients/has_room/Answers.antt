@@ -1,6 +1,6 @@
 use Rattle.std.proofs.Common.{◌+◌, length, ap, ◌∙◌}
 use Rattle.std.specs.Prelude.{nat_lt}
-use Rattle.aom_queues.specs.Lists.{list_at}
+use Rattle.aom_clients.specs.Lists.{list_at}
 use Rattle.aom_clients.proofs.clients.Clients.has_room.Goals as goal
 use Rattle.aom_clients.proofs.Answering.{room-is}
 use Rattle.aom_clients.proofs.Steps.{connects-cell, sessions-cell}

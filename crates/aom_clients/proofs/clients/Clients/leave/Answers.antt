@@ -1,7 +1,7 @@
 use Rattle.std.specs.Prelude.{All, filter, slice_index_or}
 use Rattle.std.proofs.Common.{◌<◌, ◌+◌, [], List, length, refl, sym, ap, ◌∙◌, subst, arith}
 use Rattle.std.proofs.lemmas.List.Elements.{All-filter}
-use Rattle.aom_queues.specs.Lists.{list_at, with_list}
+use Rattle.aom_clients.specs.Lists.{list_at, with_list}
 use Rattle.aom_clients.specs.declared.place.Place.{Place}
 use Rattle.aom_clients.specs.declared.place.Place.TheVariants.{Free}
 use Rattle.aom_clients.specs.Table.{is_queued}

@@ -1,6 +1,6 @@
 use Rattle.std.proofs.Common.{◌≡◌, ◌+◌, refl, ap, ◌∙◌}
 use Rattle.std.specs.Prelude.{map}
-use Rattle.aom_queues.specs.Lists.{without}
+use Rattle.aom_clients.specs.Lists.{without}
 use Rattle.aom_clients.proofs.Same.{kept-as, state-as}
 use Rattle.aom_clients.proofs.clients.Clients.part.Goals as goal
 use Rattle.aom_clients.proofs.Services.{parted-kept, parted-seen}

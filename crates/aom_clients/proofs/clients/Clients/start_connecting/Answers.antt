@@ -1,5 +1,5 @@
 use Rattle.std.proofs.Common.{◌≡◌, ◌<◌, ◌+◌, ◌++◌, ◌∷◌, [], refl, sym, ap, ◌∙◌, subst}
-use Rattle.aom_queues.specs.Lists.{IsFree, list_at, with_list}
+use Rattle.aom_clients.specs.Lists.{IsFree, list_at, with_list}
 use Rattle.aom_clients.proofs.Same.{kept-as, state-as}
 use Rattle.aom_clients.proofs.clients.Clients.start_connecting.Goals as goal
 use Rattle.aom_clients.proofs.Steps.{cell, connect-free, connect-unlisted, connected}

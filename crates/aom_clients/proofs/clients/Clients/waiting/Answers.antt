@@ -1,7 +1,7 @@
 -- The node there is asked of its list, and its client of its place.
 use Rattle.std.proofs.Common.{◌∙◌, Some, ap, arith, subst, sym}
 use Rattle.std.specs.Prelude.{IfSome}
-use Rattle.aom_queues.specs.Lists.{IsIn, list_at}
+use Rattle.aom_clients.specs.Lists.{IsIn, list_at}
 use Rattle.aom_clients.specs.Parts.{client_in}
 use Rattle.aom_clients.proofs.Waiting.{waits-there}
 use Rattle.aom_clients.proofs.clients.Clients.waiting.Goals as goal

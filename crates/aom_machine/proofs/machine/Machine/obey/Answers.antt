@@ -5,7 +5,7 @@ use Rattle.aom_clients.specs.declared.refusal.Refusal.{Refusal}
 use Rattle.aom_semantics.specs.Clients.{refusal}
 use Rattle.aom_semantics.specs.Lines.{refusal_line}
 use Rattle.aom_semantics.specs.State.{Counters, State}
-use Rattle.aom_lines.specs.LineBuffer.{LineBuffer}
+use Rattle.aom_machine_state.specs.LineBuffer.{LineBuffer}
 use Rattle.aom_machine_state.specs.Stands.{Machine, StandsFor}
 use Rattle.aom_machine.specs.Clients.{Obeyed}
 use Rattle.aom_machine.specs.Steps.{timers}

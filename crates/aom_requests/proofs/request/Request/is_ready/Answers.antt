@@ -1,5 +1,0 @@
-use Rattle.std.proofs.Common.{rules}
-use Rattle.aom_requests.proofs.request.Request.is_ready.Goals as goal
-
-pub returns-in-Object-Active-default : goal.returns-in-Object-Active-default
-returns-in-Object-Active-default c = search rules
