@@ -13,8 +13,7 @@ ghost use Rattle.aom_active.specs.Meanings.{is_waited_for, is_being_cancelled, i
 
 use crate::parts::{abort_request, mark, signal, stop_timer};
 use aom_cells::CellId;
-use aom_scheduler::{Requests, State};
-use aom_scheduler::{Entry, Schedule, Timer, Timers};
+use aom_scheduler::{Entry, Requests, Schedule, State, Timer, Timers};
 use std::alloc::{AllocError, Global};
 use std::marker::Model;
 

@@ -9,8 +9,7 @@ ghost use Rattle.aom_active.specs.Meanings.{is_being_cancelled};
 ghost use Rattle.aom_active.specs.Aborts.{aborted_request};
 
 use aom_cells::CellId;
-use aom_scheduler::{Requests, State};
-use aom_scheduler::{Schedule, Timers};
+use aom_scheduler::{Requests, Schedule, State, Timers};
 
 /// The status of a request that is cancelled: KErrCancel.
 const CANCELLED: i32 = -3;

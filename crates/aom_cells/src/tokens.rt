@@ -2,8 +2,7 @@
 ghost use Rattle.std.specs.Prelude.{◌≡◌, ◌<◌, Some, None, IfOk, IfSome, IsNone, length};
 ghost use Rattle.aom_cells.specs.Tokens.{Sets, class_at, live_at, none_of, redeemed, token_at};
 
-use crate::CellId;
-use crate::MessageId;
+use crate::{CellId, MessageId};
 use std::alloc::{AllocError, Global};
 use std::marker::Model;
 

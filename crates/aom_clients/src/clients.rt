@@ -10,8 +10,7 @@ ghost use Rattle.aom_clients.specs.Parts.{IsLeft, is_connecting, is_ending, is_a
 use crate::entry::{CLIENTS, PLACES, close_node, connect_node};
 use crate::parts::{client_of, free_place, free_slot, give_up, hold, queue_close, take};
 use crate::withdrawal::{SLOTS, release, withdraw_all};
-use crate::{Client, Completion, Entry, Place, Refusal, Server, Taken};
-use crate::Lists;
+use crate::{Client, Completion, Entry, Lists, Place, Refusal, Server, Taken};
 use arrayvec::ArrayVec;
 use std::alloc::{AllocError, Global};
 use std::marker::Model;

@@ -5,8 +5,7 @@ ghost use Rattle.aom_clients.specs.Clients.{MessageBelow};
 ghost use Rattle.aom_clients.specs.Parts.{ConnectBelow, CanClose, client_in, taken_of, if_taken, message_in, unlisted, held_by, given_up, slot_freed, place_freed, close_queued};
 
 use crate::entry::close_node;
-use crate::{Client, Entry, Place, Taken};
-use crate::Lists;
+use crate::{Client, Entry, Lists, Place, Taken};
 
 /// Takes the first entry off a server's queue, with the client that it is of; a connect is listed no more.
 pub fn take(

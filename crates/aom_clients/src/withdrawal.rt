@@ -4,9 +4,8 @@ ghost use Rattle.aom_clients.specs.Lists.{IsIn, IsSound, list_at, with_list, wit
 ghost use Rattle.aom_clients.specs.Table.{is_queued};
 ghost use Rattle.aom_clients.specs.Withdrawals.{without_each, left_at, left_each, noted};
 
-use crate::Place;
 use crate::entry::{CLIENTS, connect_node};
-use crate::Lists;
+use crate::{Lists, Place};
 use arrayvec::ArrayVec;
 
 /// The most slots of a client.

@@ -14,8 +14,8 @@ ghost use Rattle.aom_debug_moves.specs.Sends.{IfSo};
 
 use crate::{Mover, is_due, pauses, spot_at};
 use aom_debug_words::Recent;
-use aom_machine_state::LineBuffer;
 use aom_machine::Progress;
+use aom_machine_state::LineBuffer;
 use aom_natives::Native;
 use aom_run::{Machine, Sink, write_lines};
 use aom_transcript::Page;

@@ -10,9 +10,9 @@ ghost use Rattle.aom_debug_views.specs.Sights.{cleanup_answers, held_answer, ite
 ghost use Rattle.aom_debug_views.specs.Telling.{Tells, TellsPart, answers_by};
 
 use crate::sending::tell_any_by;
-use aom_frames::Item;
 use aom_debug_names::Names;
 use aom_debug_words::{Answer, DebugFault};
+use aom_frames::Item;
 use aom_machine_state::Parts;
 use aom_run::Sink;
 

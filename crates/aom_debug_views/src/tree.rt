@@ -16,12 +16,11 @@ ghost use Rattle.aom_debug_views.specs.Telling.{IsCut, Tells, TellsPart};
 
 use crate::sending::send;
 use crate::way::{Way, add_class, add_message, enter, enter_session};
-use aom_cells::{CellId, NULL};
+use aom_cells::{CellId, MessageId, NULL};
 use aom_clients::{Client, NO_CELL, Place};
 use aom_debug_names::Names;
 use aom_debug_words::{DebugFault, Source};
 use aom_machine_state::Parts;
-use aom_cells::MessageId;
 use aom_run::Sink;
 
 /// How many generations may hang from a place: an object that another owns is of a lower class, and a message owns nothing.

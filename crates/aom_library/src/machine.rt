@@ -1,5 +1,5 @@
 //! The machine with its natives, and the turn that takes its lines.
 
-pub use aom_machine_state::LineBuffer;
 pub use aom_machine::Progress;
+pub use aom_machine_state::LineBuffer;
 pub use aom_run::{BootFault, Machine};

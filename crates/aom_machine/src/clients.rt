@@ -12,12 +12,11 @@ ghost use Rattle.aom_semantics.specs.State.{State as StateRecord};
 ghost use Rattle.std.specs.Prelude.{◌≡◌, ◌<◌, ◌≤◌, ◌+◌, ◌^◌, ℕ, IfSome, None, false, length, suc, true};
 
 use crate::servers::note_queue;
+use aom_cells::Messages;
 use aom_clients::{Client, Clients, Refusal, Server};
 use aom_image::ClassKind;
-use aom_machine_state::LineBuffer;
 use aom_linked::Linked;
-use aom_machine_state::Parts;
-use aom_cells::Messages;
+use aom_machine_state::{LineBuffer, Parts};
 use aom_transcript::{Command, Line};
 
 /// The server that the client asks or has a session with.

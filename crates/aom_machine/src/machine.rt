@@ -21,8 +21,7 @@ ghost use Rattle.aom_machine_state.specs.declared.progress.Progress.TheVariants.
 use crate::wanted::{self, Wanted};
 use crate::{clients, moves, natives, turns};
 use aom_budget::Accepted;
-use aom_machine_state::LineBuffer;
-use aom_machine_state::{Counters, Parts, Progress};
+use aom_machine_state::{Counters, LineBuffer, Parts, Progress};
 use aom_transcript::Command;
 use std::alloc::{AllocError, Global};
 use std::marker::Model;

@@ -18,10 +18,9 @@ ghost use Rattle.std.specs.Prelude.{◌≡◌, ◌<◌, ◌+◌, ◌^◌, ◌&&�
 
 use crate::wanted;
 use aom_cells::CellId;
-use aom_machine_state::LineBuffer;
 use aom_linked::Linked;
 use aom_machine_instructions::TERMINATED;
-use aom_machine_state::Parts;
+use aom_machine_state::{LineBuffer, Parts};
 use aom_transcript::Line;
 
 /// Whether the native serves a cell that has a request outstanding, or a session.

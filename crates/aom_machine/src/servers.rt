@@ -7,14 +7,12 @@ ghost use Rattle.aom_cells.specs.Store.{IsKept};
 ghost use Rattle.std.specs.Prelude.{◌≡◌, ◌<◌, ℕ, IsSome, length};
 
 use crate::turns::run_under;
-use aom_cells::CellId;
+use aom_cells::{CellId, MessageId, Messages};
 use aom_clients::{Entry, Taken};
 use aom_frames::{Dispatch, Frame, Stage, Subject, Task};
 use aom_image::Role;
-use aom_machine_state::LineBuffer;
 use aom_linked::Linked;
-use aom_machine_state::Parts;
-use aom_cells::{MessageId, Messages};
+use aom_machine_state::{LineBuffer, Parts};
 use aom_transcript::{Asked, Line};
 
 /// What waits in a queue, as a line shows it.

@@ -10,9 +10,8 @@ use crate::servers;
 use aom_cells::CellId;
 use aom_frames::{Dispatch, Frame, Subject, Task};
 use aom_image::Role;
-use aom_machine_state::LineBuffer;
 use aom_linked::Linked;
-use aom_machine_state::Parts;
+use aom_machine_state::{LineBuffer, Parts};
 use aom_transcript::Line;
 
 /// The timer that is due first completes its request, if it is due by now.

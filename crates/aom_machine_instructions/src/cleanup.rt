@@ -11,12 +11,10 @@ ghost use Rattle.aom_machine_instructions.specs.Next.{IsNext};
 use crate::leaving::{self, NO_MEMORY};
 use crate::{going, objects};
 use aom_cells::NULL;
-use aom_frames::Item;
-use aom_frames::{Frame, Task};
+use aom_frames::{Frame, Item, Task};
 use aom_image::{ClassNumber, MethodNumber, Register};
-use aom_machine_state::LineBuffer;
 use aom_linked::Linked;
-use aom_machine_state::Parts;
+use aom_machine_state::{LineBuffer, Parts};
 
 /// An object goes from a register to the cleanup stack. Where the request is refused, the method leaves then.
 #[inline(always)]

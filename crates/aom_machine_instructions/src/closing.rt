@@ -11,9 +11,8 @@ use crate::{going, servers};
 use aom_cells::NULL;
 use aom_frames::{Dispatch, Frame, Subject, Task};
 use aom_image::Role;
-use aom_machine_state::LineBuffer;
 use aom_linked::Linked;
-use aom_machine_state::Parts;
+use aom_machine_state::{LineBuffer, Parts};
 
 /// Nothing of the dispatch is left. Where `stop` was run, the root is at hand to go, if there is one.
 fn end_dispatch(parts: &mut Parts, linked: &Linked)

@@ -20,9 +20,8 @@ use crate::servers;
 use aom_cells::NULL;
 use aom_frames::{Dispatch, Frame, Task, TaskKind, View};
 use aom_image::{ClassNumber, MethodNumber, Register, Role};
-use aom_machine_state::LineBuffer;
 use aom_linked::Linked;
-use aom_machine_state::Parts;
+use aom_machine_state::{LineBuffer, Parts};
 use aom_roles::{parent_of, sessions_at};
 use aom_transcript::Line;
 

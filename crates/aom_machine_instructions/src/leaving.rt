@@ -20,9 +20,8 @@ use crate::{cleanup, servers};
 use aom_cells::NULL;
 use aom_frames::{Dispatch, Stage, Task, TaskKind};
 use aom_image::{Gives, Instr, Register};
-use aom_machine_state::LineBuffer;
 use aom_linked::Linked;
-use aom_machine_state::Parts;
+use aom_machine_state::{LineBuffer, Parts};
 use aom_transcript::Line;
 
 /// The code of a refused request.

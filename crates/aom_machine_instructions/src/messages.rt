@@ -12,12 +12,10 @@ ghost use Rattle.aom_scheduler.specs.Requests.{state_at};
 ghost use Rattle.aom_scheduler.specs.declared.request.State.{State};
 
 use crate::objects;
-use aom_cells::{CellId, NULL};
+use aom_cells::{CellId, MessageId, NULL};
 use aom_clients::Completion;
 use aom_image::{ClassNumber, Register};
-use aom_machine_state::LineBuffer;
-use aom_machine_state::Parts;
-use aom_cells::MessageId;
+use aom_machine_state::{LineBuffer, Parts};
 use aom_transcript::Line;
 use std::mem;
 

@@ -9,8 +9,7 @@ ghost use Rattle.aom_machine_instructions.specs.Next.{IsNext};
 
 use aom_cells::NULL;
 use aom_image::{ClassNumber, Place, Register};
-use aom_machine_state::LineBuffer;
-use aom_machine_state::Parts;
+use aom_machine_state::{LineBuffer, Parts};
 
 /// A number comes to a register, and the method goes on.
 pub fn bring(parts: &mut Parts, to: Register, number: u32)

@@ -8,11 +8,10 @@ ghost use Rattle.aom_machine_state.specs.Places.{IsEnding, with_tasks};
 
 use crate::messages;
 use crate::natives::TERMINATED;
+use aom_cells::MessageId;
 use aom_clients::{Clients, Entry, Taken};
 use aom_frames::{Dispatch, Stage, Task, TaskKind};
-use aom_machine_state::LineBuffer;
-use aom_machine_state::Parts;
-use aom_cells::MessageId;
+use aom_machine_state::{LineBuffer, Parts};
 use aom_transcript::Line;
 
 /// The method that a dispatch ran under its trap has returned, with that number: what `accept` gives is the session of the client, and a

@@ -6,8 +6,7 @@ ghost use Rattle.aom_machine_instructions.specs.Acts.{Does, Tells};
 ghost use Rattle.aom_machine_instructions.specs.Next.{IsNext};
 
 use aom_image::{Register, WordIndex};
-use aom_machine_state::LineBuffer;
-use aom_machine_state::Parts;
+use aom_machine_state::{LineBuffer, Parts};
 use aom_transcript::Line;
 
 pub fn load(parts: &mut Parts, to: Register, word: WordIndex)

@@ -11,15 +11,10 @@ ghost use Rattle.aom_clients.specs.Lists.{empty as no_list};
 ghost use Rattle.aom_cells.specs.Tokens.{none_of};
 
 use aom_active::ActiveObjects;
-use aom_cells::{Cells, NULL};
-use aom_frames::Cleanup;
-use aom_clients::Clients;
-use aom_frames::{Dispatch, Frame, Task, Tasks};
+use aom_cells::{Cells, Messages, NULL, Sessions, Tokens};
+use aom_clients::{Clients, Lists};
+use aom_frames::{Cleanup, Dispatch, Frame, Task, Tasks};
 use aom_image::MethodNumber;
-use aom_cells::Messages;
-use aom_cells::Sessions;
-use aom_clients::Lists;
-use aom_cells::Tokens;
 use std::alloc::{AllocError, Global};
 
 /// How many tasks may be at hand. Methods are at most 257, each over at most three tasks that are none.

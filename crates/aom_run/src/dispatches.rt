@@ -10,8 +10,8 @@ ghost use Rattle.aom_natives.specs.Slots.{AllAgree};
 
 use crate::naming::put_lines;
 use crate::{Machine, Sink, write_text};
-use aom_machine_state::LineBuffer;
 use aom_machine::Progress;
+use aom_machine_state::LineBuffer;
 use aom_natives::Native;
 use aom_transcript::{Line, Page};
 
