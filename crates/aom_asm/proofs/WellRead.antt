@@ -1,5 +1,6 @@
 -- What holds of a program while it is read, and so what reads without a fault is a well-formed image.
-use Rattle.std.proofs.Common.{◌≡◌, ◌∙◌, refl, sym, ap, subst, arith, ℕ, suc, ◌+◌, ◌*◌, ◌<◌, ◌≤◌, ◌^◌, ◌==◌, nat_lt, nat_le, Bool, true, false, List, [], ◌∷◌, ◌++◌, length, length-append, Option, Some, None, Result, Ok, Err, is_some}
+use Rattle.std.proofs.Common.{◌≡◌, ◌∙◌, refl, sym, ap, subst, arith, ℕ, suc, ◌+◌, ◌*◌, ◌<◌, ◌≤◌, ◌^◌, ◌==◌, nat_lt, nat_le, Bool, true}
+use Rattle.std.proofs.Common.{false, List, [], ◌∷◌, ◌++◌, length, length-append, Option, Some, None, Result, Ok, Err, is_some}
 use Rattle.std.specs.Prelude.{cond, if◌then◌else◌}
 use Rattle.std.specs.List.{All, count_by, sum_by}
 use Rattle.std.proofs.lemmas.Bool.{ltb-true, eqb-false, false≢true}
@@ -30,10 +31,12 @@ use Rattle.aom_syntax.specs.declared.method.Heading.{Heading}
 use Rattle.aom_syntax.specs.declared.scope.Scope.{Scope}
 use Rattle.aom_syntax.specs.Ranges.{ClassesInRange, HeadersInRange, HeadingFits, HeadingsInRange, InstructionsInRange}
 use Rattle.aom_asm.specs.Body.{Body, Program}
-use Rattle.aom_asm.specs.Denoted.{and_then, at_line, closed, declaration, denoted, grown, image_of, in_body, last_line_of, method_of, opened, read_program, read_rest, read_statements, scope_of, step, step_by, with_class, with_heading, with_instruction, with_method}
+use Rattle.aom_asm.specs.Denoted.{and_then, at_line, closed, declaration, denoted, grown, image_of, in_body, last_line_of, method_of, opened, read_program}
+use Rattle.aom_asm.specs.Denoted.{read_rest, read_statements, scope_of, step, step_by, with_class, with_heading, with_instruction, with_method}
 use Rattle.aom_syntax.proofs.Within.{kept, ok_is, passed, steps}
 use Rattle.aom_asm.specs.TextNames.{declared_names, is_end, labels_of, name_after}
-use Rattle.aom_asm.proofs.Counting.{Silent, at_end, before_end, begins_with, class_alone, code_silent, count_declared, declares, declares_more, declares_none, end_silent, header_silent, length_labels, method_alone, names_one, not_at_end, one_of, takes_end, takes_no_end}
+use Rattle.aom_asm.proofs.Counting.{Silent, at_end, before_end, begins_with, class_alone, code_silent, count_declared, declares, declares_more, declares_none}
+use Rattle.aom_asm.proofs.Counting.{end_silent, header_silent, length_labels, method_alone, names_one, not_at_end, one_of, takes_end, takes_no_end}
 use Rattle.aom_asm.proofs.Steps.{Started, grown_is, no_ok, program_starts, said, started, steps_then}
 use Rattle.aom_image.proofs.Given.{cons_given}
 
@@ -115,13 +118,15 @@ record Read (scope : Scope) (p : Program) (ss : List Statement) : Type 0 where
 
 -- ---- one statement
 
-module _ (headers : HeadersInRange) (classes_in : ClassesInRange) (headings : HeadingsInRange) (instructions : InstructionsInRange) (scope : Scope) (before : Version) (natives : ℕ) (settled : scope.is_strict ≡ true → All (ClassFits before (length scope.classes) natives) scope.kinds) where
+module _ (headers : HeadersInRange) (classes_in : ClassesInRange) (headings : HeadingsInRange) (instructions : InstructionsInRange) (scope : Scope)
+    (before : Version) (natives : ℕ) (settled : scope.is_strict ≡ true → All (ClassFits before (length scope.classes) natives) scope.kinds) where
   -- a class
   class_step : (ss : List Statement) (h : Header) (cs : List ClassDecl) (ms : List Method) (size cl ml : ℕ) (ws : List (List ℕ)) (q : Program)
       → cl ≡ suc (declares k.Class ss) → ml ≡ declares k.Method ss → Holds scope h cs ms size None cl ml → with_class scope (program h cs ms None size) ws ≡ Ok q → Read scope q ss
-  class_step ss h cs ms size cl ml ws q some none holds is =
-      let i = passed (nat_lt (length cs) 256) (class_statement scope h.version h.natives (length cs) (count_by is_server cs) ws >>= λ c. grown (28 + family_bytes h.version) size >>= λ n. Ok (program h (cs ++ c.0 ∷ []) ms None n)) LimitPassed q is in
-      let s = steps (class_statement scope h.version h.natives (length cs) (count_by is_server cs) ws) (λ c. grown (28 + family_bytes h.version) size >>= λ n. Ok (program h (cs ++ c.0 ∷ []) ms None n)) q i.1 in
+  class_step ss h cs ms size cl ml ws q some none holds is = let i = passed (nat_lt (length cs) 256) (class_statement scope h.version h.natives (length cs)
+      (count_by is_server cs) ws >>= λ c. grown (28 + family_bytes h.version) size >>= λ n. Ok (program h (cs ++ c.0 ∷ []) ms None n)) LimitPassed q is in
+      let s = steps (class_statement scope h.version h.natives (length cs) (count_by is_server cs) ws)
+      (λ c. grown (28 + family_bytes h.version) size >>= λ n. Ok (program h (cs ++ c.0 ∷ []) ms None n)) q i.1 in
       let c = s.first.0 in
       let t = steps (grown (28 + family_bytes h.version) size) (λ n. Ok (program h (cs ++ c ∷ []) ms None n)) q s.second in
       let g = grown_is (28 + family_bytes h.version) size t.first t.read in
@@ -158,7 +163,8 @@ module _ (headers : HeadersInRange) (classes_in : ClassesInRange) (headings : He
       → cl ≡ declares k.Class ss → ml ≡ suc (declares k.Method ss) → Holds scope h cs ms size None cl ml → with_heading scope ss (program h cs ms None size) ws ≡ Ok q → Read scope q ss
   heading_step ss h cs ms size cl ml ws q none some holds is =
       let begun : Heading → Option Body = λ m. Some (record { heading = m; labels = labels_of [] ss; code = [] }) in
-      let i = passed (nat_lt (length ms) 1024) (heading scope h.version (length ms) ws >>= λ m. grown (24 + family_bytes h.version) size >>= λ n. Ok (program h cs ms (begun m.0) n)) LimitPassed q is in
+      let i = passed (nat_lt (length ms) 1024) (heading scope h.version
+      (length ms) ws >>= λ m. grown (24 + family_bytes h.version) size >>= λ n. Ok (program h cs ms (begun m.0) n)) LimitPassed q is in
       let s = steps (heading scope h.version (length ms) ws) (λ m. grown (24 + family_bytes h.version) size >>= λ n. Ok (program h cs ms (begun m.0) n)) q i.1 in
       let m = s.first.0 in
       let t = steps (grown (24 + family_bytes h.version) size) (λ n. Ok (program h cs ms (begun m) n)) q s.second in
@@ -195,7 +201,8 @@ module _ (headers : HeadersInRange) (classes_in : ClassesInRange) (headings : He
       let fits = InstrFits (limits h.version (length scope.classes) (length scope.methods) (length b.labels)) in
       let labels = body.labels in
       let spelling = holds.spelling in
-      let same : program h cs ms (Some (longer_by added)) t.first ≡ q = ap (λ c. program h cs ms (Some c) t.first) (ok_is (longer_by added) s.first u.second) ∙ ok_is (program h cs ms (Some s.first) t.first) q t.second in
+      let same : program h cs ms (Some (longer_by added)) t.first ≡ q =
+      ap (λ c. program h cs ms (Some c) t.first) (ok_is (longer_by added) s.first u.second) ∙ ok_is (program h cs ms (Some s.first) t.first) q t.second in
       subst (λ q. Read scope q ss) same (record {
         parts = record { class_names = holds.class_names; method_names = holds.method_names; few_methods = holds.few_methods; spelling = omega (arith, g.0); short = g.1; done = holds.done };
         body = record {
@@ -210,7 +217,8 @@ module _ (headers : HeadersInRange) (classes_in : ClassesInRange) (headings : He
   abbrev whole_of : Body → Method
   whole_of b = record { class = b.heading.class; over = b.heading.over; role = b.heading.role; flags = b.heading.flags; before = b.heading.before; after = b.heading.after; arguments = b.heading.arguments; gives = b.heading.gives; code = b.code }
 
-  method_fits : (version : Version) (b : Body) (left : ℕ) → BodyHolds scope version b left → scope.is_strict ≡ true → length b.labels ≡ length b.code → 1 ≤ length b.code → MethodFits version (length scope.classes) (length scope.methods) (whole_of b)
+  method_fits : (version : Version) (b : Body) (left : ℕ) → BodyHolds scope version b left → scope.is_strict ≡ true →
+      length b.labels ≡ length b.code → 1 ≤ length b.code → MethodFits version (length scope.classes) (length scope.methods) (whole_of b)
   method_fits version b left body strict places some =
       let range = body.heading strict in
       let code = subst (λ n. All (InstrFits (limits version (length scope.classes) (length scope.methods) n)) b.code) places (body.code strict) in
@@ -248,7 +256,8 @@ module _ (headers : HeadersInRange) (classes_in : ClassesInRange) (headings : He
             parents = holds.done.parents;
             servers = holds.done.servers;
             overs = λ strict. All-push (λ m. OverFits h.version (length scope.methods) m.over) ms whole (holds.done.overs strict) (body.heading strict).over;
-            methods = λ strict. All-push (MethodFits h.version (length scope.classes) (length scope.methods)) ms whole (holds.done.methods strict) (method_fits h.version b left body strict places (omega (arith, some)));
+            methods = λ strict. All-push (MethodFits h.version (length scope.classes) (length scope.methods)) ms whole
+                (holds.done.methods strict) (method_fits h.version b left body strict places (omega (arith, some)));
           };
         };
         body = tt;
@@ -257,29 +266,35 @@ module _ (headers : HeadersInRange) (classes_in : ClassesInRange) (headings : He
   -- ---- any statement
 
   -- a name behind a keyword, where more was read behind it
-  class_named : (h : Header) (cs : List ClassDecl) (ms : List Method) (size : ℕ) (ws rest : List (List ℕ)) (q : Program) → ws ≡ keyword_text k.Class ∷ rest → with_class scope (program h cs ms None size) rest ≡ Ok q → one_of (name_after k.Class ws) ≡ 1
+  class_named : (h : Header) (cs : List ClassDecl) (ms : List Method) (size : ℕ) (ws rest : List (List ℕ)) (q : Program) →
+      ws ≡ keyword_text k.Class ∷ rest → with_class scope (program h cs ms None size) rest ≡ Ok q → one_of (name_after k.Class ws) ≡ 1
   class_named h cs ms size ws rest q begins is =
       cons_given (λ r. with_class scope (program h cs ms None size) r ≡ Ok q) rest is (λ e. no_ok _ _ (passed (nat_lt (length cs) 256) (Err BadShape) LimitPassed q e).1)
       (λ n left same e. names_one k.Class ws n left (begins ∙ ap (λ v. keyword_text k.Class ∷ v) same))
 
-  method_named : (ss : List Statement) (h : Header) (cs : List ClassDecl) (ms : List Method) (size : ℕ) (ws rest : List (List ℕ)) (q : Program) → ws ≡ keyword_text k.Method ∷ rest → with_heading scope ss (program h cs ms None size) rest ≡ Ok q → one_of (name_after k.Method ws) ≡ 1
+  method_named : (ss : List Statement) (h : Header) (cs : List ClassDecl) (ms : List Method) (size : ℕ) (ws rest : List (List ℕ)) (q : Program) →
+      ws ≡ keyword_text k.Method ∷ rest → with_heading scope ss (program h cs ms None size) rest ≡ Ok q → one_of (name_after k.Method ws) ≡ 1
   method_named ss h cs ms size ws rest q begins is =
       cons_given (λ r. with_heading scope ss (program h cs ms None size) r ≡ Ok q) rest is (λ e. no_ok _ _ (passed (nat_lt (length ms) 1024) (Err BadShape) LimitPassed q e).1)
       (λ n left same e. names_one k.Method ws n left (begins ∙ ap (λ v. keyword_text k.Method ∷ v) same))
 
   module _ (s : Statement) (ss : List Statement) (h : Header) (cs : List ClassDecl) (ms : List Method) (size : ℕ) (q : Program) where
     -- a class or the beginning of a method
-    declared_step : Holds scope h cs ms size None (declares k.Class (s ∷ ss)) (declares k.Method (s ∷ ss)) → (key : Keyword) (rest : List (List ℕ)) → any_keyword s.words ≡ Ok (key, rest) → declaration scope ss (program h cs ms None size) key rest ≡ Ok q → Read scope q ss
+    declared_step : Holds scope h cs ms size None (declares k.Class (s ∷ ss)) (declares k.Method (s ∷ ss)) → (key : Keyword) (rest : List (List ℕ)) →
+        any_keyword s.words ≡ Ok (key, rest) → declaration scope ss (program h cs ms None size) key rest ≡ Ok q → Read scope q ss
     declared_step holds k.Class rest read is =
         let one = class_named h cs ms size s.words rest q (begins_with s.words k.Class rest read) is in
-        class_step ss h cs ms size (declares k.Class (s ∷ ss)) (declares k.Method (s ∷ ss)) rest q (omega (arith, declares_more k.Class s ss 1 one)) (omega (arith, declares_more k.Method s ss 0 (class_alone s.words rest read))) holds is
+        class_step ss h cs ms size (declares k.Class (s ∷ ss)) (declares k.Method (s ∷ ss)) rest q
+        (omega (arith, declares_more k.Class s ss 1 one)) (omega (arith, declares_more k.Method s ss 0 (class_alone s.words rest read))) holds is
     declared_step holds k.Method rest read is =
         let one = method_named ss h cs ms size s.words rest q (begins_with s.words k.Method rest read) is in
-        heading_step ss h cs ms size (declares k.Class (s ∷ ss)) (declares k.Method (s ∷ ss)) rest q (omega (arith, declares_more k.Class s ss 0 (method_alone s.words rest read))) (omega (arith, declares_more k.Method s ss 1 one)) holds is
+        heading_step ss h cs ms size (declares k.Class (s ∷ ss)) (declares k.Method (s ∷ ss)) rest q
+        (omega (arith, declares_more k.Class s ss 0 (method_alone s.words rest read))) (omega (arith, declares_more k.Method s ss 1 one)) holds is
     declared_step holds _ rest read is = absurd (no_ok _ _ is)
 
     -- the same with no names to come from this statement
-    none_declared : (o : Option Body) → Silent s.words → Holds scope h cs ms size o (declares k.Class (s ∷ ss)) (declares k.Method (s ∷ ss)) → Holds scope h cs ms size o (declares k.Class ss) (declares k.Method ss)
+    none_declared : (o : Option Body) → Silent s.words → Holds scope h cs ms size o (declares k.Class (s ∷ ss)) (declares k.Method (s ∷ ss)) →
+        Holds scope h cs ms size o (declares k.Class ss) (declares k.Method ss)
     none_declared o silent holds =
         let classes : declares k.Class (s ∷ ss) ≡ declares k.Class ss = omega (arith, declares_more k.Class s ss 0 silent.class) in
         let methods : declares k.Method (s ∷ ss) ≡ declares k.Method ss = omega (arith, declares_more k.Method s ss 0 silent.method) in
@@ -293,19 +308,23 @@ module _ (headers : HeadersInRange) (classes_in : ClassesInRange) (headings : He
         let first = steps (with_instruction scope h.version b s.words) (λ c. grown 8 size >>= λ n. Ok (program h cs ms (Some c) n)) q is in
         let i = passed (nat_lt (length b.code) 1024) (instruction scope h.version b.labels (length b.code) s.words >>= λ i. Ok (added i.0)) LimitPassed first.first first.read in
         let said = steps (instruction scope h.version b.labels (length b.code) s.words) (λ i. Ok (added i.0)) first.first i.1 in
-        code_step ss h cs ms size (before_end (s ∷ ss)) b s.words q (not_at_end s ss goes_on) (none_declared (Some b) (code_silent scope h.version b.labels (length b.code) s.words said.first said.read) holds) body is
+        code_step ss h cs ms size (before_end (s ∷ ss)) b s.words q
+        (not_at_end s ss goes_on) (none_declared (Some b) (code_silent scope h.version b.labels (length b.code) s.words said.first said.read) holds) body is
 
-    body_step : (b : Body) → Holds scope h cs ms size (Some b) (declares k.Class (s ∷ ss)) (declares k.Method (s ∷ ss)) → BodyHolds scope h.version b (before_end (s ∷ ss)) → in_body scope (program h cs ms None size) b s.words ≡ Ok q → Read scope q ss
+    body_step : (b : Body) → Holds scope h cs ms size (Some b) (declares k.Class (s ∷ ss)) (declares k.Method (s ∷ ss)) →
+        BodyHolds scope h.version b (before_end (s ∷ ss)) → in_body scope (program h cs ms None size) b s.words ≡ Ok q → Read scope q ss
     body_step b holds body is = go (is_end s.words) refl
       where
         one : Bool × List (List ℕ) → Result Program AsmFaultKind
         one t = if t.0 then with_method (program h cs ms None size) b t.1 else (with_instruction scope h.version b t.1 >>= λ c. grown 8 size >>= λ n. Ok (program h cs ms (Some c) n))
 
         go : (e : Bool) → is_end s.words ≡ e → Read scope q ss
-        go true ends = end_step ss h cs ms size (before_end (s ∷ ss)) b (took k.End s.words).1 q (at_end s ss ends) (none_declared (Some b) (end_silent s.words ends) holds) body (if_true _ _ (Ok q) (took k.End s.words).0 (takes_end s.words ends) is)
+        go true ends = end_step ss h cs ms size (before_end (s ∷ ss)) b (took k.End s.words).1 q (at_end s ss ends)
+            (none_declared (Some b) (end_silent s.words ends) holds) body (if_true _ _ (Ok q) (took k.End s.words).0 (takes_end s.words ends) is)
         go false goes_on = spoken b holds body goes_on (sym (ap one (takes_no_end s.words goes_on)) ∙ is)
 
-    stepped : (o : Option Body) → Holds scope h cs ms size o (declares k.Class (s ∷ ss)) (declares k.Method (s ∷ ss)) → OpenHolds scope h.version o (s ∷ ss) → step_by o scope ss (program h cs ms None size) s.words ≡ Ok q → Read scope q ss
+    stepped : (o : Option Body) → Holds scope h cs ms size o (declares k.Class (s ∷ ss)) (declares k.Method (s ∷ ss)) →
+        OpenHolds scope h.version o (s ∷ ss) → step_by o scope ss (program h cs ms None size) s.words ≡ Ok q → Read scope q ss
     stepped None holds body is =
         let t = steps (any_keyword s.words) (λ key. declaration scope ss (program h cs ms None size) key.0 key.1) q is in
         declared_step holds t.first.0 t.first.1 t.read t.second
@@ -337,7 +356,8 @@ module _ (headers : HeadersInRange) (classes_in : ClassesInRange) (headings : He
 
   -- ---- a whole program
 
-  opens : (s : Statement) (ss : List Statement) (p : Program) → length scope.classes ≡ declares k.Class (s ∷ ss) → length scope.methods ≡ declares k.Method (s ∷ ss) → opened scope s.words ≡ Ok p → Read scope p ss
+  opens : (s : Statement) (ss : List Statement) (p : Program) →
+      length scope.classes ≡ declares k.Class (s ∷ ss) → length scope.methods ≡ declares k.Method (s ∷ ss) → opened scope s.words ≡ Ok p → Read scope p ss
   opens s ss p class_names method_names is =
       let t = steps (image_statement scope s.words) (λ h. Ok (program h.0 [] [] None 24)) p is in
       let silent = header_silent scope s.words t.first t.read in
@@ -376,7 +396,9 @@ module _ (headers : HeadersInRange) (classes_in : ClassesInRange) (headings : He
       let class_count : length scope.classes ≡ length q.classes = omega (arith, declares_none k.Class) in
       let method_count : length scope.methods ≡ length q.methods = omega (arith, declares_none k.Method) in
       let classes : ClassesFit q.header.version q.header.natives q.classes = record { count = parts.done.few_classes; each = subst (λ n. All (ClassFits q.header.version n q.header.natives) q.classes) class_count parts.done.classes; servers = parts.done.servers } in
-      let each : All (MethodFits q.header.version (length q.classes) (length q.methods)) q.methods = subst (λ n. All (MethodFits q.header.version n (length q.methods)) q.methods) class_count (subst (λ n. All (MethodFits q.header.version (length scope.classes) n) q.methods) method_count (parts.done.methods strict)) in
+      let each : All (MethodFits q.header.version (length q.classes) (length q.methods)) q.methods =
+      subst (λ n. All (MethodFits q.header.version n (length q.methods)) q.methods) class_count
+      (subst (λ n. All (MethodFits q.header.version (length scope.classes) n) q.methods) method_count (parts.done.methods strict)) in
       let methods : MethodsFit q.header.version (length q.classes) q.methods = record { some = at.some; count = omega arith; each = each } in
       let v = q.header.version in
       let families : FamiliesFit v q.classes q.methods = record {
@@ -395,10 +417,10 @@ module _ (headers : HeadersInRange) (classes_in : ClassesInRange) (headings : He
 
 module _ (headers : HeadersInRange) (classes_in : ClassesInRange) (headings : HeadingsInRange) (instructions : InstructionsInRange) where
   -- the classes of the first reading are in range for the second
-  first_classes : (last : ℕ) (ss : List Statement) (q : Program) → read_program last (scope_of false ss []) ss ≡ Ok q → All (ClassFits q.header.version (length (declared_names k.Class [] ss)) q.header.natives) q.classes
-  first_classes last ss q is =
-      let at = program_read headers classes_in headings instructions (scope_of false ss []) q.header.version 0 (λ strict. absurd (false≢true strict)) last ss q (count_declared k.Class ss) (count_declared k.Method ss)
-      (program_starts last (scope_of false ss []) ss q is) in
+  first_classes : (last : ℕ) (ss : List Statement) (q : Program) →
+      read_program last (scope_of false ss []) ss ≡ Ok q → All (ClassFits q.header.version (length (declared_names k.Class [] ss)) q.header.natives) q.classes
+  first_classes last ss q is = let at = program_read headers classes_in headings instructions (scope_of false ss []) q.header.version 0 (λ strict. absurd
+      (false≢true strict)) last ss q (count_declared k.Class ss) (count_declared k.Method ss) (program_starts last (scope_of false ss []) ss q is) in
       at.read.parts.done.classes
 
   statements_well : (last : ℕ) (ss : List Statement) (i : Image) → read_statements last ss ≡ Ok i → WellFormed i
@@ -408,9 +430,12 @@ module _ (headers : HeadersInRange) (classes_in : ClassesInRange) (headings : He
       let first = s.first in
       let t = steps_then (read_program last (second first) ss) (λ p. Ok (image_of p)) i s.second in
       let kinds = first_classes last ss first s.read in
-      let at = program_read headers classes_in headings instructions (second first) first.header.version first.header.natives (λ strict. kinds) last ss t.first (count_declared k.Class ss) (count_declared k.Method ss)
+      let at = program_read headers classes_in headings instructions
+      (second first) first.header.version first.header.natives (λ strict. kinds) last ss t.first (count_declared k.Class ss) (count_declared k.Method ss)
       (program_starts last (second first) ss t.first t.read) in
-      subst WellFormed (ok_is (image_of t.first) i t.second) (well_formed headers classes_in headings instructions (second first) first.header.version first.header.natives (λ strict. kinds) t.first refl at)
+      subst WellFormed (ok_is (image_of t.first) i t.second)
+      (well_formed headers classes_in headings instructions (second first) first.header.version first.header.natives (λ strict. kinds) t.first refl at)
 
   pub text_well : (text : List ℕ) (i : Image) → denoted text ≡ Ok i → WellFormed i
-  text_well text i is = statements_well (last_line_of text) (statements text) i (passed (nat_le (length text) (2 ^ 20)) (read_statements (last_line_of text) (statements text)) (record { line = 1; kind = LimitPassed }) i is).1
+  text_well text i is = statements_well (last_line_of text) (statements text) i
+      (passed (nat_le (length text) (2 ^ 20)) (read_statements (last_line_of text) (statements text)) (record { line = 1; kind = LimitPassed }) i is).1

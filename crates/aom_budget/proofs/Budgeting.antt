@@ -34,7 +34,8 @@ use Rattle.aom_typings.proofs.Alike.{IsCovered, prices_alike}
 use Rattle.aom_typings.proofs.Methods.{destructs_within, method_is_some}
 use Rattle.aom_typings.proofs.Going.{going_alike, found_of}
 use Rattle.aom_typings.proofs.Unique.{law_one}
-use Rattle.aom_budget.specs.Budgets.{BudgetsWithin, CostsWithin, IsBefore, IsOver, class_declares, class_price, budget_of, declared_by, kind_price, payer_price, role_price}
+use Rattle.aom_budget.specs.Budgets.{BudgetsWithin, CostsWithin, IsBefore, IsOver, class_declares, class_price}
+use Rattle.aom_budget.specs.Budgets.{budget_of, declared_by, kind_price, payer_price, role_price}
 use Rattle.aom_budget.specs.Faults.{Refuses, RefusesOrWants}
 use Rattle.aom_budget.specs.Figures.{ClassesWithin, IsWithin, TellsFirst, TellsOver, class_by, kind_by, main_by, payer_by, role_by, root_by}
 use Rattle.aom_budget.specs.Pricing.{ArePriced, destruction_by, price_by}
@@ -69,7 +70,8 @@ covered p t d one other = record {
 }
 
 -- so the prices by the one are those by the other
-module _ (p : Image) (formed : WellFormed p) (linked : IsLinked p) (t d : Typing) (one : IsStrongest p t) (other : IsStrongest p d) (c e : Prices) (are : ArePrices p t c) (also : ArePrices p d e) where
+module _ (p : Image) (formed : WellFormed p)
+    (linked : IsLinked p) (t d : Typing) (one : IsStrongest p t) (other : IsStrongest p d) (c e : Prices) (are : ArePrices p t c) (also : ArePrices p d e) where
   same : SayTheSame p c e
   same = law_one p d c e formed linked (pays_before p d linked other) (prices_alike p t d c one.typed other.typed (covered p t d one other) (covered p d t other one) are) also
 
@@ -161,7 +163,8 @@ declared_below p (Class k) most formed e = go (slice_get p.classes k) refl e
   where
     go : (o : Option ClassDecl) → slice_get p.classes k ≡ o → class_declares o ≡ Some most → most < 4294967296
     go None is e = absurd cc
-    go (Some d) is e = class_below p.header.version (length p.classes) p.header.natives d most (all_there (ClassFits p.header.version (length p.classes) p.header.natives) p.classes k d formed.classes.each is) e
+    go (Some d) is e = class_below p.header.version (length p.classes) p.header.natives d most
+        (all_there (ClassFits p.header.version (length p.classes) p.header.natives) p.classes k d formed.classes.each is) e
 
 -- what is past the classes declares nothing
 declares_within : (p : Image) (k most : ℕ) → declared_by p (Class k) ≡ Some most → k < length p.classes

@@ -99,10 +99,9 @@ module _ (p : Image) (ns : List ℕ) (m v : ℕ) (d : Method) (there : method_at
   pub destroyed_stays : (d.role ≡ Destruct → ⊥) → (table : List ℕ) → IsDestroyed p ns table → IsDestroyed p (slice_set ns m v) table
   destroyed_stays other table is = record {
     size = is.size;
-    each = λ c.
-        is.each c
-        ∙ ap kept (going_same p (price_by ns) (price_by (slice_set ns m v)) refl (Object c)
-        (λ k runs. sym (at_set_other 0 ns m k v (λ same. plays_not p m d Destruct there other (subst (λ i. (e : Method) × (method_at p i ≡ Some e) × (e.role ≡ Destruct)) same (destructs_plays p (Object c) k runs))))));
+    each = λ c. is.each c ∙ ap kept (going_same p
+        (price_by ns) (price_by (slice_set ns m v)) refl (Object c) (λ k runs. sym (at_set_other 0 ns m k v (λ same. plays_not p m d Destruct there other
+        (subst (λ i. (e : Method) × (method_at p i ≡ Some e) × (e.role ≡ Destruct)) same (destructs_plays p (Object c) k runs))))));
   }
 
   pub cancelled_stays : (d.role ≡ Cancel → ⊥) → (table : List ℕ) → IsCancelled p ns table → IsCancelled p (slice_set ns m v) table

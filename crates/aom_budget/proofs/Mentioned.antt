@@ -1,6 +1,7 @@
 -- Each class that a state of the strongest typing names is one that the method mentions; so what a method may call has a lower number.
 use Rattle.std.proofs.lemmas.Bool.Decides.{nat_tests}
-use Rattle.std.proofs.Common.{◌≡◌, ℕ, zero, suc, ◌<◌, ◌==◌, Bool, true, false, cond, ◌&&◌, All, IsTrue, IfSome, List, [], ◌∷◌, map, Option, Some, None, inl, inr, refl, sym, ap, ◌∙◌, subst, arith}
+use Rattle.std.proofs.Common.{◌≡◌, ℕ, zero, suc, ◌<◌, ◌==◌, Bool, true, false, cond, ◌&&◌, All, IsTrue, IfSome, List}
+use Rattle.std.proofs.Common.{[], ◌∷◌, map, Option, Some, None, inl, inr, refl, sym, ap, ◌∙◌, subst, arith}
 use Rattle.aom_image.proofs.Given.{some_given, true_given}
 use Rattle.std.specs.Prelude.{nat_lt}
 use Rattle.std.specs.List.{list_all}
@@ -21,7 +22,8 @@ use Rattle.aom_image.specs.declared.method.Role.TheVariants as roles
 use Rattle.aom_image.specs.declared.method.Thing.{Thing}
 use Rattle.aom_image.specs.declared.method.Thing.TheVariants.{Object, Message}
 use Rattle.aom_roles.specs.Roles.{role_number}
-use Rattle.aom_classes.specs.Calls.{AllBelow, CallsBelow, EndsBelow, Mentions, MentionsThing, MentionsArgument, MentionsResult, MentionsFields, MentionsRoot, RunsBelow, CallsOrdered}
+use Rattle.aom_classes.specs.Calls.{AllBelow, CallsBelow, EndsBelow, Mentions, MentionsThing, MentionsArgument}
+use Rattle.aom_classes.specs.Calls.{MentionsResult, MentionsFields, MentionsRoot, RunsBelow, CallsOrdered}
 use Rattle.aom_classes.specs.Linked.{IsLinked}
 use Rattle.aom_classes.specs.Overriding.{over_in}
 use Rattle.aom_classes.specs.Roles.{own_role, plays, same_role}
@@ -44,7 +46,9 @@ use Rattle.aom_shape.specs.Order.WeakerFilling.{alike_filling}
 use Rattle.aom_shape.specs.Order.Weaker.{alike, unset_word, unset_null, maybe_null, maybe_own}
 use Rattle.aom_rules.specs.Rules.{flows, ways_of}
 use Rattle.aom_shape.specs.Shape.{Shape}
-use Rattle.aom_rules.specs.Ways.{As_before, Branches, Branches_in, Branches_on_empty, Branches_on_null, Called, Cancelled, Caught, Dropped, Ends, Filled, Goes_back, Handed, Goes_on, Goes_to, Holding, Left_in, Moved, News, Popped, Pushed, Pushed_operation, Taken, Taken_message, Ways, after, flowing}
+use Rattle.aom_rules.specs.Ways.{As_before, Branches, Branches_in, Branches_on_empty, Branches_on_null, Called, Cancelled}
+use Rattle.aom_rules.specs.Ways.{Caught, Dropped, Ends, Filled, Goes_back, Handed, Goes_on, Goes_to, Holding, Left_in, Moved}
+use Rattle.aom_rules.specs.Ways.{News, Popped, Pushed, Pushed_operation, Taken, Taken_message, Ways, after, flowing}
 use Rattle.aom_roles.specs.Tables.{at}
 use Rattle.aom_roles.specs.Things.{Holder, Member, root_thing, field_thing, holder_by, holder_of}
 use Rattle.aom_shape.specs.declared.kind.Entry.{Entry}
@@ -200,7 +204,8 @@ module _ (p : Image) (m : ℕ) where
   caught_low (A_maybe t) c sh g h = set_low _ (suc c) Word (set_low sh c _ h (thing_mentioned p m t g)) refl
   caught_low (Left x) c sh g h = set_low sh (suc c) Word h refl
 
-  lasting_low : (target : Target) (called first ended : ℕ) (sh : Shape) → IsLow p m sh → IsLow p m (while_called target (method_class p called) ended (arguments_moved (arguments_of p called) first sh))
+  lasting_low : (target : Target) (called first ended : ℕ) (sh : Shape) →
+      IsLow p m sh → IsLow p m (while_called target (method_class p called) ended (arguments_moved (arguments_of p called) first sh))
   lasting_low target called first ended sh h = called_low target (method_class p called) ended (arguments_moved (arguments_of p called) first sh) (arguments_low (arguments_of p called) first sh h)
 
   -- ---- flows

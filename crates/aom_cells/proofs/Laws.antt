@@ -1,9 +1,11 @@
 -- What classes, words and fields are at each number after a change, from the change at one number alone.
-use Rattle.std.proofs.Common.{◌≡◌, ◌≢◌, ◌<◌, ◌≤◌, ℕ, ℤ, pos, Bool, true, false, cond, ◌==◌, ◌&&◌, ◌↔◌, [], Option, Some, None, IsSome, slice_index_or, replicate, refl, sym, ap, ◌∙◌, subst, inl, inr, arith}
+use Rattle.std.proofs.Common.{◌≡◌, ◌≢◌, ◌<◌, ◌≤◌, ℕ, ℤ, pos, Bool, true, false, cond, ◌==◌, ◌&&◌, ◌↔◌, [], Option, Some}
+use Rattle.std.proofs.Common.{None, IsSome, slice_index_or, replicate, refl, sym, ap, ◌∙◌, subst, inl, inr, arith}
 use Rattle.std.proofs.lemmas.Bool.{cases_Bool, cases_lt, eqb-true, eq-eqb, false≢true}
 use Rattle.std.proofs.lemmas.List.{get_or-set_other, get_or-replicate, get_or_past, length-replicate}
 use Rattle.aom_cells.specs.declared.cell.Cell.{Cell}
-use Rattle.aom_cells.specs.Heap.{Heap, null, cell_at, Lives, class_of, class_at, word_of, word_at, field_of, field_at, blank, with_word, with_field, count, Changes, IsBounded}
+use Rattle.aom_cells.specs.Heap.{Heap, null, cell_at, Lives, class_of, class_at, word_of, word_at, field_of}
+use Rattle.aom_cells.specs.Heap.{field_at, blank, with_word, with_field, count, Changes, IsBounded}
 
 -- a new cell, under a number that had none: words and fields read as before at every number
 pub record Adds (old new : Heap) (id class : ℕ) : Type 0 where
@@ -37,7 +39,8 @@ all_same n value i = elim (cases_lt i n) [
 ]
 
 -- what is read of a cell: at the number it is the new cell's, elsewhere as it was
-pub reads_after : {A : Type 0} (read : Option Cell → A) (old new : Heap) (id : ℕ) (cell : Option Cell) → Changes old new id cell → (n : ℕ) → read (cell_at new n) ≡ cond (id == n) (read cell) (read (cell_at old n))
+pub reads_after : {A : Type 0} (read : Option Cell → A) (old new : Heap) (id : ℕ) (cell : Option Cell) →
+    Changes old new id cell → (n : ℕ) → read (cell_at new n) ≡ cond (id == n) (read cell) (read (cell_at old n))
 reads_after read old new id cell ch n =
     elim (cases_Bool (id == n)) [
       | inl e ↦ ap (λ k. read (cell_at new k)) (sym (eqb-true id n e)) ∙ ap read ch.here ∙ ap (λ b. cond b (read cell) (read (cell_at old n))) (sym e)
@@ -45,7 +48,8 @@ reads_after read old new id cell ch n =
     ]
 
 -- what the new cell says as the old one did is as it was everywhere
-pub reads_kept : {A : Type 0} (read : Option Cell → A) (old new : Heap) (id : ℕ) (cell : Option Cell) → Changes old new id cell → read cell ≡ read (cell_at old id) → (n : ℕ) → read (cell_at new n) ≡ read (cell_at old n)
+pub reads_kept : {A : Type 0} (read : Option Cell → A) (old new : Heap) (id : ℕ) (cell : Option Cell) →
+    Changes old new id cell → read cell ≡ read (cell_at old id) → (n : ℕ) → read (cell_at new n) ≡ read (cell_at old n)
 reads_kept read old new id cell ch same n =
     elim (cases_Bool (id == n)) [
       | inl e ↦ ap (λ k. read (cell_at new k)) (sym (eqb-true id n e)) ∙ ap read ch.here ∙ same ∙ ap (λ k. read (cell_at old k)) (eqb-true id n e)

@@ -1,5 +1,6 @@
 -- What a write over a living cell makes of the heap, as the slab writes it: by the entry of the list that is set.
-use Rattle.std.proofs.Common.{◌≡◌, ◌<◌, ◌≤◌, ℕ, List, Option, Some, None, is_some, IsSome, length, slice_index_or, slice_set, refl, sym, ap, ◌∙◌, subst, inl, inr}
+use Rattle.std.proofs.Common.{◌≡◌, ◌<◌, ◌≤◌, ℕ, List, Option, Some, None, is_some, IsSome, length}
+use Rattle.std.proofs.Common.{slice_index_or, slice_set, refl, sym, ap, ◌∙◌, subst, inl, inr}
 use Rattle.std.proofs.lemmas.Bool.{cases_lt, false≢true}
 use Rattle.std.proofs.lemmas.List.{get_or-set_same, get_or-set_other, get_or_past}
 use Rattle.aom_cells.specs.declared.cell.Cell.{Cell}
@@ -19,7 +20,8 @@ within slots k was there = elim (cases_lt k (length slots)) [
 ]
 
 -- the write is a change at its number alone
-changes_at : (slots : List (Option Cell)) (limit k : ℕ) (was next : Cell) → slice_index_or slots k None ≡ Some was → Changes (heap slots limit) (heap (slice_set slots k (Some next)) limit) k (Some next)
+changes_at : (slots : List (Option Cell)) (limit k : ℕ) (was next : Cell) →
+    slice_index_or slots k None ≡ Some was → Changes (heap slots limit) (heap (slice_set slots k (Some next)) limit) k (Some next)
 changes_at slots limit k was next there = record {
   here = get_or-set_same slots k (Some next) None (within slots k was there);
   others = λ other differs. get_or-set_other slots k other (Some next) None differs;
@@ -52,7 +54,8 @@ pub count_written : (slots : List (Option Cell)) (limit k : ℕ) (now : Heap) (w
 count_written slots limit k now was next same there = count_rewritten (heap slots limit) _ k was next there (changes_at slots limit k was next there) ∙ ap count same
 
 -- and the heap stays bounded
-pub bounded_written : (slots : List (Option Cell)) (limit k : ℕ) (was next : Cell) → IsBounded (heap slots limit) → slice_index_or slots k None ≡ Some was → IsBounded (heap (slice_set slots k (Some next)) limit)
+pub bounded_written : (slots : List (Option Cell)) (limit k : ℕ) (was next : Cell) →
+    IsBounded (heap slots limit) → slice_index_or slots k None ≡ Some was → IsBounded (heap (slice_set slots k (Some next)) limit)
 bounded_written slots limit k was next bounded there =
     bounded_after (heap slots limit) (heap (slice_set slots k (Some next)) limit) k (Some next) bounded (changes_at slots limit k was next there) (bounded.ids k (ap is_some there))
     (subst (λ n. n ≤ limit) (sym (count_rewritten (heap slots limit) (heap (slice_set slots k (Some next)) limit) k was next there (changes_at slots limit k was next there))) bounded.within)

@@ -1,5 +1,7 @@
 -- What `clap` answers of the words of a command line.
-use Rattle.std.proofs.Common.{◌≡◌, ◌≢◌, ◌∙◌, ℕ, ◌+◌, Bool, ◌||◌, true, false, ◌<◌, ◌^◌, ◌⊎◌, List, [], ◌∷◌, ◌++◌, Contains, IfErr, IfOk, IsOkAnd, length, map, take, slice_index_or, Option, Some, None, Result, Ok, Err, option_map, unwrap_or, codes, refl, sym, ap, ap₂, inl, inr, subst, arith}
+use Rattle.std.proofs.Common.{◌≡◌, ◌≢◌, ◌∙◌, ℕ, ◌+◌, Bool, ◌||◌, true, false, ◌<◌, ◌^◌, ◌⊎◌, List, [], ◌∷◌, ◌++◌, Contains}
+use Rattle.std.proofs.Common.{IfErr, IfOk, IsOkAnd, length, map, take, slice_index_or, Option, Some, None, Result, Ok}
+use Rattle.std.proofs.Common.{Err, option_map, unwrap_or, codes, refl, sym, ap, ap₂, inl, inr, subst, arith}
 use Rattle.std.proofs.lemmas.List.{get_or-map, length-map, map-append, map_more, take-map}
 use Rattle.std.proofs.lemmas.List.Elements.{Contains-get_or}
 use Rattle.std.specs.Borrow.{Bor}
@@ -7,7 +9,8 @@ use Rattle.std.specs.Fmt.{decimal}
 use Rattle.std.specs.Str.Parse.{IsNumeral, ParsesUnsigned, digits_value, without_leading_plus}
 use Rattle.std.proofs.lemmas.Fmt.{parse-decimal}
 use Rattle.std.proofs.lemmas.Result.{IfOk-weaker}
-use Rattle.clap.specs.Words.{AddsSubcommand, App, ReadsOne, Row, Text, all_of, app_of, first_of, first_value, one_of, is_simple, matched_of, raw_values, rows_of, with_subcommand}
+use Rattle.clap.specs.Words.{AddsSubcommand, App, ReadsOne, Row, Text, all_of, app_of, first_of, first_value}
+use Rattle.clap.specs.Words.{one_of, is_simple, matched_of, raw_values, rows_of, with_subcommand}
 use Rattle.clap.specs.declared.builder.command.Command.{Command}
 use Rattle.clap.specs.declared.parser.matches.Found.{Found}
 use Rattle.clap.proofs.OnLiterals.{clap_on_literals}
@@ -18,7 +21,8 @@ use Rattle.aom_command_line.specs.declared.words.WordsFault.{WordsFault}
 use Rattle.aom_command_line.specs.declared.words.WordsFault.TheVariants as faults
 use Rattle.aom_natives.specs.Kinds.{word_of as word_of_kind}
 use Rattle.aom_natives.specs.declared.kind.NativeKind.{NativeKind}
-use Rattle.aom_command_line.specs.CommandLine.{IsCommand, HasNoUseForText, Declines, AsksLines, AsksNames, AsksText, DeclinesLines, DeclinesTextless, HasForm, IsFlag, NamesTwoTexts, NamesKinds, NamesNoKinds, Says, form, texts_in, word_of}
+use Rattle.aom_command_line.specs.CommandLine.{IsCommand, HasNoUseForText, Declines, AsksLines, AsksNames, AsksText, DeclinesLines, DeclinesTextless}
+use Rattle.aom_command_line.specs.CommandLine.{HasForm, IsFlag, NamesTwoTexts, NamesKinds, NamesNoKinds, Says, form, texts_in, word_of}
 
 same : {E : Type 0} (v n : ℕ) (r : Result ℕ E) → r ≡ Ok v → r ≡ Ok n → Some v ≡ Some n
 same v n r a b = cc
@@ -37,7 +41,8 @@ reads_digits gives parses word numeral most None read = absurd (parses word (Err
 pub reads : {E : Type 0} (gives : List ℕ → Result ℕ E → Type 0) → ((bs : List ℕ) (r : Result ℕ E) → gives bs r → ParsesUnsigned 32 10 bs r)
     → (n : ℕ) → n < 2 ^ 32 → (o : Option ℕ) → ReadsOne gives (decimal n) o → o ≡ Some n
 reads {E} gives parses n most (Some v) read = same {E = E} v n (Ok v) refl (parse-decimal 32 n (decimal n) (Ok v) (omega arith) (omega (arith, most)) refl (parses (decimal n) (Ok v) read))
-reads {E} gives parses n most None read = absurd (no_error {E = E} read.0 n (Err read.0) refl (parse-decimal 32 n (decimal n) (Err read.0) (omega arith) (omega (arith, most)) refl (parses (decimal n) (Err read.0) read.1)))
+reads {E} gives parses n most None read = absurd (no_error {E = E} read.0 n
+    (Err read.0) refl (parse-decimal 32 n (decimal n) (Err read.0) (omega arith) (omega (arith, most)) refl (parses (decimal n) (Err read.0) read.1)))
 
 -- the first word of a name, or none
 pub chosen : (f : Found) (id : Text) (o : Option (Bor Text)) (d r : Bor Text) → r ≡ unwrap_or o d → d.now ≡ [] → option_map (λ s. s.now) o ≡ first_value f id
@@ -69,7 +74,8 @@ pub is_named : (rows : List Row) (name : Text) → Some name ≡ first_of (codes
 is_named rows name there = grind arith
 
 -- a text that is there, beside a flag that is set
-pub names_two : (rows : List Row) (name : Text) (asm : Bool) → Some name ≡ first_of (codes "text") rows → (one_of (codes "asm") rows ≡ Some (codes "false") → asm ≡ false) → asm ≡ true → NamesTwoTexts rows
+pub names_two : (rows : List Row) (name : Text) (asm : Bool) →
+    Some name ≡ first_of (codes "text") rows → (one_of (codes "asm") rows ≡ Some (codes "false") → asm ≡ false) → asm ≡ true → NamesTwoTexts rows
 names_two rows name asm there unused set = grind arith
 
 pub no_text : {A : Type 0} (rows : List Row) (explain asm : Bool) → None ≡ first_of (codes "text") rows → AsksText {A = A} rows explain asm None
@@ -136,7 +142,8 @@ pub one_more_kind : (words : List (Bor Text)) (i : ℕ) (d : Bor Text) (kinds mo
     → (slice_index_or words i d).now ≡ word_of_kind kind → more ≡ kinds ++ kind ∷ [] → take (i + 1) (texts_in words) ≡ map word_of_kind more
 one_more_kind words i d kinds more kind within same is grown =
     let now : Bor Text → Text = λ w. w.now in
-    take-map now (i + 1) words ∙ map_more now words i d within ∙ ap₂ (λ xs t. xs ++ t ∷ []) (sym (take-map now i words) ∙ same) is ∙ sym (map-append word_of_kind kinds (kind ∷ [])) ∙ ap (map word_of_kind) (sym grown)
+    take-map now (i + 1) words ∙ map_more now words i d within ∙ ap₂ (λ xs t. xs ++ t ∷ []) (sym (take-map now i words) ∙ same) is
+    ∙ sym (map-append word_of_kind kinds (kind ∷ [])) ∙ ap (map word_of_kind) (sym grown)
 
 -- one of the words is of no native
 pub no_kind : (words : List (Bor Text)) (i : ℕ) (d : Bor Text) → i < length words → ((kind : NativeKind) → (slice_index_or words i d).now ≢ word_of_kind kind) → NamesNoKinds (Some (texts_in words))

@@ -1,11 +1,13 @@
 -- What a debugger answers that declines: by cases of what is asked.
-use Rattle.std.proofs.Common.{◌≡◌, ◌<◌, ◌≤◌, ◌||◌, ◌++◌, ◌∷◌, [], ℕ, Bool, true, false, List, Option, Some, None, Result, Ok, Err, arith, rules, ap, codes, cond, inl, inr, length, nat_lt, refl}
+use Rattle.std.proofs.Common.{◌≡◌, ◌<◌, ◌≤◌, ◌||◌, ◌++◌, ◌∷◌, [], ℕ, Bool, true, false, List, Option, Some, None}
+use Rattle.std.proofs.Common.{Result, Ok, Err, arith, rules, ap, codes, cond, inl, inr, length, nat_lt, refl}
 use Rattle.std.specs.Prelude.{IfErr, IfOk}
 use Rattle.std.proofs.lemmas.Bool.Decides.{nat_tests}
 use Rattle.std.specs.Str.{bytes_eq}
 use Rattle.aom_debug_words.specs.Commands.{command_said, known, line_says, words_say}
 use Rattle.aom_debug_words.specs.declared.command.Command.{Command}
-use Rattle.aom_debug_words.specs.declared.command.Command.TheVariants.{Step, Next, Finish, Turn, Go, Until, Break, Unbreak, Breaks, Clock, Frames, Help, Cells, Owners, Cleanup, Actives, Recent}
+use Rattle.aom_debug_words.specs.declared.command.Command.TheVariants.{Step, Next, Finish, Turn, Go, Until, Break, Unbreak, Breaks, Clock}
+use Rattle.aom_debug_words.specs.declared.command.Command.TheVariants.{Frames, Help, Cells, Owners, Cleanup, Actives, Recent}
 use Rattle.aom_debug_words.specs.declared.fault.DebugFault.{DebugFault}
 use Rattle.aom_debug_words.specs.declared.fault.DebugFault.TheVariants.{BadCommand, Ended, NoSuch}
 use Rattle.aom_debug_words.specs.declared.fault.DebugFault.TheVariants as faults
@@ -19,7 +21,8 @@ use Rattle.aom_text.specs.declared.number.Number.{Number}
 use Rattle.aom_transcript.specs.declared.line.Ending.{Ending}
 use Rattle.aom_debug_names.specs.Names.{Names, method_named}
 use Rattle.aom_debug_names.specs.Lines.{spot_in}
-use Rattle.aom_debug_names.specs.Commands.{command_by, has_text, is_mark, mark_at, mark_in, mark_named, mark_numbered, mark_said, mark_there, marked, numbered, or_named}
+use Rattle.aom_debug_names.specs.Commands.{command_by, has_text, is_mark, mark_at, mark_in, mark_named, mark_numbered}
+use Rattle.aom_debug_names.specs.Commands.{mark_said, mark_there, marked, numbered, or_named}
 use Rattle.aom_debug.specs.Commands.{is_count, spot_named}
 use Rattle.aom_debug.specs.Debugging.{Answer, CountsNot, Declined, Goes, GoesNamed, Marks, MarksAt, Outgoing, steps_of}
 use Rattle.aom_debug.specs.Obeying.{Heeds, Obeys, Passes}
@@ -62,8 +65,8 @@ module _ {X : Type 0} {B : X → Type 0} (may : Spot → List Spot → Bool) (ma
   marked_mover (Err _) marks = absurd marks
 
   -- one that two numbers name
-  pub marked_named : (method place : Number) → old.has_failed ≡ false → spot_named old.mover.machine.core.image method place ≡ Some spot → (answer : Answer) → MarksAt may marked spot old new out answer
-      → Marks may marked method place old new out answer
+  pub marked_named : (method place : Number) → old.has_failed ≡ false → spot_named old.mover.machine.core.image method place ≡ Some spot →
+      (answer : Answer) → MarksAt may marked spot old new out answer → Marks may marked method place old new out answer
   marked_named method place well names (Ok done) marks = (well, spot, record { names = names; room = marks.0 }, marks.1, marks.2)
   marked_named method place well names (Err faults.NoSuch) marks = (well, inr (spot, names, marks.0), marks.1)
   marked_named method place well names (Err faults.WriteFault) marks = (well, spot, record { names = names; room = marks.0 }, marks.1, marks.2, marks.3, marks.4)
@@ -88,7 +91,8 @@ module _ {X : Type 0} {B : X → Type 0} where
     declined : Declined d d (record { before = out; now = out; failed = failed })
     declined = record { same = refl; silent = refl }
 
-    either : (b : Bool) (n : ℕ) → cond b (Goes (steps_of n) d d (record { before = out; now = out; failed = failed }) (Err Ended)) (CountsNot d d (record { before = out; now = out; failed = failed }) (Err Ended))
+    either : (b : Bool) (n : ℕ) → cond b (Goes (steps_of n) d d (record { before = out; now = out; failed = failed }) (Err Ended))
+        (CountsNot d d (record { before = out; now = out; failed = failed }) (Err Ended))
     either true n = (inl ill, declined)
     either false n = (ill, declined)
 
@@ -112,7 +116,8 @@ module _ {X : Type 0} {B : X → Type 0} where
     heeds_failed (Ok None) = (ill, declined)
     heeds_failed (Ok (Some command)) = obeys_failed command
 
-  pub passes_on : (d : Debugger X B) (out : Option (List ℕ)) (failed : Bool) → d.has_failed ≡ false → (fault : DebugFault) → (fault ≡ Ended → ⊥) → Passes (Err fault) d d (record { before = out; now = out; failed = failed }) (Err fault)
+  pub passes_on : (d : Debugger X B) (out : Option (List ℕ)) (failed : Bool) → d.has_failed ≡ false →
+      (fault : DebugFault) → (fault ≡ Ended → ⊥) → Passes (Err fault) d d (record { before = out; now = out; failed = failed }) (Err fault)
   passes_on d out failed well Ended not = absurd (not refl)
   passes_on d out failed well _ not = (well, refl, record { same = refl; silent = refl })
 

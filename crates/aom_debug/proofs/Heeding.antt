@@ -20,10 +20,12 @@ module _ {X : Type 0} {B : X → Type 0} where
   heard_nothing d before failed well = record { goes = λ s stands. ([], s, (refl, refl), after_none before, stands); well = well }
 
   -- a line that is bad
-  pub heard_fault : (d : Debugger X B) (fault : DebugFault) (before now : Option (List ℕ)) (failed : Bool) → d.has_failed ≡ false → now ≡ after before (fault_text fault) → Heard (Err fault) d d (record { before = before; now = now; failed = failed })
+  pub heard_fault : (d : Debugger X B) (fault : DebugFault) (before now : Option (List ℕ)) (failed : Bool) →
+      d.has_failed ≡ false → now ≡ after before (fault_text fault) → Heard (Err fault) d d (record { before = before; now = now; failed = failed })
   heard_fault d fault before now failed well out = record { goes = λ s stands. (fault_text fault, s, (refl, refl), out, stands); well = well }
 
-  pub heard_fault_part : (d : Debugger X B) (fault : DebugFault) (before now : Option (List ℕ)) (failed : Bool) → IsCut (fault_text fault) WriteFault failed before now → HeardPart (Err fault) d (record { before = before; now = now; failed = failed })
+  pub heard_fault_part : (d : Debugger X B) (fault : DebugFault) (before now : Option (List ℕ)) (failed : Bool) →
+      IsCut (fault_text fault) WriteFault failed before now → HeardPart (Err fault) d (record { before = before; now = now; failed = failed })
   heard_fault_part d fault before now failed cut = record { goes = λ s stands. (fault_text fault, inl (standing d s, (refl, refl)), (cut.sent, cut.out)); failed = cut.fails }
 
   module _ (old new : Debugger X B) (command : Command) (well : old.has_failed ≡ false) (before mid : Option (List ℕ)) (failed : Bool) where
@@ -37,11 +39,13 @@ module _ {X : Type 0} {B : X → Type 0} where
           well = still_well old new (record { before = before; now = mid; failed = failed }) well command obeys;
         }
 
-    pub heard_cut : Obeys command old new (record { before = before; now = mid; failed = failed }) (Err WriteFault) → HeardPart (Ok (Some command)) old (record { before = before; now = mid; failed = failed })
+    pub heard_cut : Obeys command old new (record { before = before; now = mid; failed = failed }) (Err WriteFault) →
+        HeardPart (Ok (Some command)) old (record { before = before; now = mid; failed = failed })
     heard_cut obeys = let x = is_cut old new (record { before = before; now = mid; failed = failed }) well command obeys in record { goes = x.1; failed = x.0 }
 
     -- one that is refused
-    module _ (fault : DebugFault) (other : fault ≢ WriteFault) (obeys : Obeys command old new (record { before = before; now = mid; failed = failed }) (Err fault)) (now : Option (List ℕ)) (then : Bool) where
+    module _ (fault : DebugFault) (other : fault ≢ WriteFault)
+        (obeys : Obeys command old new (record { before = before; now = mid; failed = failed }) (Err fault)) (now : Option (List ℕ)) (then : Bool) where
       pub heard_refused : now ≡ after mid (fault_text fault) → Heard (Ok (Some command)) old new (record { before = before; now = now; failed = then })
       heard_refused out =
           let r = is_refused old new (record { before = before; now = mid; failed = failed }) well command fault other obeys in

@@ -34,7 +34,8 @@ module _ {X : Type 0} (p : X → Bool) where
   pub some_parts : (xs : List X) → (h : List X) × (t : List (List X)) × (slice_split p xs ≡ h ∷ t)
   some_parts xs = some_of (slice_split p xs) (count_by p xs) (length-slice_split p xs)
 
-  joined_first : (x : X) (hs qs : List (List X)) → (h : List X) × (t : List (List X)) × (hs ≡ h ∷ t) → (k : List X) × (m : List (List X)) × (qs ≡ k ∷ m) → onto_first x (joined hs qs) ≡ joined (onto_first x hs) qs
+  joined_first : (x : X) (hs qs : List (List X)) → (h : List X) × (t : List (List X)) × (hs ≡ h ∷ t) →
+      (k : List X) × (m : List (List X)) × (qs ≡ k ∷ m) → onto_first x (joined hs qs) ≡ joined (onto_first x hs) qs
   joined_first x hs qs (h, [], is) (k, m, be) = rw (is, be) refl
   joined_first x hs qs (h, a ∷ t, is) some = rw is refl
 

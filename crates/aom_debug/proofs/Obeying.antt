@@ -7,7 +7,8 @@ use Rattle.aom_run.specs.Calls.{StandsFor}
 use Rattle.aom_run.specs.declared.machine.Machine.{Machine}
 use Rattle.aom_debug.specs.Runs.{after}
 use Rattle.aom_debug_words.specs.declared.command.Command.{Command}
-use Rattle.aom_debug_words.specs.declared.command.Command.TheVariants.{Step, Next, Finish, Turn, Go, Until, Break, Unbreak, Breaks, Clock, Frames, Help, Cells, Owners, Cleanup, Actives, Recent, Timers, Words, Queue}
+use Rattle.aom_debug_words.specs.declared.command.Command.TheVariants.{Step, Next, Finish, Turn, Go, Until, Break, Unbreak, Breaks, Clock, Frames}
+use Rattle.aom_debug_words.specs.declared.command.Command.TheVariants.{Help, Cells, Owners, Cleanup, Actives, Recent, Timers, Words, Queue}
 use Rattle.aom_debug_words.specs.declared.fault.DebugFault.{DebugFault}
 use Rattle.aom_debug_words.specs.declared.fault.DebugFault.TheVariants.{Ended, NoSuch, WriteFault}
 use Rattle.aom_debug.specs.Courses.{Courses, way_of}
@@ -15,7 +16,8 @@ use Rattle.aom_debug_words.specs.Marks.{has_spot, is_set, with_spot, without_spo
 use Rattle.aom_debug_words.specs.declared.spot.Spot.{Spot}
 use Rattle.aom_debug.specs.Commands.{NamesNone, is_count, moved_text, spot_named}
 use Rattle.aom_debug.specs.Movers.{outside_of}
-use Rattle.aom_debug.specs.Debugging.{Answer, CountsNot, Declined, Goes, GoesNamed, LacksQueue, LacksWords, Looks, LooksAt, Marks, NamesNot, Outgoing, Sees, SeesQueue, SeesWords, Steps, Untils, goes_of, has_ended, overs_of, places_of, runs_of, steps_of, turns_of}
+use Rattle.aom_debug.specs.Debugging.{Answer, CountsNot, Declined, Goes, GoesNamed, LacksQueue, LacksWords, Looks, LooksAt, Marks, NamesNot, Outgoing}
+use Rattle.aom_debug.specs.Debugging.{Sees, SeesQueue, SeesWords, Steps, Untils, goes_of, has_ended, overs_of, places_of, runs_of, steps_of, turns_of}
 use Rattle.aom_debug_moves.specs.declared.courses.Course.{Course}
 use Rattle.aom_debug_moves.specs.declared.over.Scope.TheVariants as scopes
 use Rattle.aom_debug_moves.specs.declared.courses.Course.TheVariants as ways
@@ -38,9 +40,11 @@ module _ {X : Type 0} {B : X → Type 0} (old new : Debugger X B) (out : Outgoin
   -- ---- what is done
 
   abbrev pub Done : (SessionState → List ℕ → SessionState → Type 0) → Type 0
-  Done does = (s : State) → StandsFor old.mover.machine s → (text : List ℕ) × (u : State) × does (standing old s) text (standing new u) × (out.now ≡ after out.before text) × StandsFor new.mover.machine u
+  Done does = (s : State) → StandsFor old.mover.machine s →
+      (text : List ℕ) × (u : State) × does (standing old s) text (standing new u) × (out.now ≡ after out.before text) × StandsFor new.mover.machine u
 
-  goes_done : (way : Course) → Goes (goes_of way) old new out (Ok tt) → Done (λ a text b. GoesSo old.mover.machine.core.image (outside_of old.mover) (way_of old.mover.machine.core.image (outside_of old.mover) old.breakpoints way) a text b)
+  goes_done : (way : Course) → Goes (goes_of way) old new out (Ok tt) → Done (λ a text b. GoesSo old.mover.machine.core.image
+      (outside_of old.mover) (way_of old.mover.machine.core.image (outside_of old.mover) old.breakpoints way) a text b)
   goes_done way x s stands =
       let moved = x.1 in
       let f = moved.goes s stands in
@@ -155,7 +159,8 @@ module _ {X : Type 0} {B : X → Type 0} (old new : Debugger X B) (out : Outgoin
   ended_so (inl failed) = absurd (not_both old.has_failed failed well)
   ended_so (inr is) = is
 
-  goes_refused : (leads : Debugger X B → Courses) (fault : DebugFault) → fault ≢ WriteFault → Goes leads old new out (Err fault) → (fault ≡ Ended) × Declined old new out × ((s : State) → StandsFor old.mover.machine s → is_ended (standing old s) ≡ true)
+  goes_refused : (leads : Debugger X B → Courses) (fault : DebugFault) → fault ≢ WriteFault → Goes leads old new out (Err fault) →
+      (fault ≡ Ended) × Declined old new out × ((s : State) → StandsFor old.mover.machine s → is_ended (standing old s) ≡ true)
   goes_refused leads fault other x = grind arith
 
   looks_refused : (shows : Debugger X B → State → List ℕ → Type 0) (fault : DebugFault) → fault ≢ WriteFault → Looks shows old new out (Err fault) → ⊥
@@ -191,7 +196,8 @@ module _ {X : Type 0} {B : X → Type 0} (old new : Debugger X B) (out : Outgoin
   abbrev NoMark : (Spot → List Spot → Bool) → Number → Number → DebugFault → Type 0
   NoMark may method place fault = (fault ≡ NoSuch) × Declined old new out × NamesNone may old.mover.machine.core.image method place old.breakpoints
 
-  marks_refused : (may : Spot → List Spot → Bool) (marked : Spot → List Spot → List Spot) (method place : Number) (fault : DebugFault) → fault ≢ WriteFault → Marks may marked method place old new out (Err fault) → NoMark may method place fault
+  marks_refused : (may : Spot → List Spot → Bool) (marked : Spot → List Spot → List Spot) (method place : Number) (fault : DebugFault) →
+      fault ≢ WriteFault → Marks may marked method place old new out (Err fault) → NoMark may method place fault
   marks_refused may marked method place NoSuch other x = (refl, x.2, x.1)
   marks_refused may marked method place Ended other x = absurd (not_both old.has_failed x.0 well)
   marks_refused may marked method place WriteFault other x = absurd (other refl)
@@ -213,7 +219,8 @@ module _ {X : Type 0} {B : X → Type 0} (old new : Debugger X B) (out : Outgoin
   is_refused Go fault other x = let r = goes_refused runs_of fault other x in subst (λ f. Refused Go f) (sym r.0) (r.1, r.2)
   is_refused (Until method place) fault other x = until_refused method place fault other x
   is_refused (Break method place) fault other x = let r = marks_refused is_set with_spot method place fault other x in subst (λ f. Refused (Break method place) f) (sym r.0) (r.1, (λ s stands. r.2))
-  is_refused (Unbreak method place) fault other x = let r = marks_refused has_spot without_spot method place fault other x in subst (λ f. Refused (Unbreak method place) f) (sym r.0) (r.1, (λ s stands. r.2))
+  is_refused (Unbreak method place) fault other x =
+      let r = marks_refused has_spot without_spot method place fault other x in subst (λ f. Refused (Unbreak method place) f) (sym r.0) (r.1, (λ s stands. r.2))
   is_refused Breaks fault other x = absurd (looks_refused (Sees look.Breaks) fault other x)
   is_refused Clock fault other x = absurd (looks_refused (Sees look.Clock) fault other x)
   is_refused Frames fault other x = absurd (looks_refused (Sees look.Frames) fault other x)
@@ -230,9 +237,11 @@ module _ {X : Type 0} {B : X → Type 0} (old new : Debugger X B) (out : Outgoin
   -- ---- what is cut
 
   abbrev pub CutOff : Command → Type 0
-  CutOff command = (out.failed ≡ true) × ((s : State) → StandsFor old.mover.machine s → (text : List ℕ) × Begins old.mover.machine.core.image (outside_of old.mover) (Ok (Some command)) (standing old s) text × ((sent : ℕ) × (out.now ≡ after out.before (take sent text))))
+  CutOff command = (out.failed ≡ true) × ((s : State) → StandsFor old.mover.machine s → (text : List ℕ) × Begins old.mover.machine.core.image
+      (outside_of old.mover) (Ok (Some command)) (standing old s) text × ((sent : ℕ) × (out.now ≡ after out.before (take sent text))))
 
-  goes_cut : (command : Command) (leads : Debugger X B → Courses) → ((s : State) → is_ended (standing old s) ≡ false → MovesOn old.mover.machine.core.image (Ok (Some command)) (standing old s)) → Goes leads old new out (Err WriteFault) → CutOff command
+  goes_cut : (command : Command) (leads : Debugger X B → Courses) → ((s : State) → is_ended (standing old s) ≡ false →
+      MovesOn old.mover.machine.core.image (Ok (Some command)) (standing old s)) → Goes leads old new out (Err WriteFault) → CutOff command
   goes_cut command leads on x =
       let cut = x.1 in (
         cut.fails,
@@ -241,7 +250,8 @@ module _ {X : Type 0} {B : X → Type 0} (old new : Debugger X B) (out : Outgoin
             (moved_text old.names old.mover.machine.core.image f.0 f.1, inr (on s (ended_at s stands ∙ x.0.1), f.0, f.1, f.2, refl), f.3)),
       )
 
-  looks_cut : (command : Command) (shows : Debugger X B → State → List ℕ → Type 0) → ((s : State) (text : List ℕ) → shows old s text → Does old.mover.machine.core.image (outside_of old.mover) command (standing old s) text (standing old s))
+  looks_cut : (command : Command) (shows : Debugger X B → State → List ℕ → Type 0) →
+      ((s : State) (text : List ℕ) → shows old s text → Does old.mover.machine.core.image (outside_of old.mover) command (standing old s) text (standing old s))
       → Looks shows old new out (Err WriteFault) → CutOff command
   looks_cut command shows does x = (
     x.2,
@@ -251,8 +261,8 @@ module _ {X : Type 0} {B : X → Type 0} (old new : Debugger X B) (out : Outgoin
   )
 
   marks_cut : (command : Command) (may : Spot → List Spot → Bool) (marked : Spot → List Spot → List Spot) (method place : Number)
-      → ((a : SessionState) (text : List ℕ) (b : SessionState) → MarksSo may marked old.mover.machine.core.image method place a text b → Does old.mover.machine.core.image (outside_of old.mover) command a text b)
-      → Marks may marked method place old new out (Err WriteFault) → CutOff command
+      → ((a : SessionState) (text : List ℕ) (b : SessionState) → MarksSo may marked old.mover.machine.core.image method place a text b → Does
+      old.mover.machine.core.image (outside_of old.mover) command a text b) → Marks may marked method place old new out (Err WriteFault) → CutOff command
   marks_cut command may marked method place does x =
       let can = x.2 in
       (x.4, (λ s stands. (_, inl (_, inl (does (standing old s) _ _ (x.1, can.names, can.room, refl, refl))), (x.5, x.6))))

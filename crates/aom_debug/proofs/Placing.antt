@@ -36,7 +36,8 @@ module _ (ns : Names) (m : Machine) (page : List ℕ) (is : page ≡ end_by m.pa
           record {
             out = λ s st.
                 let rest = ended (answer_by ns next) in
-                out ∙ ap (λ o. after o rest) first ∙ after_both before page rest ∙ ap (λ t. after before (t ++ rest)) (page_of s st) ∙ ap (λ (a : Answer). after before (end_by s.rest.ended (count_cells s.cells) ++ ended (answer_by ns a))) (told s st);
+                out ∙ ap (λ o. after o rest) first ∙ after_both before page rest ∙ ap (λ t. after before (t ++ rest)) (page_of s st)
+                ∙ ap (λ (a : Answer). after before (end_by s.rest.ended (count_cells s.cells) ++ ended (answer_by ns a))) (told s st);
           }
 
       pub place_cut_later : (fault : DebugFault) (failed : Bool) → IsCut (ended (answer_by ns next)) fault failed mid now → TellsPart m (λ s. place_text ns m.image s) fault failed before now

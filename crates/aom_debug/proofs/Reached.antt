@@ -39,11 +39,14 @@ module _ {X : Type 0} {B : X → Type 0} (d : Debugger X B) (w : Way) (f : Found
     pub words_seen : (told : Answer) → IfOk told (λ _. Tells d.mover.machine.core words_text before now) → IfOk told (λ _. Seen (SeesWords w) d before now)
     words_seen told tells = IfOk-weaker told _ _ (λ done t s st. (_, (_, words_found d.mover.machine.core.image s.cells (owned_at s w) f (is s st.stands), refl), t.out s st.stands)) tells
 
-    pub words_part : (failed : Bool) (told : Answer) → IfErr told (λ fault. TellsPart d.mover.machine.core words_text fault failed before now) → IfErr told (λ fault. SeenPart (SeesWords w) d fault failed before now)
-    words_part failed told part = IfErr-weaker told _ _ (λ fault t. (t.told, t.fails, (λ s st. (_, (_, words_found d.mover.machine.core.image s.cells (owned_at s w) f (is s st.stands), refl), t.out s st.stands)))) part
+    pub words_part : (failed : Bool) (told : Answer) → IfErr told (λ fault. TellsPart d.mover.machine.core words_text fault failed before now) →
+        IfErr told (λ fault. SeenPart (SeesWords w) d fault failed before now)
+    words_part failed told part = IfErr-weaker told _ _ (λ fault t.
+        (t.told, t.fails, (λ s st. (_, (_, words_found d.mover.machine.core.image s.cells (owned_at s w) f (is s st.stands), refl), t.out s st.stands)))) part
 
     pub queue_seen : (told : Answer) → IfOk told (λ _. Tells d.mover.machine.core queue_text before now) → IfOk told (λ _. Seen (SeesQueue w) d before now)
     queue_seen told tells = IfOk-weaker told _ _ (λ done t s st. (_, (_, queue_found s.cells (owned_at s w) f (is s st.stands), refl), t.out s st.stands)) tells
 
-    pub queue_part : (failed : Bool) (told : Answer) → IfErr told (λ fault. TellsPart d.mover.machine.core queue_text fault failed before now) → IfErr told (λ fault. SeenPart (SeesQueue w) d fault failed before now)
+    pub queue_part : (failed : Bool) (told : Answer) → IfErr told (λ fault. TellsPart d.mover.machine.core queue_text fault failed before now) →
+        IfErr told (λ fault. SeenPart (SeesQueue w) d fault failed before now)
     queue_part failed told part = IfErr-weaker told _ _ (λ fault t. (t.told, t.fails, (λ s st. (_, (_, queue_found s.cells (owned_at s w) f (is s st.stands), refl), t.out s st.stands)))) part

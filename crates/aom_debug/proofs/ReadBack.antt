@@ -1,5 +1,6 @@
 -- A path that the map of owners tells is read back: no blank and no dot stands within a number, so the words and the parts between dots are those that were put together.
-use Rattle.std.proofs.Common.{◌≡◌, ◌∙◌, ◌<◌, ◌≤◌, ◌^◌, ◌==◌, ◌||◌, ◌&&◌, ℕ, Bool, true, false, List, [], ◌∷◌, ◌++◌, Option, Some, length, refl, sym, ap, append_assoc, get_or, arith}
+use Rattle.std.proofs.Common.{◌≡◌, ◌∙◌, ◌<◌, ◌≤◌, ◌^◌, ◌==◌, ◌||◌, ◌&&◌, ℕ, Bool, true, false, List, [], ◌∷◌}
+use Rattle.std.proofs.Common.{◌++◌, Option, Some, length, refl, sym, ap, append_assoc, get_or, arith}
 use Rattle.std.specs.Prelude.{codes, decimal, filter, map, nat_le}
 use Rattle.std.specs.List.{All, flat_map, list_all, slice_split}
 use Rattle.std.proofs.lemmas.Bool.{and_from, ne_eqb, true≢false}
@@ -11,7 +12,9 @@ use Rattle.std.proofs.lemmas.List.Sums.{AllPass-from_list_all, list_all-from_All
 use Rattle.aom_meaning.proofs.Numbers.{all_digits, number_of_decimal, within}
 use Rattle.aom_text.specs.Numbers.{is_digit, number_of}
 use Rattle.aom_text.specs.Words.{has_bytes, is_blank, words}
-use Rattle.aom_debug_words.specs.Ways.{AreBranches, IsBranch, IsOuter, PathsReadBack, Way, before, branch_said, branch_text, branches_said, entry_by, field_said, fitting, going_by, is_dot, numbered_outer, outer_text, path_by, path_from, path_said, plain_outer, register_by, register_outer, session_said, up_to, way_text}
+use Rattle.aom_debug_words.specs.Ways.{AreBranches, IsBranch, IsOuter, PathsReadBack, Way, before, branch_said, branch_text, branches_said}
+use Rattle.aom_debug_words.specs.Ways.{entry_by, field_said, fitting, going_by, is_dot, numbered_outer, outer_text, path_by, path_from}
+use Rattle.aom_debug_words.specs.Ways.{path_said, plain_outer, register_by, register_outer, session_said, up_to, way_text}
 use Rattle.aom_debug_words.specs.declared.way.Branch.{Branch}
 use Rattle.aom_debug_words.specs.declared.way.Branch.TheVariants.{Field, Session}
 use Rattle.aom_debug_words.specs.declared.way.Outer.{Outer}
@@ -49,7 +52,8 @@ plain_ink bs are = list_all-from_AllPass is_ink bs (λ k d less. ap (λ t. t || 
 digits_plain : (n : ℕ) → n < 2 ^ 64 → list_all is_plain (decimal n) ≡ true
 unfolding is_plain
 digits_plain n small =
-    list_all-from_AllPass is_plain (decimal n) (λ k d less. ap (λ t. t || (nat_le 97 (get_or (decimal n) k d) && nat_le (get_or (decimal n) k d) 122)) (AllPass-from_list_all is_digit (decimal n) (all_digits n small) k d less))
+    list_all-from_AllPass is_plain (decimal n) (λ k d less. ap (λ t. t || (nat_le 97 (get_or (decimal n) k d) && nat_le (get_or (decimal n) k d) 122))
+    (AllPass-from_list_all is_digit (decimal n) (all_digits n small) k d less))
 
 -- ---- words
 
@@ -84,10 +88,10 @@ tail_ink (b ∷ bs) are = list_all-append is_ink (branch_text b) (flat_map branc
 split_parts : (w : List ℕ) (bs : List Branch) → list_all is_plain w ≡ true → AreBranches bs → slice_split is_dot (w ++ flat_map branch_text bs) ≡ w ∷ map branch_word bs
 unfolding branch_word
 split_parts w [] are branches = ap (slice_split is_dot) (append-nil w) ∙ slice_split_none is_dot w (no_dots w are)
-split_parts w (Field f ∷ bs) are branches =
-    slice_split_at is_dot w 46 (branch_word (Field f) ++ flat_map branch_text bs) (no_dots w are) refl ∙ ap (λ ps. w ∷ ps) (split_parts (branch_word (Field f)) bs (word_plain (Field f) branches.0) branches.1)
-split_parts w (Session c ∷ bs) are branches =
-    slice_split_at is_dot w 46 (branch_word (Session c) ++ flat_map branch_text bs) (no_dots w are) refl ∙ ap (λ ps. w ∷ ps) (split_parts (branch_word (Session c)) bs (word_plain (Session c) branches.0) branches.1)
+split_parts w (Field f ∷ bs) are branches = slice_split_at is_dot w 46 (branch_word (Field f) ++ flat_map branch_text bs) (no_dots w are) refl
+    ∙ ap (λ ps. w ∷ ps) (split_parts (branch_word (Field f)) bs (word_plain (Field f) branches.0) branches.1)
+split_parts w (Session c ∷ bs) are branches = slice_split_at is_dot w 46 (branch_word (Session c) ++ flat_map branch_text bs) (no_dots w are) refl
+    ∙ ap (λ ps. w ∷ ps) (split_parts (branch_word (Session c)) bs (word_plain (Session c) branches.0) branches.1)
 
 branch_back : (b : Branch) → IsBranch b → branch_said (branch_word b) ≡ Some b
 unfolding branch_word
@@ -115,7 +119,8 @@ module _ (bs : List Branch) (are : AreBranches bs) where
   last_word w plain some = words_one (w ++ t) (ink_before w plain) (some_before w some)
 
   -- by what the place says
-  by_place : (outer : List ℕ → Option Outer) (w : List ℕ) (o : Outer) → list_all is_plain w ≡ true → outer w ≡ Some o → path_by outer (slice_split is_dot (w ++ t)) ≡ fitting (record { outer = o; branches = bs })
+  by_place : (outer : List ℕ → Option Outer) (w : List ℕ) (o : Outer) →
+      list_all is_plain w ≡ true → outer w ≡ Some o → path_by outer (slice_split is_dot (w ++ t)) ≡ fitting (record { outer = o; branches = bs })
   by_place outer w o plain says =
       ap (path_by outer) (split_parts w bs plain are) ∙ ap (λ x. path_from x (branches_said (map branch_word bs))) says ∙ ap (path_from (Some o)) (branches_back bs are)
 
@@ -126,11 +131,13 @@ module _ (bs : List Branch) (are : AreBranches bs) where
   back (Entry k) is =
       let plain = digits_plain k (omega (arith, is)) in
       ap path_said (words_more (codes "clean") (decimal k ++ t) refl (omega arith) ∙ ap (λ ws. codes "clean" ∷ ws) (last_word (decimal k) plain (decimal_nonempty k (omega (arith, is)))))
-      ∙ by_place (numbered_outer (codes "clean")) (decimal k) (Entry k) plain (ap (λ o. entry_by (up_to 65535 o)) (number_of_decimal k (omega (arith, is))) ∙ ap entry_by (within 0 65535 k (omega arith) is))
+      ∙ by_place (numbered_outer (codes "clean")) (decimal k)
+      (Entry k) plain (ap (λ o. entry_by (up_to 65535 o)) (number_of_decimal k (omega (arith, is))) ∙ ap entry_by (within 0 65535 k (omega arith) is))
   back (Going k) is =
       let plain = digits_plain k (omega (arith, is)) in
       ap path_said (words_more (codes "going") (decimal k ++ t) refl (omega arith) ∙ ap (λ ws. codes "going" ∷ ws) (last_word (decimal k) plain (decimal_nonempty k (omega (arith, is)))))
-      ∙ by_place (numbered_outer (codes "going")) (decimal k) (Going k) plain (ap (λ o. going_by (up_to 65535 o)) (number_of_decimal k (omega (arith, is))) ∙ ap going_by (within 0 65535 k (omega arith) is))
+      ∙ by_place (numbered_outer (codes "going")) (decimal k)
+      (Going k) plain (ap (λ o. going_by (up_to 65535 o)) (number_of_decimal k (omega (arith, is))) ∙ ap going_by (within 0 65535 k (omega arith) is))
   back (Register f i) is =
       let frame = digits_plain f (omega (arith, is.0)) in
       let plain = digits_plain i (omega (arith, is.1)) in

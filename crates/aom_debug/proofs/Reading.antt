@@ -25,7 +25,8 @@ module _ {X : Type 0} {B : X → Type 0} where
           [],
           after_none given,
           omega arith,
-          subst (λ k. Talks a.mover.machine.core.image (outside_of a.mover) (standing a s) [] a k before before) (sym is) (talks_first a.mover.machine.core.image (outside_of a.mover) (standing a s) [] before a s stands well),
+          subst (λ k. Talks a.mover.machine.core.image (outside_of a.mover) (standing a s) [] a k before before)
+              (sym is) (talks_first a.mover.machine.core.image (outside_of a.mover) (standing a s) [] before a s stands well),
         );
       }
 
@@ -35,7 +36,8 @@ module _ {X : Type 0} {B : X → Type 0} where
     more text bytes gives was is = is ∙ ap (λ o. after o bytes) was ∙ after_both given text bytes
 
     -- a read that gives some
-    pub talked_on : (new : Debugger X B) (then : Kept) (bytes : List ℕ) (gives now : Option (List ℕ)) → 0 < length bytes → gives ≡ after mid bytes → GoesOn d kept here bytes new then now → Talked a new then (reads + 1) given gives before now
+    pub talked_on : (new : Debugger X B) (then : Kept) (bytes : List ℕ) (gives now : Option (List ℕ)) →
+        0 < length bytes → gives ≡ after mid bytes → GoesOn d kept here bytes new then now → Talked a new then (reads + 1) given gives before now
     talked_on new then bytes gives now some is goes =
         record {
           goes = λ s stands.
@@ -55,13 +57,15 @@ module _ {X : Type 0} {B : X → Type 0} where
         (t.0 ++ bytes, (more t.0 bytes gives t.1 is, breaks a.mover.machine.core.image (outside_of a.mover) (standing a s) t.0 before t.3))
 
     -- the one that tells the end
-    pub talked_ends : (gives now : Option (List ℕ)) (ended had ill : Bool) → gives ≡ after mid [] → ended ≡ true → ill ≡ had → Ends d kept here now → HoldsAll a (record { before = given; now = gives; ended = ended; had_failed = had; failed = ill }) before now
+    pub talked_ends : (gives now : Option (List ℕ)) (ended had ill : Bool) → gives ≡ after mid [] → ended ≡ true →
+        ill ≡ had → Ends d kept here now → HoldsAll a (record { before = given; now = gives; ended = ended; had_failed = had; failed = ill }) before now
     talked_ends gives now ended had ill is end same ends = λ s stands.
         let t = talked.goes s stands in
         (t.0, ((is ∙ sym (after_none mid) ∙ t.1, end, same), ends a.mover.machine.core.image (outside_of a.mover) (standing a s) t.0 before t.3))
 
     -- one that fails
-    pub talked_fails : (most : ℕ) (gives : Option (List ℕ)) (ended had ill : Bool) → gives ≡ mid → ill ≡ true → StopsShort most a (record { before = given; now = gives; ended = ended; had_failed = had; failed = ill }) before here
+    pub talked_fails : (most : ℕ) (gives : Option (List ℕ)) (ended had ill : Bool) →
+        gives ≡ mid → ill ≡ true → StopsShort most a (record { before = given; now = gives; ended = ended; had_failed = had; failed = ill }) before here
     talked_fails most gives ended had ill is fails = λ s stands.
         let t = talked.goes s stands in
         (t.0, ((is ∙ t.1, inl fails), talks_stop a.mover.machine.core.image (outside_of a.mover) (standing a s) t.0 before d kept here t.3))

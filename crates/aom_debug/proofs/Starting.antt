@@ -11,7 +11,8 @@ use Rattle.aom_debug.specs.declared.debugger.Debugger.{Debugger}
 use Rattle.aom_commands.proofs.Tries.{has_enough}
 use Rattle.aom_debug.specs.Beginning.{IsBegun}
 
-module _ {X : Type 0} {B : X → Type 0} (ns : Names) (p : Image) (script : Script) (limit natives : ℕ) (m : Machine X B) (image : m.core.image ≡ p) (stands : StandsFor m (boot_state p)) (count : natives_of m ≡ natives) where
+module _ {X : Type 0} {B : X → Type 0} (ns : Names) (p : Image) (script : Script)
+    (limit natives : ℕ) (m : Machine X B) (image : m.core.image ≡ p) (stands : StandsFor m (boot_state p)) (count : natives_of m ≡ natives) where
   pub begun_of : (d : Debugger X B) (turn : LineBuffer) → d.mover.machine ≡ m → (d.mover.script ≡ script) × (d.mover.turn ≡ turn) × (d.mover.limit ≡ limit) → turn.refused ≡ script.refused
       → (d.breakpoints ≡ []) × (d.mover.recent ≡ []) × (d.has_failed ≡ false) → d.names ≡ ns → IsBegun ns p script limit natives d
   begun_of d turn same given refused marks names =

@@ -28,14 +28,16 @@ use Rattle.aom_debug.specs.Hearing.{standing}
 use Rattle.aom_debug.specs.Sessions.{SessionState}
 
 -- what is so of the status of a session, by how it was held
-pub by_done : (So : Result ExitStatus Fault → Type 0) (told : Result (Unit {0}) Fault) (result : Result ExitStatus Fault) {Holds : Type 0} {Fails : Fault → Type 0} → IfOk told (λ _. result ≡ Ok statuses.Done) → IfErr told (λ fault. result ≡ Err fault)
+pub by_done : (So : Result ExitStatus Fault → Type 0) (told : Result (Unit {0}) Fault) (result : Result ExitStatus Fault)
+    {Holds : Type 0} {Fails : Fault → Type 0} → IfOk told (λ _. result ≡ Ok statuses.Done) → IfErr told (λ fault. result ≡ Err fault)
     → IfOk told (λ _. Holds) → IfErr told Fails → (Holds → So (Ok statuses.Done)) → ((fault : Fault) → Fails fault → So (Err fault)) → So result
 by_done So (Ok done) result is not holds fails by or = subst So (sym is) (by holds)
 by_done So (Err fault) result is not holds fails by or = subst So (sym not) (or fault fails)
 
 -- ---- an accepted image under a script
 
-module _ (ns : Names) (bytes text : List ℕ) (limit natives reads : ℕ) (p : Image) (script : Script) (acceptable : IsAcceptable p) (spelled : IsSpelled bytes p) (denotes : denoted text ≡ Ok script) (given : Given) (out errors : Sent) where
+module _ (ns : Names) (bytes text : List ℕ) (limit natives reads : ℕ) (p : Image)
+    (script : Script) (acceptable : IsAcceptable p) (spelled : IsSpelled bytes p) (denotes : denoted text ≡ Ok script) (given : Given) (out errors : Sent) where
   abbrev Answered : ExitStatus → Type 0
   Answered = DebugAnswersBy ns bytes text limit natives reads given out errors
 
@@ -48,9 +50,9 @@ module _ (ns : Names) (bytes text : List ℕ) (limit natives reads : ℕ) (p : I
 
     -- what a session comes to from where the debugger begins
     begun_so : (Q : Image → Environment → SessionState → Type 0) → Q d.mover.machine.core.image (outside_of d.mover) (standing d (boot_state p)) → Q p (outside_by script limit natives) (start_of ns p)
-    begun_so Q x =
-        subst (λ q. Q q (outside_by script limit natives) (start_of ns p)) begun.image
-        (subst (λ o. Q d.mover.machine.core.image o (start_of ns p)) begun.outside (subst (λ ss. Q d.mover.machine.core.image (outside_of d.mover) (record { state = boot_state p; spots = ss; recent = []; names = ns })) begun.spots
+    begun_so Q x = subst (λ q. Q q (outside_by script limit natives) (start_of ns p)) begun.image
+        (subst (λ o. Q d.mover.machine.core.image o (start_of ns p)) begun.outside
+        (subst (λ ss. Q d.mover.machine.core.image (outside_of d.mover) (record { state = boot_state p; spots = ss; recent = []; names = ns })) begun.spots
         (subst (λ rs. Q d.mover.machine.core.image (outside_of d.mover) (record { state = boot_state p; spots = d.breakpoints; recent = rs; names = ns })) begun.recent
         (subst (λ names. Q d.mover.machine.core.image (outside_of d.mover) (record { state = boot_state p; spots = d.breakpoints; recent = d.mover.recent; names = names })) begun.names x))))
 
@@ -59,8 +61,8 @@ module _ (ns : Names) (bytes text : List ℕ) (limit natives reads : ℕ) (p : I
     held_of holds silent = let h = holds (boot_state p) begun.stands in (debugs, (h.0, h.1.0, begun_so (λ q o s. Held q o s h.0 out.before out.now) h.1.1), silent)
 
     -- or not, and that is told
-    pub broken_of : (fault : Fault) (status : ExitStatus) → ((fault ≡ faults.File) × StopsShort reads d given out.before out.now) ⊎ ((fault ≡ faults.Write) × BreaksDown d given out.before out.now out.failed)
-        → Told fault status errors → Answered status
+    pub broken_of : (fault : Fault) (status : ExitStatus) → ((fault ≡ faults.File) × StopsShort reads d given out.before out.now) ⊎
+        ((fault ≡ faults.Write) × BreaksDown d given out.before out.now out.failed) → Told fault status errors → Answered status
     broken_of fault status (inl stops) told =
         let t : Told faults.File status errors = subst (λ f. Told f status errors) stops.0 told in
         let h = stops.1 (boot_state p) begun.stands in
@@ -99,7 +101,8 @@ module _ (ns : Names) (bytes text : List ℕ) (limit natives reads : ℕ) (given
   -- ---- bytes that are no accepted image
 
   -- they have a fault that is told with the status of a refused image
-  refused_by : (fault : Fault) → RefusesImage bytes fault → ((p : Image) → IsSpelled bytes p → IsAcceptable p → fault ≡ faults.Memory) → status_of fault ≡ statuses.ImageRefused → Told fault status errors → So status
+  refused_by : (fault : Fault) → RefusesImage bytes fault → ((p : Image) → IsSpelled bytes p → IsAcceptable p → fault ≡ faults.Memory) →
+      status_of fault ≡ statuses.ImageRefused → Told fault status errors → So status
   refused_by fault refuses complete image told =
       subst So (sym (told.0 ∙ image)) (not_run line_text bytes text limit natives fault out errors statuses.ImageRefused refuses complete silent (sym image, told.1), unread)
 

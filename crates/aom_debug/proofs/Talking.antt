@@ -1,5 +1,6 @@
 -- A session goes on with each line that is whole.
-use Rattle.std.proofs.Common.{◌≡◌, ◌∙◌, ◌==◌, ℕ, Bool, true, false, cond, not, List, [], ◌∷◌, ◌++◌, Option, Result, length, take, refl, sym, ap, subst, append-nil, append_assoc, arith}
+use Rattle.std.proofs.Common.{◌≡◌, ◌∙◌, ◌==◌, ℕ, Bool, true, false, cond, not, List, [], ◌∷◌, ◌++◌, Option}
+use Rattle.std.proofs.Common.{Result, length, take, refl, sym, ap, subst, append-nil, append_assoc, arith}
 use Rattle.std.proofs.lemmas.Bool.{ne_eqb}
 use Rattle.aom_text.specs.Words.{has_bytes}
 use Rattle.aom_text.specs.Text.{lines_of, true_lines}
@@ -24,13 +25,15 @@ use Rattle.aom_debug.proofs.Lines.{last_line, lines_before, some_parts, split_en
 
 module _ {X : Type 0} {B : X → Type 0} (p : Image) (outside : Environment) (start : SessionState) (text : List ℕ) (before : Option (List ℕ)) where
   -- nothing has come
-  pub talks_first : (d : Debugger X B) (s : State) → StandsFor d.mover.machine s → d.has_failed ≡ false → Talks d.mover.machine.core.image (outside_of d.mover) (standing d s) [] d (pending_of []) before before
+  pub talks_first : (d : Debugger X B) (s : State) → StandsFor d.mover.machine s →
+      d.has_failed ≡ false → Talks d.mover.machine.core.image (outside_of d.mover) (standing d s) [] d (pending_of []) before before
   talks_first d s stands well =
       record { lines = []; rest = []; comes = record { parts = refl }; pending = refl; told = []; state = s; session = begins; stands = stands; out = after_none before; image = refl; same = refl; well = well }
 
   module _ (d : Debugger X B) (kept : Kept) (here : Option (List ℕ)) (talks : Talks p outside start text d kept before here) where
     -- a byte more in the same line
-    pub talks_on : (byte : ℕ) (now : Kept) → (byte == 10) ≡ false → ((line : List ℕ) → kept ≡ pending_of line → now ≡ pending_of (line ++ byte ∷ [])) → Talks p outside start (text ++ byte ∷ []) d now before here
+    pub talks_on : (byte : ℕ) (now : Kept) → (byte == 10) ≡ false →
+        ((line : List ℕ) → kept ≡ pending_of line → now ≡ pending_of (line ++ byte ∷ [])) → Talks p outside start (text ++ byte ∷ []) d now before here
     talks_on byte now other adds =
         record {
           lines = talks.lines;
@@ -63,7 +66,8 @@ module _ {X : Type 0} {B : X → Type 0} (p : Image) (outside : Environment) (st
     pub lines_on : (byte : ℕ) (others : List ℕ) → (byte == 10) ≡ true → lines_of (text ++ byte ∷ others) ≡ talks.lines ++ talks.rest ∷ lines_of others
     lines_on byte others feeds =
         let h = some_parts (λ b. b == 10) others in
-        ap true_lines (split_end (λ b. b == 10) text talks.lines talks.rest talks.comes.parts byte others feeds) ∙ ap (λ t. true_lines (talks.lines ++ talks.rest ∷ t)) h.2 ∙ lines_before talks.lines talks.rest h.0 h.1
+        ap true_lines (split_end (λ b. b == 10) text talks.lines talks.rest talks.comes.parts byte others feeds)
+        ∙ ap (λ t. true_lines (talks.lines ++ talks.rest ∷ t)) h.2 ∙ lines_before talks.lines talks.rest h.0 h.1
         ∙ ap (λ t. talks.lines ++ talks.rest ∷ true_lines t) (sym h.2)
 
     -- ---- no more comes
@@ -90,7 +94,8 @@ module _ {X : Type 0} {B : X → Type 0} (p : Image) (outside : Environment) (st
 
     module _ (now : Option (List ℕ)) (failed : Bool) where
       -- the output fails in it
-      pub talks_cut : (whole : List ℕ) (more : List (List ℕ)) → lines_of whole ≡ talks.lines ++ talks.rest ∷ more → HeardPart (command_by d.names talks.rest) d (record { before = here; now = now; failed = failed }) → Broken p outside start whole before now failed
+      pub talks_cut : (whole : List ℕ) (more : List (List ℕ)) → lines_of whole ≡ talks.lines ++ talks.rest ∷ more →
+          HeardPart (command_by d.names talks.rest) d (record { before = here; now = now; failed = failed }) → Broken p outside start whole before now failed
       talks_cut whole more are part =
           let f = part.goes talks.state talks.stands in
           record {
@@ -102,7 +107,8 @@ module _ {X : Type 0} {B : X → Type 0} (p : Image) (outside : Environment) (st
             last = standing d talks.state;
             session = talks.session;
             next = f.0;
-            begins = subst (λ o. Begins p o (command_by d.names talks.rest) (standing d talks.state) f.0) talks.same (subst (λ q. Begins q (outside_of d.mover) (command_by d.names talks.rest) (standing d talks.state) f.0) talks.image f.1);
+            begins = subst (λ o. Begins p o (command_by d.names talks.rest) (standing d talks.state) f.0) talks.same
+                (subst (λ q. Begins q (outside_of d.mover) (command_by d.names talks.rest) (standing d talks.state) f.0) talks.image f.1);
             fails = part.failed;
             sent = f.2.0;
             out = joined (take f.2.0 f.0) now f.2.1;
@@ -110,11 +116,13 @@ module _ {X : Type 0} {B : X → Type 0} (p : Image) (outside : Environment) (st
 
     module _ (new : Debugger X B) (now : Option (List ℕ)) (failed : Bool) where
       -- it is done or refused
-      heeded : (heard : Heard (command_by d.names talks.rest) d new (record { before = here; now = now; failed = failed })) → let f = heard.goes talks.state talks.stands in Session p outside start (talks.lines ++ talks.rest ∷ []) (talks.told ++ f.0) (standing new f.1)
+      heeded : (heard : Heard (command_by d.names talks.rest) d new (record { before = here; now = now; failed = failed })) →
+          let f = heard.goes talks.state talks.stands in Session p outside start (talks.lines ++ talks.rest ∷ []) (talks.told ++ f.0) (standing new f.1)
       heeded heard =
           let f = heard.goes talks.state talks.stands in
           heeds talks.rest f.0 talks.session
-          (subst (λ o. Heeds p o (command_by d.names talks.rest) (standing d talks.state) f.0 (standing new f.1)) talks.same (subst (λ q. Heeds q (outside_of d.mover) (command_by d.names talks.rest) (standing d talks.state) f.0 (standing new f.1)) talks.image f.2))
+          (subst (λ o. Heeds p o (command_by d.names talks.rest) (standing d talks.state) f.0 (standing new f.1)) talks.same
+          (subst (λ q. Heeds q (outside_of d.mover) (command_by d.names talks.rest) (standing d talks.state) f.0 (standing new f.1)) talks.image f.2))
 
       -- the last, which lacks its line feed
       pub talks_last : has_bytes talks.rest ≡ true → Heard (command_by d.names talks.rest) d new (record { before = here; now = now; failed = failed }) → Held p outside start text before now
@@ -128,7 +136,8 @@ module _ {X : Type 0} {B : X → Type 0} (p : Image) (outside : Environment) (st
           }
 
       -- a line that is whole
-      pub talks_line : (byte : ℕ) (then : Kept) → (byte == 10) ≡ true → then ≡ pending_of [] → Keeps d.mover new.mover → Heard (command_by d.names talks.rest) d new (record { before = here; now = now; failed = failed })
+      pub talks_line : (byte : ℕ) (then : Kept) → (byte == 10) ≡ true →
+          then ≡ pending_of [] → Keeps d.mover new.mover → Heard (command_by d.names talks.rest) d new (record { before = here; now = now; failed = failed })
           → Talks p outside start (text ++ byte ∷ []) new then before now
       talks_line byte then feeds anew keeps heard =
           let f = heard.goes talks.state talks.stands in
@@ -170,7 +179,8 @@ module _ {X : Type 0} {B : X → Type 0} where
     ends_at_line is p outside start text before talks = talks_out p outside start text before d kept here talks (is_there talks.rest ∙ ap not (sym (says_empty talks.rest talks.pending) ∙ is))
 
     -- in a line
-    module _ (is : empty ≡ false) (now : Option (List ℕ)) (failed : Bool) (said : Result (Option Command) DebugFault) (says : (line : List ℕ) → kept ≡ pending_of line → said ≡ command_by d.names line) where
+    module _ (is : empty ≡ false) (now : Option (List ℕ))
+        (failed : Bool) (said : Result (Option Command) DebugFault) (says : (line : List ℕ) → kept ≡ pending_of line → said ≡ command_by d.names line) where
       pub ends_in_line : (new : Debugger X B) → Heard said d new (record { before = here; now = now; failed = failed }) → Ends d kept here now
       ends_in_line new heard p outside start text before talks =
           talks_last p outside start text before d kept here talks new now failed (is_there talks.rest ∙ ap not (sym (says_empty talks.rest talks.pending) ∙ is))
@@ -190,7 +200,8 @@ module _ {X : Type 0} {B : X → Type 0} where
         let on = talks_on p outside start (text ++ bytes) before d kept mid (goes p outside start text before talks) byte now other adds in
         subst (λ t. Talks p outside start t d now before mid) (append_assoc text bytes (byte ∷ []) ∙ ap (λ t. text ++ t) (sym is)) on
 
-    pub goes_line : (new : Debugger X B) (then : Kept) (out : Option (List ℕ)) (failed : Bool) (said : Result (Option Command) DebugFault) → (byte == 10) ≡ true → then ≡ pending_of [] → ((line : List ℕ) → kept ≡ pending_of line → said ≡ command_by d.names line) → Keeps d.mover new.mover
+    pub goes_line : (new : Debugger X B) (then : Kept) (out : Option (List ℕ)) (failed : Bool) (said : Result (Option Command) DebugFault) →
+        (byte == 10) ≡ true → then ≡ pending_of [] → ((line : List ℕ) → kept ≡ pending_of line → said ≡ command_by d.names line) → Keeps d.mover new.mover
         → Heard said d new (record { before = mid; now = out; failed = failed }) → GoesOn a first here more new then out
     goes_line new then out failed said feeds anew says keeps heard p outside start text before talks =
         let t = goes p outside start text before talks in
@@ -199,8 +210,10 @@ module _ {X : Type 0} {B : X → Type 0} where
         subst (λ u. Talks p outside start u new then before out) (append_assoc text bytes (byte ∷ []) ∙ ap (λ u. text ++ u) (sym is)) on
 
   -- the output fails in the line that a byte ends
-  module _ (a d : Debugger X B) (first kept : Kept) (here mid : Option (List ℕ)) (bytes others all : List ℕ) (byte : ℕ) (is : all ≡ bytes ++ byte ∷ others) (goes : GoesOn a first here bytes d kept mid) where
-    pub breaks_in_line : (out : Option (List ℕ)) (failed : Bool) (said : Result (Option Command) DebugFault) → (byte == 10) ≡ true → ((line : List ℕ) → kept ≡ pending_of line → said ≡ command_by d.names line) → HeardPart said d (record { before = mid; now = out; failed = failed })
+  module _ (a d : Debugger X B) (first kept : Kept) (here mid : Option (List ℕ))
+      (bytes others all : List ℕ) (byte : ℕ) (is : all ≡ bytes ++ byte ∷ others) (goes : GoesOn a first here bytes d kept mid) where
+    pub breaks_in_line : (out : Option (List ℕ)) (failed : Bool) (said : Result (Option Command) DebugFault) → (byte == 10) ≡ true →
+        ((line : List ℕ) → kept ≡ pending_of line → said ≡ command_by d.names line) → HeardPart said d (record { before = mid; now = out; failed = failed })
         → BreaksOff a first here all out failed
     breaks_in_line out failed said feeds says part p outside start text before talks =
         let t = goes p outside start text before talks in

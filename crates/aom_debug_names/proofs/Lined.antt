@@ -1,5 +1,6 @@
 -- The instruction that is found by a line stands in it: what is sought in the rest of a text is in the part at hand, or in a later one.
-use Rattle.std.proofs.Common.{◌≡◌, ◌∙◌, ◌+◌, ◌==◌, ℕ, zero, suc, Bool, true, false, cond, nat_le, nat_lt, List, [], ◌∷◌, Option, Some, None, add-one, ap, arith, refl, slice_get, subst, sym}
+use Rattle.std.proofs.Common.{◌≡◌, ◌∙◌, ◌+◌, ◌==◌, ℕ, zero, suc, Bool, true, false, cond, nat_le, nat_lt, List}
+use Rattle.std.proofs.Common.{[], ◌∷◌, Option, Some, None, add-one, ap, arith, refl, slice_get, subst, sym}
 use Rattle.std.specs.Prelude.{option_map}
 use Rattle.std.proofs.lemmas.Bool.{eqb-true}
 use Rattle.std.proofs.lemmas.Option.{none-some, same_Some}
@@ -28,7 +29,8 @@ module _ (line methods place : ℕ) (s : Statement) (ss : List Statement) (spot 
   behind_method : begins k.Method s ≡ true → Stands line (methods + 1) 0 ss spot → Stands line methods place (s ∷ ss) spot
   behind_method starts (here further m p l) =
       let at : spot.place ≡ further = omega (arith, p) in
-      later 0 (omega (arith, m)) (ap (λ xs. option_map (λ (x : Statement). x.line) (slice_get xs spot.place)) (part_yes (begins k.Method) s ss 0 starts) ∙ ap (λ n. option_map (λ (x : Statement). x.line) (slice_get (part (begins k.Method) ss 0) n)) at ∙ l)
+      later 0 (omega (arith, m)) (ap (λ xs. option_map (λ (x : Statement). x.line) (slice_get xs spot.place)) (part_yes (begins k.Method) s ss 0 starts)
+      ∙ ap (λ n. option_map (λ (x : Statement). x.line) (slice_get (part (begins k.Method) ss 0) n)) at ∙ l)
   behind_method starts (later number m l) =
       later (suc number) (omega (arith, m)) (ap (λ xs. option_map (λ (x : Statement). x.line) (slice_get xs spot.place)) (part_yes (begins k.Method) s ss (suc number) starts) ∙ l)
 
@@ -59,15 +61,18 @@ went_on true o spot is = is
 went_on false o spot is = absurd (none-some spot is)
 
 -- what is found behind a statement stands there, where what is found in the rest does
-one_behind : (line methods place : ℕ) (s : Statement) (ss : List Statement) (spot : Spot) → (spot_from line (methods + 1) 0 ss ≡ Some spot → Stands line (methods + 1) 0 ss spot) → (spot_from line methods (place + 1) ss ≡ Some spot → Stands line methods (place + 1) ss spot) →
+one_behind : (line methods place : ℕ) (s : Statement) (ss : List Statement) (spot : Spot) → (spot_from line (methods + 1) 0 ss ≡ Some spot →
+    Stands line (methods + 1) 0 ss spot) → (spot_from line methods (place + 1) ss ≡ Some spot → Stands line methods (place + 1) ss spot) →
     spot_from line methods place (s ∷ ss) ≡ Some spot → Stands line methods place (s ∷ ss) spot
 one_behind line methods place s ss spot next further is = method (begins k.Method s) refl is
   where
-    other : begins k.Method s ≡ false → (b : Bool) → (s.line == line) ≡ b → cond b (place_in methods place) (cond (nat_lt place 65536) (spot_from line methods (place + 1) ss) None) ≡ Some spot → Stands line methods place (s ∷ ss) spot
+    other : begins k.Method s ≡ false → (b : Bool) → (s.line == line) ≡ b → cond b
+        (place_in methods place) (cond (nat_lt place 65536) (spot_from line methods (place + 1) ss) None) ≡ Some spot → Stands line methods place (s ∷ ss) spot
     other stands true at e = let there = placed methods place spot e in at_last line methods place s ss spot stands (eqb-true s.line line at) there.0 there.1
     other stands false at e = behind_other line methods place s ss spot stands (further (went_on (nat_lt place 65536) (spot_from line methods (place + 1) ss) spot e))
 
-    method : (b : Bool) → begins k.Method s ≡ b → cond b (cond (nat_lt methods 65536) (spot_from line (methods + 1) 0 ss) None) (cond (s.line == line) (place_in methods place) (cond (nat_lt place 65536) (spot_from line methods (place + 1) ss) None)) ≡ Some spot → Stands line methods place (s ∷ ss) spot
+    method : (b : Bool) → begins k.Method s ≡ b → cond b (cond (nat_lt methods 65536) (spot_from line (methods + 1) 0 ss) None) (cond (s.line == line)
+        (place_in methods place) (cond (nat_lt place 65536) (spot_from line methods (place + 1) ss) None)) ≡ Some spot → Stands line methods place (s ∷ ss) spot
     method true starts e = behind_method line methods place s ss spot starts (next (went_on (nat_lt methods 65536) (spot_from line (methods + 1) 0 ss) spot e))
     method false stands e = other stands (s.line == line) refl e
 

@@ -12,6 +12,6 @@ as_far name [] = refl
 as_far name (n ∷ names) = ap (λ k. cond (not (bytes_eq n.now name)) (1 + k) 0) (as_far name names)
 
 pub position_lent : (name : List ℕ) (names : List (Bor (List ℕ))) → position (λ (n : Bor (List ℕ)). bytes_eq n.now name) names ≡ position (λ other. bytes_eq other name) (lent names)
-position_lent name names =
-    ap (λ k. cond (nat_lt k (length names)) (Some k) None) (as_far name names)
-    ∙ ap (λ l. cond (nat_lt (position_or_len (λ other. bytes_eq other name) (lent names)) l) (Some (position_or_len (λ other. bytes_eq other name) (lent names))) None) (sym (length-map names (λ (n : Bor (List ℕ)). n.now)))
+position_lent name names = ap (λ k. cond (nat_lt k (length names)) (Some k) None) (as_far name names)
+    ∙ ap (λ l. cond (nat_lt (position_or_len (λ other. bytes_eq other name) (lent names)) l)
+    (Some (position_or_len (λ other. bytes_eq other name) (lent names))) None) (sym (length-map names (λ (n : Bor (List ℕ)). n.now)))

@@ -1,5 +1,6 @@
 -- Without a text nothing is told by names: there is none to be found in it.
-use Rattle.std.proofs.Common.{◌≡◌, ◌∙◌, ◌+◌, ℕ, zero, suc, Bool, true, false, cond, nat_lt, List, [], ◌∷◌, ◌++◌, Option, Some, None, Result, Ok, Err, add-one, ap, codes, decimal, length, refl, slice_get, sym}
+use Rattle.std.proofs.Common.{◌≡◌, ◌∙◌, ◌+◌, ℕ, zero, suc, Bool, true, false, cond, nat_lt, List, [], ◌∷◌, ◌++◌, Option}
+use Rattle.std.proofs.Common.{Some, None, Result, Ok, Err, add-one, ap, codes, decimal, length, refl, slice_get, sym}
 use Rattle.std.specs.List.{slice_split, slice_index_or}
 use Rattle.aom_syntax.specs.declared.keyword.Keyword.TheVariants as k
 use Rattle.aom_text.specs.declared.text.Statement.{Statement}

@@ -1,5 +1,6 @@
 -- What stands between dots is read part by part: where a branch is none, or there is no room for one more, no way is said.
-use Rattle.std.proofs.Common.{◌≡◌, ◌∙◌, ◌<◌, Bor, ℕ, suc, Bool, true, false, cond, nat_le, List, [], ◌∷◌, ◌++◌, length, Option, Some, None, ap, append_assoc, arith, refl, sym}
+use Rattle.std.proofs.Common.{◌≡◌, ◌∙◌, ◌<◌, Bor, ℕ, suc, Bool, true, false, cond, nat_le, List, [], ◌∷◌}
+use Rattle.std.proofs.Common.{◌++◌, length, Option, Some, None, ap, append_assoc, arith, refl, sym}
 use Rattle.std.specs.Prelude.{IfSome, option_map}
 use Rattle.std.proofs.lemmas.List.{append-nil}
 use Rattle.std.proofs.lemmas.Option.{none-some, same_Some}
@@ -28,7 +29,8 @@ fits_so w x is = go (nat_le (length w.branches) 85) is
     go false e = absurd (none-some x e)
 
 -- one branch further, and then the others
-pub goes_on : (w x : Way) (b : Branch) (part : List ℕ) (parts : List (List ℕ)) → branch_said part ≡ Some b → fitting (further w b) ≡ Some x → onto w (branches_said (part ∷ parts)) ≡ onto x (branches_said parts)
+pub goes_on : (w x : Way) (b : Branch) (part : List ℕ) (parts : List (List ℕ)) →
+    branch_said part ≡ Some b → fitting (further w b) ≡ Some x → onto w (branches_said (part ∷ parts)) ≡ onto x (branches_said parts)
 goes_on w x b part parts said fits = ap (λ o. onto w (before o (branches_said parts))) said ∙ go (branches_said parts)
   where
     go : (o : Option (List Branch)) → onto w (before (Some b) o) ≡ onto x o

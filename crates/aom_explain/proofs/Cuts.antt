@@ -37,7 +37,8 @@ pub filter_map : {X Y : Type 0} (p : Y → Bool) (f : X → Y) (xs : List X) →
 filter_map p f [] = refl
 filter_map p f (x ∷ xs) = go (filter_map p f xs) (p (f x))
   where
-    go : map f (filter (λ x. p (f x)) xs) ≡ filter p (map f xs) → (b : Bool) → map f (cond b (x ∷ filter (λ x. p (f x)) xs) (filter (λ x. p (f x)) xs)) ≡ cond b (f x ∷ filter p (map f xs)) (filter p (map f xs))
+    go : map f (filter (λ x. p (f x)) xs) ≡ filter p (map f xs) →
+        (b : Bool) → map f (cond b (x ∷ filter (λ x. p (f x)) xs) (filter (λ x. p (f x)) xs)) ≡ cond b (f x ∷ filter p (map f xs)) (filter p (map f xs))
     go rest true = ap (λ ys. f x ∷ ys) rest
     go rest false = rest
 
@@ -49,7 +50,8 @@ split_map : {X Y : Type 0} (p : Y → Bool) (f : X → Y) (xs : List X) → map 
 split_map p f [] = refl
 split_map p f (x ∷ xs) = go (split_map p f xs) (p (f x))
   where
-    go : map (map f) (slice_split (λ x. p (f x)) xs) ≡ slice_split p (map f xs) → (b : Bool) → map (map f) (cond b ([] ∷ slice_split (λ x. p (f x)) xs) (onto_first x (slice_split (λ x. p (f x)) xs))) ≡ cond b ([] ∷ slice_split p (map f xs)) (onto_first (f x) (slice_split p (map f xs)))
+    go : map (map f) (slice_split (λ x. p (f x)) xs) ≡ slice_split p (map f xs) → (b : Bool) → map (map f) (cond b ([] ∷ slice_split (λ x. p (f x)) xs)
+        (onto_first x (slice_split (λ x. p (f x)) xs))) ≡ cond b ([] ∷ slice_split p (map f xs)) (onto_first (f x) (slice_split p (map f xs)))
     go rest true = ap (λ ps. [] ∷ ps) rest
     go rest false = onto_first_map f x (slice_split (λ x. p (f x)) xs) ∙ ap (onto_first (f x)) rest
 

@@ -14,7 +14,8 @@ use Rattle.aom_meaning.specs.Texts.{all_words}
 use Rattle.aom_meaning.specs.Denotes.{Denotes, names_of}
 use Rattle.aom_meaning.specs.Meaning.{ClassMeans, InstructionMeans, MethodMeans, labels_of}
 use Rattle.aom_meaning.specs.Source.{InstructionText, MethodText, class_words, classes_of, declared_statements, header_words, instruction_words, methods_of}
-use Rattle.aom_explain.specs.Declarations.{begins, begins_with, class_names, class_statement, image_statement, instruction_statement, method_names, method_statement, name_in, names_in, part}
+use Rattle.aom_explain.specs.Declarations.{begins, begins_with, class_names, class_statement, image_statement, instruction_statement}
+use Rattle.aom_explain.specs.Declarations.{method_names, method_statement, name_in, names_in, part}
 use Rattle.aom_explain.specs.Laws.{DeclaresClass, DeclaresMethod, words_of}
 use Rattle.aom_explain.specs.Lines.{class_lines, line_of, method_lines}
 use Rattle.aom_explain.proofs.Cuts.{filter_map, filter_no, part_map, part_no}
@@ -31,14 +32,16 @@ pub found_image : (text : List ℕ) (i : Image) (d : Denotes text i) → words_o
 found_image text i d = sym (slice_get-map words (statements text) 0) ∙ ap (λ ws. slice_get ws 0) d.written
 
 -- the statement that a number finds behind the header is the one that the source has for it
-there_by : {A : Type 0} (key : Keyword) (text : List ℕ) (i : Image) (d : Denotes text i) (spell : A → List (List ℕ)) (said : List A) (number : ℕ) (one : A) → begins_with key (header_words d.source.header) ≡ false
-    → filter (begins_with key) (declared_statements d.source.declarations) ≡ map spell said → slice_get said number ≡ Some one → words_of (slice_get (filter (begins key) (statements text)) number) ≡ Some (spell one)
+there_by : {A : Type 0} (key : Keyword) (text : List ℕ) (i : Image) (d : Denotes text i) (spell : A → List (List ℕ)) (said : List A) (number : ℕ) (one : A) →
+    begins_with key (header_words d.source.header) ≡ false → filter (begins_with key) (declared_statements d.source.declarations) ≡ map spell said →
+    slice_get said number ≡ Some one → words_of (slice_get (filter (begins key) (statements text)) number) ≡ Some (spell one)
 there_by key text i d spell said number one headed passes there =
     of_words key (statements text) number ∙ ap (λ ws. slice_get (filter (begins_with key) ws) number) d.written
     ∙ ap (λ ws. slice_get ws number) (filter_no (begins_with key) (header_words d.source.header) (declared_statements d.source.declarations) headed ∙ passes)
     ∙ slice_get-map spell said number ∙ ap (option_map spell) there
 
-pub found_class : (text : List ℕ) (i : Image) (d : Denotes text i) (number : ℕ) (c : ClassDecl) → slice_get i.classes number ≡ Some c → DeclaresClass text (names_of d.source) i.header.version i.header.natives number c
+pub found_class : (text : List ℕ) (i : Image) (d : Denotes text i) (number : ℕ) (c : ClassDecl) →
+    slice_get i.classes number ≡ Some c → DeclaresClass text (names_of d.source) i.header.version i.header.natives number c
 found_class text i d number c there =
     let said = pair_at (ClassMeans (names_of d.source) i.header.version i.header.natives) (classes_of d.source.declarations) i.classes number c d.classes there in
     record {
@@ -54,11 +57,13 @@ found_instruction text i d number place said t method there =
     let next : number + 1 ≡ suc number = omega arith in
     sym (slice_get-map words (part (begins k.Method) (statements text) (number + 1)) place)
     ∙ ap (λ ws. slice_get ws place)
-    (part_map (begins_with k.Method) words (statements text) (number + 1) ∙ ap (λ n. part (begins_with k.Method) (all_words (statements text)) n) next ∙ ap (λ ws. part (begins_with k.Method) ws (suc number)) d.written
+    (part_map (begins_with k.Method) words (statements text) (number + 1)
+    ∙ ap (λ n. part (begins_with k.Method) (all_words (statements text)) n) next ∙ ap (λ ws. part (begins_with k.Method) ws (suc number)) d.written
     ∙ part_no (begins_with k.Method) (header_words d.source.header) (declared_statements d.source.declarations) number refl)
     ∙ code_found d.source.declarations number place said t method there
 
-pub found_method : (text : List ℕ) (i : Image) (d : Denotes text i) (number : ℕ) (m : Method) → slice_get i.methods number ≡ Some m → DeclaresMethod text (names_of d.source) i.header.version i.classes number m
+pub found_method : (text : List ℕ) (i : Image) (d : Denotes text i) (number : ℕ) (m : Method) →
+    slice_get i.methods number ≡ Some m → DeclaresMethod text (names_of d.source) i.header.version i.classes number m
 found_method text i d number m there =
     let said = pair_at (MethodMeans (names_of d.source) i.header.version true i.classes) (methods_of d.source.declarations) i.methods number m d.methods there in
     record {

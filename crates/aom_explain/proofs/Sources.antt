@@ -15,7 +15,8 @@ use Rattle.aom_syntax.specs.declared.keyword.Keyword.TheVariants as k
 use Rattle.aom_meaning.proofs.Statements.{label_cut}
 use Rattle.aom_meaning.specs.Meaning.{Pairwise}
 use Rattle.aom_meaning.specs.Source as source
-use Rattle.aom_meaning.specs.Source.{Declaration, InstructionText, MethodText, class_words, classes_of, declared_statements, end_words, heading_words, instruction_words, label_words, methods_of}
+use Rattle.aom_meaning.specs.Source.{Declaration, InstructionText, MethodText, class_words, classes_of, declared_statements}
+use Rattle.aom_meaning.specs.Source.{end_words, heading_words, instruction_words, label_words, methods_of}
 use Rattle.aom_explain.specs.Declarations.{begins_with, part}
 use Rattle.aom_explain.proofs.Cuts.{filter_no, filter_yes, part_first, part_no, part_yes}
 
@@ -43,7 +44,8 @@ method_foreign = record { mnemonic = method_mnemonic; label = refl; ending = ref
 
 module _ (key : Keyword) (foreign : Foreign key) where
   no_label : (l : List ℕ) → bytes_eq (l ++ 58 ∷ []) (keyword_text key) ≡ false
-  no_label l = false_from_ne_true (bytes_eq (l ++ 58 ∷ []) (keyword_text key)) (λ same. none-some l (sym (sym (label_cut l) ∙ ap label_of ((bytes_eq-Decides (l ++ 58 ∷ []) (keyword_text key)).0 same) ∙ foreign.label)))
+  no_label l = false_from_ne_true (bytes_eq (l ++ 58 ∷ []) (keyword_text key))
+      (λ same. none-some l (sym (sym (label_cut l) ∙ ap label_of ((bytes_eq-Decides (l ++ 58 ∷ []) (keyword_text key)).0 same) ∙ foreign.label)))
 
   not_by : (label : Option (List ℕ)) (n : Mnemonic) (ws : List (List ℕ)) → begins_with key (label_words label ++ (mnemonic_text n ∷ ws)) ≡ false
   not_by None n ws = foreign.mnemonic n
@@ -58,12 +60,14 @@ module _ (key : Keyword) (foreign : Foreign key) where
   body_passes (t ∷ ts) rest = filter_no (begins_with key) (instruction_words t) ((map instruction_words ts ++ end_words ∷ []) ++ rest) (no_instruction t) ∙ body_passes ts rest
 
   -- so it is the beginning of the first part, and of no other
-  pub body_first : (code : List InstructionText) (rest : List (List (List ℕ))) → part (begins_with key) ((map instruction_words code ++ end_words ∷ []) ++ rest) 0 ≡ map instruction_words code ++ (end_words ∷ part (begins_with key) rest 0)
+  pub body_first : (code : List InstructionText) (rest : List (List (List ℕ))) → part
+      (begins_with key) ((map instruction_words code ++ end_words ∷ []) ++ rest) 0 ≡ map instruction_words code ++ (end_words ∷ part (begins_with key) rest 0)
   body_first [] rest = part_first (begins_with key) end_words rest foreign.ending
   body_first (t ∷ ts) rest =
       part_first (begins_with key) (instruction_words t) ((map instruction_words ts ++ end_words ∷ []) ++ rest) (no_instruction t) ∙ ap (λ ws. instruction_words t ∷ ws) (body_first ts rest)
 
-  pub body_later : (code : List InstructionText) (rest : List (List (List ℕ))) (n : ℕ) → part (begins_with key) ((map instruction_words code ++ end_words ∷ []) ++ rest) (suc n) ≡ part (begins_with key) rest (suc n)
+  pub body_later : (code : List InstructionText) (rest : List (List (List ℕ))) (n : ℕ) →
+      part (begins_with key) ((map instruction_words code ++ end_words ∷ []) ++ rest) (suc n) ≡ part (begins_with key) rest (suc n)
   body_later [] rest n = part_no (begins_with key) end_words rest n foreign.ending
   body_later (t ∷ ts) rest n =
       part_no (begins_with key) (instruction_words t) ((map instruction_words ts ++ end_words ∷ []) ++ rest) n (no_instruction t) ∙ body_later ts rest n
@@ -92,7 +96,8 @@ method_passes (source.method t ∷ ds) =
 -- ---- the instructions of a method
 
 -- an element that is there is there before others too
-before_others : (code : List InstructionText) (rest : List (List (List ℕ))) (place : ℕ) (t : InstructionText) → slice_get code place ≡ Some t → slice_get (map instruction_words code ++ rest) place ≡ Some (instruction_words t)
+before_others : (code : List InstructionText) (rest : List (List (List ℕ))) (place : ℕ) (t : InstructionText) →
+    slice_get code place ≡ Some t → slice_get (map instruction_words code ++ rest) place ≡ Some (instruction_words t)
 before_others [] rest place t there = absurd cc
 before_others (c ∷ cs) rest zero t there = ap (λ x. Some (instruction_words x)) (same_Some c t there)
 before_others (c ∷ cs) rest (suc place) t there = before_others cs rest place t there
@@ -105,12 +110,12 @@ code_found (source.class c ∷ ds) number place said t method there =
     ap (λ ws. slice_get ws place) (part_no (begins_with k.Method) (class_words c) (declared_statements ds) number refl) ∙ code_found ds number place said t method there
 code_found (source.method s ∷ ds) zero place said t method there =
     let same = same_Some s said method in
-    ap (λ ws. slice_get ws place) (part_yes (begins_with k.Method) (method_words s) ((map instruction_words s.code ++ end_words ∷ []) ++ declared_statements ds) 0 refl ∙ body_first k.Method method_foreign s.code (declared_statements ds))
+    ap (λ ws. slice_get ws place) (part_yes (begins_with k.Method) (method_words s) ((map instruction_words s.code ++ end_words ∷ []) ++ declared_statements ds)
+    0 refl ∙ body_first k.Method method_foreign s.code (declared_statements ds))
     ∙ before_others s.code (end_words ∷ part (begins_with k.Method) (declared_statements ds) 0) place t (ap (λ (x : MethodText). slice_get x.code place) same ∙ there)
 code_found (source.method s ∷ ds) (suc number) place said t method there =
-    ap (λ ws. slice_get ws place)
-    (part_yes (begins_with k.Method) (method_words s) ((map instruction_words s.code ++ end_words ∷ []) ++ declared_statements ds) (suc number) refl ∙ body_later k.Method method_foreign s.code (declared_statements ds) number)
-    ∙ code_found ds number place said t method there
+    ap (λ ws. slice_get ws place) (part_yes (begins_with k.Method) (method_words s) ((map instruction_words s.code ++ end_words ∷ []) ++ declared_statements ds)
+    (suc number) refl ∙ body_later k.Method method_foreign s.code (declared_statements ds) number) ∙ code_found ds number place said t method there
 
 -- ---- pairs
 

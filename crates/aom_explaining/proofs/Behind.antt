@@ -26,7 +26,8 @@ lined answers line (Err fault) errors status untold (is, told) = faulted fault (
 
 -- the explanation begins where the line has ended
 pub told_first : {X E : Type 0} (made : Result X E) (items : X → List ℕ) (tells : Sent → Type 0) (explains : List ℕ → Type 0) (before middle now : Option (List ℕ)) (told_fails fails : Bool) →
-    tells (record { before = before; now = middle; failed = told_fails }) → IfOk made (λ v. explains (items v)) → IfOk made (λ v. Says (items v) (record { before = middle; now = now; failed = fails })) →
+    tells (record { before = before; now = middle; failed = told_fails }) →
+    IfOk made (λ v. explains (items v)) → IfOk made (λ v. Says (items v) (record { before = middle; now = now; failed = fails })) →
     IfErr made (λ e. Tells Memory (record { before = middle; now = now; failed = fails })) → ToldAndExplained tells explains (record { before = before; now = now; failed = fails })
 told_first made items tells explains before middle now told_fails fails told right says wanting = record {
   line = record { before = before; now = middle; failed = told_fails };

@@ -1,5 +1,6 @@
 -- What is known at the place of a refusal, by where work on the method ends: there for that reason, elsewhere, or nowhere.
-use Rattle.std.proofs.Common.{ℕ, ◌≡◌, ◌∙◌, ◌++◌, ◌&&◌, ◌<◌, ◌≤◌, Bool, true, false, List, [], ◌∷◌, Option, Some, None, IsSome, Result, Ok, Err, ap, length, nat_lt, refl, slice_get, subst, sym}
+use Rattle.std.proofs.Common.{ℕ, ◌≡◌, ◌∙◌, ◌++◌, ◌&&◌, ◌<◌, ◌≤◌, Bool, true, false, List, [], ◌∷◌, Option, Some}
+use Rattle.std.proofs.Common.{None, IsSome, Result, Ok, Err, ap, length, nat_lt, refl, slice_get, subst, sym}
 use Rattle.std.specs.Prelude.{IfSome, not}
 use Rattle.std.proofs.lemmas.Bool.{false≢true, le-ltb, lt-ltb}
 use Rattle.std.proofs.lemmas.Option.{none-some, same_Some, slice_get_past}
@@ -10,7 +11,8 @@ use Rattle.aom_instructions.specs.declared.instr.Instr.{Instr}
 use Rattle.aom_classes.specs.Faults.{Fails, RefusesOrWants}
 use Rattle.aom_classes.specs.Linked.{IsLinked}
 use Rattle.aom_classes.specs.declared.fault.LinkFault.{LinkFault}
-use Rattle.aom_classes.specs.declared.fault.LinkFault.TheVariants.{ClassOrder, CallOrder, MissingRole, DoubleRole, RoleShape, BadJump, BadLoop, NoMain, OutOfMemory, BadParent, BadOverride}
+use Rattle.aom_classes.specs.declared.fault.LinkFault.TheVariants.{ClassOrder, CallOrder, MissingRole, DoubleRole, RoleShape, BadJump}
+use Rattle.aom_classes.specs.declared.fault.LinkFault.TheVariants.{BadLoop, NoMain, OutOfMemory, BadParent, BadOverride}
 use Rattle.aom_rules.specs.Rules.{rule}
 use Rattle.aom_shape.proofs.Lists.{there}
 use Rattle.aom_shape.specs.Changes.{told}
@@ -19,7 +21,9 @@ use Rattle.aom_roles.specs.Tables.{at}
 use Rattle.aom_shape.specs.declared.flow.Flow.{Flow as Changed}
 use Rattle.aom_shape.specs.Whys.{why_number}
 use Rattle.aom_shape.specs.declared.why.Why.{Why}
-use Rattle.aom_shape.specs.declared.why.Why.TheVariants.{RegisterKind, OwnedAtLeave, OwnedAtReturn, CleanupAtReturn, PopEmpty, LeaveNotAllowed, FieldNotNull, FieldsLeft, NotFresh, StillFresh, NotIdle, NotIssued, IssuedAtLeave, IssuedAtReturn, StillActive, NotCancelled, MessageAtLeave, MessageAtReturn, NotAdded, EntryState, QuietBroken}
+use Rattle.aom_shape.specs.declared.why.Why.TheVariants.{RegisterKind, OwnedAtLeave, OwnedAtReturn, CleanupAtReturn, PopEmpty, LeaveNotAllowed, FieldNotNull}
+use Rattle.aom_shape.specs.declared.why.Why.TheVariants.{FieldsLeft, NotFresh, StillFresh, NotIdle, NotIssued, IssuedAtLeave, IssuedAtReturn, StillActive}
+use Rattle.aom_shape.specs.declared.why.Why.TheVariants.{NotCancelled, MessageAtLeave, MessageAtReturn, NotAdded, EntryState, QuietBroken}
 use Rattle.aom_typings.specs.Shapes.{HasTyping, Shapes}
 use Rattle.aom_verify.specs.Arrivals.{StopsAt}
 use Rattle.aom_explaining.specs.Explained.{KnownThere, is_need, state_text, tells_why, ways_differ}

@@ -13,7 +13,8 @@ use Rattle.aom_roles.proofs.Descending.{child, itself}
 use Rattle.aom_families.proofs.Sets.{has_along, has_itself}
 use Rattle.aom_roles.specs.Families.{parent_of}
 use Rattle.aom_families.specs.Laws.{BodiesAreAlike, IsAlike, RunsAlike}
-use Rattle.aom_classes.specs.Overriding.{AllStandIn, AsksNoMore, StandsIn, StandsInNamed, body_by, body_of, found_in, leads_in, leads_to, over_in, over_of, overrider_of, replaces}
+use Rattle.aom_classes.specs.Overriding.{AllStandIn, AsksNoMore, StandsIn, StandsInNamed, body_by, body_of, found_in}
+use Rattle.aom_classes.specs.Overriding.{leads_in, leads_to, over_in, over_of, overrider_of, replaces}
 
 class_is : (c : ℕ) (own : Option ℕ) → is_class c own ≡ true → own ≡ Some c
 class_is c own e = some_given (λ o. is_class c o ≡ true) own e (λ none. cc) (λ k is same. is ∙ ap (λ n. Some n) (eqb-true k c same))
@@ -33,8 +34,8 @@ asks_itself e = record { leaves = λ l. l; quiet = λ q. q; before = has_itself 
 -- what stands in the place of a method
 stands : (p : Image) → AllStandIn p → (k m : ℕ) (d e : Method) → method_at p k ≡ Some d → d.over ≡ Some m → method_at p m ≡ Some e → StandsIn p d e
 unfolding method_at
-stands p fit k m d e there over named =
-    let at : IfSome (Some m) (λ m. IfSome (method_at p m) (StandsIn p d)) = subst (λ o. IfSome o (λ m. IfSome (method_at p m) (StandsIn p d))) over (all_there (StandsInNamed p) p.methods k d fit there) in
+stands p fit k m d e there over named = let at : IfSome (Some m) (λ m. IfSome (method_at p m) (StandsIn p d)) =
+    subst (λ o. IfSome o (λ m. IfSome (method_at p m) (StandsIn p d))) over (all_there (StandsInNamed p) p.methods k d fit there) in
     subst (λ o. IfSome o (StandsIn p d)) named at
 
 -- one in the place of another is alike to what that one is alike to

@@ -43,7 +43,8 @@ continued p fit c e is =
     let within = slice_get_within p.classes c own.0 own.1 in
     let lt = parent_below p c e is in
     let above = slice_get-get_or p.classes e own.0 (omega (arith, within, lt)) in
-    let named : IfSome (Some e) (λ e. IfSome (class_at p e) (Continues own.0)) = subst (λ o. IfSome o (λ e. IfSome (class_at p e) (Continues own.0))) own.2 (all_there (ContinuesParent p) p.classes c own.0 fit own.1) in
+    let named : IfSome (Some e) (λ e. IfSome (class_at p e) (Continues own.0)) =
+    subst (λ o. IfSome o (λ e. IfSome (class_at p e) (Continues own.0))) own.2 (all_there (ContinuesParent p) p.classes c own.0 fit own.1) in
     record {
       child = own.0;
       parent = get_or p.classes e own.0;
@@ -80,8 +81,8 @@ words_up p fit n c e is h f at =
 
 words_down : (p : Image) → AllContinue p → (c d : ℕ) → descends p c d ≡ true → (f e : ClassDecl) → class_at p c ≡ Some f → class_at p d ≡ Some e → e.words ≤ f.words
 unfolding HasWords
-words_down p fit c d family f e at there =
-    along p (HasWords p e.words) d (words_up p fit e.words) (λ g is. let same : e ≡ g = (let two = sym there ∙ is in cc) in subst (λ (x : ClassDecl). e.words ≤ x.words) same (omega arith)) c family f at
+words_down p fit c d family f e at there = along p (HasWords p e.words) d (words_up p fit e.words)
+    (λ g is. let same : e ≡ g = (let two = sym there ∙ is in cc) in subst (λ (x : ClassDecl). e.words ≤ x.words) same (omega arith)) c family f at
 
 -- ---- the law
 

@@ -1,5 +1,6 @@
 -- What an object may own weighs less than it: the destructor that mentions it comes after all that it could run.
-use Rattle.std.proofs.Common.{All, Bool, IfSome, Option, Some, None, [], ap, arith, cond, false, length, refl, subst, suc, sym, true, zero, ℕ, ⊎_elim, ◌*◌, ◌<◌, ◌∙◌, ◌≡◌, ◌≤◌}
+use Rattle.std.proofs.Common.{All, Bool, IfSome, Option, Some, None, [], ap, arith, cond, false, length}
+use Rattle.std.proofs.Common.{refl, subst, suc, sym, true, zero, ℕ, ⊎_elim, ◌*◌, ◌<◌, ◌∙◌, ◌≡◌, ◌≤◌}
 use Rattle.std.specs.Prelude.{is_some, IsSome, max, nat_lt, slice_get}
 use Rattle.std.proofs.lemmas.Bool.{cases_lt, lt-ltb, ltb-true}
 use Rattle.std.proofs.lemmas.Option.{slice_get_within}
@@ -33,7 +34,8 @@ unfolding count_below
 counts_more small large wide zero = omega arith
 counts_more small large wide (suc n) = go (small n) (large n) (wide n) (counts_more small large wide n)
   where
-    go : (a b : Bool) → (a ≡ true → b ≡ true) → count_below small n ≤ count_below large n → cond a (suc (count_below small n)) (count_below small n) ≤ cond b (suc (count_below large n)) (count_below large n)
+    go : (a b : Bool) → (a ≡ true → b ≡ true) → count_below small n ≤ count_below large n →
+        cond a (suc (count_below small n)) (count_below small n) ≤ cond b (suc (count_below large n)) (count_below large n)
     go a b h le = grind arith
 
 counts_one_more : (small large : ℕ → Bool) → ((x : ℕ) → small x ≡ true → large x ≡ true) → (k : ℕ) → small k ≡ false → large k ≡ true → (n : ℕ) → k < n → count_below small n < count_below large n
@@ -46,10 +48,12 @@ counts_one_more small large wide k out within (suc n) lt =
     let more = counts_more small large wide n in
     last (small n) (large n) (ap small same ∙ out) (ap large same ∙ within) more) (cases_lt k n)
   where
-    go : (a b : Bool) → (a ≡ true → b ≡ true) → count_below small n < count_below large n → cond a (suc (count_below small n)) (count_below small n) < cond b (suc (count_below large n)) (count_below large n)
+    go : (a b : Bool) → (a ≡ true → b ≡ true) → count_below small n < count_below large n →
+        cond a (suc (count_below small n)) (count_below small n) < cond b (suc (count_below large n)) (count_below large n)
     go a b h le = grind arith
 
-    last : (a b : Bool) → a ≡ false → b ≡ true → count_below small n ≤ count_below large n → cond a (suc (count_below small n)) (count_below small n) < cond b (suc (count_below large n)) (count_below large n)
+    last : (a b : Bool) → a ≡ false → b ≡ true → count_below small n ≤ count_below large n →
+        cond a (suc (count_below small n)) (count_below small n) < cond b (suc (count_below large n)) (count_below large n)
     last a b f t le = grind arith
 
 not_itself : (n : ℕ) → nat_lt n n ≡ false
@@ -136,10 +140,11 @@ module _ (p : Image) where
         last (Some k) is = let same : c ≡ y = cc in ap (fields_of p) same
     kept_fields (suc n) c y is = go (own_role p c Destruct) refl is (λ e rest. kept_fields n e y rest)
       where
-        go : (o : Option ℕ) → own_role p c Destruct ≡ o → cond (is_some o) (Some c) (keeper_in p n (parent_of p c) Destruct) ≡ Some y → ((e : ℕ) → keeper_in p n (Some e) Destruct ≡ Some y → fields_of p e ≡ fields_of p y) → fields_of p c ≡ fields_of p y
+        go : (o : Option ℕ) → own_role p c Destruct ≡ o → cond (is_some o) (Some c) (keeper_in p n (parent_of p c) Destruct) ≡ Some y →
+            ((e : ℕ) → keeper_in p n (Some e) Destruct ≡ Some y → fields_of p e ≡ fields_of p y) → fields_of p c ≡ fields_of p y
         go (Some k) f is later = let same : c ≡ y = cc in ap (fields_of p) same
-        go None f is later =
-            some_given (λ o. keeper_in p n o Destruct ≡ Some y) (parent_of p c) is (λ none. let clash : None ≡ Some y = sym (none_kept p n Destruct) ∙ none in cc) (λ e at rest. same_fields c e at f ∙ later e rest)
+        go None f is later = some_given (λ o. keeper_in p n o Destruct ≡ Some y) (parent_of p c) is
+            (λ none. let clash : None ≡ Some y = sym (none_kept p n Destruct) ∙ none in cc) (λ e at rest. same_fields c e at f ∙ later e rest)
 
     -- a class has the fields of the class whose destructor it has
     pub keeper : (c m : ℕ) → role_of p c Destruct ≡ Some m → (y : ℕ) × (method_class p m ≡ Some y) × (fields_of p c ≡ fields_of p y)
@@ -163,21 +168,23 @@ module _ (p : Image) where
             let there : slice_get (fields_of p k.0) f ≡ Some (Object d) = sym (ap (λ ts. slice_get ts f) k.2) ∙ e in
             let mentions : Mentions p m d = all_there (MentionsThing p m) (fields_of p k.0) f (Object d) (mentioned m k.0 k.1) there in
             let small = light_thing m d x mentions family in
-            let large : (2 * suc m) ≤ weight p c = at_least (own_weight p c) (sessions_weight p (sessions_at p c)) (2 * suc m) (let same : own_weight p c ≡ 2 * suc m = ap weight_by g in omega (arith, same)) in
+            let large : (2 * suc m) ≤ weight p c = at_least (own_weight p c)
+            (sessions_weight p (sessions_at p c)) (2 * suc m) (let same : own_weight p c ≡ 2 * suc m = ap weight_by g in omega (arith, same)) in
             omega (arith, small, large)
 
   served : (c s : ℕ) → sessions_at p c ≡ Some s → sessions_at p s ≡ None → weight p s < weight p c
-  served c s e none =
-      let large : suc (own_weight p s) ≤ weight p c = right (own_weight p c) (sessions_weight p (sessions_at p c)) (suc (own_weight p s)) (let same : sessions_weight p (sessions_at p c) ≡ suc (own_weight p s) = ap (sessions_weight p) e in omega (arith, same)) in
-      let small : weight p s ≤ own_weight p s = at_most (own_weight p s) (sessions_weight p (sessions_at p s)) (own_weight p s) (omega arith) (let same : sessions_weight p (sessions_at p s) ≡ 0 = ap (sessions_weight p) none in omega (arith, same)) in
+  served c s e none = let large : suc (own_weight p s) ≤ weight p c = right (own_weight p c) (sessions_weight p (sessions_at p c))
+      (suc (own_weight p s)) (let same : sessions_weight p (sessions_at p c) ≡ suc (own_weight p s) = ap (sessions_weight p) e in omega (arith, same)) in
+      let small : weight p s ≤ own_weight p s = at_most (own_weight p s) (sessions_weight p (sessions_at p s))
+      (own_weight p s) (omega arith) (let same : sessions_weight p (sessions_at p s) ≡ 0 = ap (sessions_weight p) none in omega (arith, same)) in
       omega (arith, small, large)
     where
       right : (a b n : ℕ) → n ≤ b → n ≤ max a b
       right a b n f = grind (arith, f)
 
   later : (x c : ℕ) → x < length p.classes → weight p x < weight p c → generation p x < generation p c
-  later x c within lt =
-      counts_one_more (λ y. nat_lt (weight p y) (weight p x)) (λ y. nat_lt (weight p y) (weight p c)) (λ y h. lt-ltb (weight p y) (weight p c) (let less = ltb-true (weight p y) (weight p x) h in omega (arith, less, lt))) x
+  later x c within lt = counts_one_more (λ y. nat_lt (weight p y) (weight p x)) (λ y. nat_lt (weight p y) (weight p c))
+      (λ y h. lt-ltb (weight p y) (weight p c) (let less = ltb-true (weight p y) (weight p x) h in omega (arith, less, lt))) x
       (not_itself (weight p x)) (lt-ltb (weight p x) (weight p c) lt) (length p.classes) within
 
   few : (c : ℕ) → c < length p.classes → generation p c < length p.classes

@@ -1,5 +1,6 @@
 -- The dearest edge of a code and of one more instruction, and the way from a method and from the next one.
-use Rattle.std.proofs.Common.{◌≡◌, ◌∙◌, ap, refl, sym, ℕ, suc, ◌+◌, ◌-◌, ◌<◌, List, [], ◌∷◌, ◌++◌, Option, Some, None, append_assoc, length, take, slice_index_or, arith}
+use Rattle.std.proofs.Common.{◌≡◌, ◌∙◌, ap, refl, sym, ℕ, suc, ◌+◌, ◌-◌, ◌<◌, List, [], ◌∷◌, ◌++◌, Option}
+use Rattle.std.proofs.Common.{Some, None, append_assoc, length, take, slice_index_or, arith}
 use Rattle.std.proofs.lemmas.List.{append-nil, take_more}
 use Rattle.aom_image.specs.Image.{Image}
 use Rattle.aom_classes.specs.Roles.{main_of}
@@ -29,7 +30,8 @@ step : (p : Image) (prices : List ℕ) (rest n m : ℕ) (o : Option Edge) → re
 step p prices rest n m o is found = ap (λ k. way_text p prices k m) is ∙ ap (λ d. step_text (way_text p prices n) m d) found
 
 -- it begins at main
-pub begins : (p : Image) (prices : List ℕ) (count main : ℕ) (text : List ℕ) → main_of p ≡ Some main → count ≡ length p.methods → text ++ way_text p prices (count - 0) main ≡ text ++ way_of p prices (main_of p)
+pub begins : (p : Image) (prices : List ℕ) (count main : ℕ) (text : List ℕ) →
+    main_of p ≡ Some main → count ≡ length p.methods → text ++ way_text p prices (count - 0) main ≡ text ++ way_of p prices (main_of p)
 begins p prices count main text first is =
     let all : count - 0 ≡ length p.methods = omega (arith, is) in
     ap (λ t. text ++ t) (ap (λ n. way_text p prices n main) all ∙ sym (ap (λ o. way_of p prices o) first))

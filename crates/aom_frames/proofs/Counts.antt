@@ -58,7 +58,8 @@ boxed_length xs zs depth now same view =
     ap (λ v. length v.items) same ∙ sym (length-reverse xs.items) ∙ ap (λ s. length s.items) view ∙ length_of_items now.items
 
 -- so it has room for one more item where there may be one more entry, or one more mark
-pub has_room : (xs zs : ArrayVec Item) (depth : ℕ) (now : Stack) → zs ≡ xs → record { items = reverse xs.items; depth = depth } ≡ now → IsWithin (record { items = reverse xs.items; depth = depth }) → (entries_in now.items < now.depth) ⊎ (marks_in now.items < 256) → length zs.items < 1280
+pub has_room : (xs zs : ArrayVec Item) (depth : ℕ) (now : Stack) → zs ≡ xs → record { items = reverse xs.items; depth = depth } ≡ now →
+    IsWithin (record { items = reverse xs.items; depth = depth }) → (entries_in now.items < now.depth) ⊎ (marks_in now.items < 256) → length zs.items < 1280
 has_room xs zs depth now same view within more =
     let now_within : IsWithin now = subst IsWithin view within in
     elim more [

@@ -1,12 +1,14 @@
 -- What is planned, by its parts; each injection is one that a script can say.
-use Rattle.std.proofs.Common.{◌≡◌, ◌∙◌, ◌≤◌, ◌<◌, ◌+◌, ◌^◌, ℕ, min, Bool, true, false, List, [], ◌∷◌, ◌++◌, Option, Some, None, map, length, take, drop, refl, sym, ap, subst, arith, append-nil, append_assoc}
+use Rattle.std.proofs.Common.{◌≡◌, ◌∙◌, ◌≤◌, ◌<◌, ◌+◌, ◌^◌, ℕ, min, Bool, true, false, List, [], ◌∷◌, ◌++◌, Option, Some}
+use Rattle.std.proofs.Common.{None, map, length, take, drop, refl, sym, ap, subst, arith, append-nil, append_assoc}
 use Rattle.std.specs.Prelude.{is_some, filter, if◌then◌else◌}
 use Rattle.std.specs.List.{All, flat_map}
 use Rattle.std.proofs.lemmas.List.{take_all, drop_all}
 use Rattle.std.proofs.lemmas.List.Elements.{All-append, All-filter, All-map, All-nil, All-take, All-weaker}
 use Rattle.aom_transcript.specs.declared.event.TimedEvent.{TimedEvent}
 use Rattle.aom_injection.specs.Injections.{CanInject, IsVictim}
-use Rattle.aom_injection.specs.Planned.{AreTimes, Grows, below, clients_among, deaths_of, first_of, is_named, natives_among, pairs_of, pairs_with, part_of, last_request, planned, some_pairs, victims_of}
+use Rattle.aom_injection.specs.Planned.{AreTimes, Grows, below, clients_among, deaths_of, first_of, is_named, natives_among}
+use Rattle.aom_injection.specs.Planned.{pairs_of, pairs_with, part_of, last_request, planned, some_pairs, victims_of}
 use Rattle.aom_injection.specs.declared.injection.Injection.{Injection}
 use Rattle.aom_injection.specs.declared.injection.Injection.TheVariants.{Refusal, Pair, Death}
 use Rattle.aom_injection.specs.declared.injection.Victim.{Victim}
@@ -18,12 +20,14 @@ use Rattle.aom_injection.proofs.Numbers.{all_of_each, below_none, below_step, be
 -- ---- pairs, as they are added
 
 -- those of one request were added
-pub grown_on : (done more rest all new : List Injection) (most : ℕ) (left : Option Injection) → is_some left ≡ false → Grows done more most new left → done ++ (more ++ rest) ≡ all → (new ++ rest ≡ all) × (length new ≤ most)
+pub grown_on : (done more rest all new : List Injection) (most : ℕ) (left : Option Injection) →
+    is_some left ≡ false → Grows done more most new left → done ++ (more ++ rest) ≡ all → (new ++ rest ≡ all) × (length new ≤ most)
 grown_on done more rest all new most None none grows far = (ap (λ xs. xs ++ rest) grows.0 ∙ append_assoc done more rest ∙ far, grows.1)
 grown_on done more rest all new most (Some left) none grows far = let no : true ≡ false = none in absurd cc
 
 -- or not all of them
-pub grown_full : (done more rest all new : List Injection) (most : ℕ) (left : Option Injection) → is_some left ≡ true → Grows done more most new left → done ++ (more ++ rest) ≡ all → Grows [] all most new left
+pub grown_full : (done more rest all new : List Injection) (most : ℕ) (left : Option Injection) →
+    is_some left ≡ true → Grows done more most new left → done ++ (more ++ rest) ≡ all → Grows [] all most new left
 grown_full done more rest all new most None some grows far = let no : false ≡ true = some in absurd cc
 grown_full done more rest all new most (Some left) some grows far =
     (grows.0, (grows.1.0 ++ rest, sym far ∙ sym (append_assoc done more rest) ∙ ap (λ xs. xs ++ rest) grows.1.1 ∙ append_assoc new (left ∷ grows.1.0) rest))
@@ -54,7 +58,8 @@ grown_is all new most (Some left) grows =
 -- ---- each can be injected
 
 natives_can : (kills : Bool) (natives : ℕ) → All IsVictim (natives_among kills natives)
-natives_can true natives = All-map IsVictim Native (below 0 (min natives 16)) (All-weaker (λ n. n < min natives 16) (λ n. n < 16) (λ n below. omega (arith, below)) (below 0 (min natives 16)) (below_within (min natives 16)))
+natives_can true natives = All-map IsVictim Native (below 0 (min natives 16))
+    (All-weaker (λ n. n < min natives 16) (λ n. n < 16) (λ n below. omega (arith, below)) (below 0 (min natives 16)) (below_within (min natives 16)))
 natives_can false natives = All-nil IsVictim
 
 clients_can : (deaths : Bool) (timed : List TimedEvent) → All IsVictim (clients_among deaths timed)
@@ -62,8 +67,8 @@ clients_can true timed = All-map IsVictim Client (filter (is_named timed) (below
 clients_can false timed = All-nil IsVictim
 
 deaths_can : (times : List ℕ) (victims : List Victim) → AreTimes times → All IsVictim victims → All CanInject (deaths_of times victims)
-deaths_can times victims are all =
-    all_of_each (λ t. t ≤ 10 ^ 15) CanInject (λ t. map (Death t) victims) (λ t is. All-map CanInject (Death t) victims (All-weaker IsVictim (λ v. CanInject (Death t v)) (λ v can. (is, can)) victims all)) times are
+deaths_can times victims are all = all_of_each (λ t. t ≤ 10 ^ 15) CanInject (λ t. map (Death t) victims)
+    (λ t is. All-map CanInject (Death t) victims (All-weaker IsVictim (λ v. CanInject (Death t v)) (λ v can. (is, can)) victims all)) times are
 
 always : {A : Type 0} (xs : List A) → All (λ x. Unit {0}) xs
 always xs = λ k d within. tt
@@ -71,7 +76,8 @@ always xs = λ k d within. tt
 pairs_can : (part : Part) (requests : ℕ) → All CanInject (pairs_of part requests)
 pairs_can part requests =
     let last = last_request requests in
-    all_of_each (λ n. Unit {0}) CanInject (pairs_with last) (λ n _. All-map CanInject (Pair n) (below (n + 1) (last + 1)) (always (below (n + 1) (last + 1)))) (part_of part requests) (always (part_of part requests))
+    all_of_each (λ n. Unit {0}) CanInject (pairs_with last) (λ n _. All-map CanInject (Pair n) (below (n + 1) (last + 1)) (always (below (n + 1) (last + 1))))
+    (part_of part requests) (always (part_of part requests))
 
 some_can : (most : Option ℕ) (pairs : List Injection) → All CanInject pairs → All CanInject (some_pairs most pairs)
 some_can None pairs all = All-nil CanInject

@@ -81,7 +81,8 @@ pub read_none : (xs : List (Option ℕ)) (i : ℕ) (x : Option ℕ) → i < leng
 read_none xs i None lt is none = slice_get-get_or xs i None lt ∙ ap (λ y. Some y) (sym is)
 read_none xs i (Some k) lt is none = cc
 
-pub read_some : (xs : List (Option ℕ)) (i class k : ℕ) (x o : Option ℕ) → i < length xs → x ≡ slice_index_or xs i x → is_some x ≡ true → i ≡ class → slice_get xs k ≡ Some o → class ≡ k → (y : ℕ) × (o ≡ Some y)
+pub read_some : (xs : List (Option ℕ)) (i class k : ℕ) (x o : Option ℕ) →
+    i < length xs → x ≡ slice_index_or xs i x → is_some x ≡ true → i ≡ class → slice_get xs k ≡ Some o → class ≡ k → (y : ℕ) × (o ≡ Some y)
 read_some xs i class k None o lt is some same at here = cc
 read_some xs i class k (Some y) o lt is some same at here =
     (y, some_same o (Some y) (sym at ∙ ap (λ j. slice_get xs j) (sym here ∙ sym same) ∙ slice_get-get_or xs i (Some y) lt ∙ ap (λ z. Some z) (sym is)))

@@ -1,5 +1,6 @@
 -- What the table of roles answers.
-use Rattle.std.proofs.Common.{◌≡◌, ◌<◌, ◌≤◌, ◌∙◌, ℕ, zero, suc, false, List, [], ◌∷◌, ◌++◌, length, Option, Some, None, IfSome, slice_get, get_or, position, refl, sym, ap, arith}
+use Rattle.std.proofs.Common.{◌≡◌, ◌<◌, ◌≤◌, ◌∙◌, ℕ, zero, suc, false, List, [], ◌∷◌, ◌++◌, length, Option}
+use Rattle.std.proofs.Common.{Some, None, IfSome, slice_get, get_or, position, refl, sym, ap, arith}
 use Rattle.std.proofs.lemmas.Option.{slice_get_read, get_or_from_slice_get}
 use Rattle.aom_image.specs.Image.{Image}
 use Rattle.std.specs.List.{All}
@@ -34,7 +35,8 @@ no_player version classes methods c r (x ∷ xs) h le =
     ] refl
 
 -- what is read from a row of the table
-pub row_found : (p : Image) (table rows : List (List (Option ℕ))) (c i k : ℕ) (r : Role) (row : List (Option ℕ)) (x : Option ℕ) → IsTable p table → rows ≡ table → i ≡ c → i < length rows → row ≡ get_or rows i row → k ≡ role_number r → get_or row k x ≡ role_of p c r
+pub row_found : (p : Image) (table rows : List (List (Option ℕ))) (c i k : ℕ) (r : Role) (row : List (Option ℕ)) (x : Option ℕ) →
+    IsTable p table → rows ≡ table → i ≡ c → i < length rows → row ≡ get_or rows i row → k ≡ role_number r → get_or row k x ≡ role_of p c r
 row_found p table rows c i k r row x t same here lt e n =
     let there : slice_get rows i ≡ Some row = slice_get_read rows (length rows) i row refl lt e in
     let at : slice_get table c ≡ Some row = ap (λ (l : List (List (Option ℕ))). slice_get l c) (sym same) ∙ (ap (slice_get rows) (sym here) ∙ there) in

@@ -48,7 +48,8 @@ use Rattle.aom_listing.specs.Methods.{argument_word, flag_words, gives_words, he
 use Rattle.aom_listing.specs.Operands.{class_after, label_name, method_after, target_word}
 use Rattle.aom_listing.specs.Text.{list_word}
 use Rattle.aom_listing.specs.Words.{in_text, large_words, small_words, words_statement}
-use Rattle.aom_listing.proofs.PlainWords.{AreWords, IsWord, decimal_is_word, is_word_byte, keyword_is_word, list_is_word, map_words, mnemonic_is_word, name_is_word, signed_is_word, words_append}
+use Rattle.aom_listing.proofs.PlainWords.{AreWords, IsWord, decimal_is_word, is_word_byte, keyword_is_word, list_is_word}
+use Rattle.aom_listing.proofs.PlainWords.{map_words, mnemonic_is_word, name_is_word, signed_is_word, words_append}
 
 -- words, of which there are some
 pub record IsStated (ws : List (List ℕ)) : Type 0 where
@@ -217,11 +218,14 @@ method_is_stated place method before after =
     let code : AreStated (placed (instr_words method.code) 0 method.code) = code_is_stated method.code 0 method.code in
     (heading_is_stated place method before after, stated_append (placed (instr_words method.code) 0 method.code) (end_words ∷ []) code (record { some = refl; words = (keyword_is_word k.End, tt) }, tt))
 
-methods_are_stated : (version : Version) (classes methods place : ℕ) (ms : List Method) → All (MethodFits version classes methods) ms → AreStated (flat_map (λ statements. statements) (placed method_statements place ms))
+methods_are_stated : (version : Version) (classes methods place : ℕ) (ms : List Method) →
+    All (MethodFits version classes methods) ms → AreStated (flat_map (λ statements. statements) (placed method_statements place ms))
 methods_are_stated version classes methods place [] fit = tt
 methods_are_stated version classes methods place (method ∷ ms) fit =
     let first : MethodFits version classes methods method = All-head (MethodFits version classes methods) method ms fit in
-    stated_append (method_statements place method) (flat_map (λ statements. statements) (placed method_statements (place + 1) ms)) (method_is_stated place method first.before first.after) (methods_are_stated version classes methods (place + 1) ms (All-tail (MethodFits version classes methods) method ms fit))
+    stated_append (method_statements place method)
+    (flat_map (λ statements. statements) (placed method_statements (place + 1) ms)) (method_is_stated place method first.before first.after)
+    (methods_are_stated version classes methods (place + 1) ms (All-tail (MethodFits version classes methods) method ms fit))
 
 -- ---- the whole
 

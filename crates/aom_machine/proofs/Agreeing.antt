@@ -20,10 +20,12 @@ use Rattle.aom_safety.proofs.Housing.{houses_field}
 use Rattle.aom_safety.proofs.Items.{length_forms}
 use Rattle.aom_semantics.proofs.Maps.{held_lives, one_place}
 use Rattle.aom_safety.proofs.Straight.{claim_field}
-use Rattle.aom_safety.specs.Claims.{Dispatching, Dying, Ending, Layer, Mark, Mark_form, Method, Object_form, Unwinding, claim, declared, declared_field, entry_claim, forms, home_claim, items_of, objects, own_field}
+use Rattle.aom_safety.specs.Claims.{Dispatching, Dying, Ending, Layer, Mark, Mark_form, Method, Object_form, Unwinding, claim}
+use Rattle.aom_safety.specs.Claims.{declared, declared_field, entry_claim, forms, home_claim, items_of, objects, own_field}
 use Rattle.aom_semantics.specs.Owned.{over}
 use Rattle.aom_semantics.specs.Places.{Cell, Elsewhere, Entry, Field, Object, Place, Register, Root, Sight, held, named, seen}
-use Rattle.aom_semantics.specs.State.{An_object, AtRoot, Closing, Destroy, Dispatched, Frame, Home, Inside, Item, Run, State, Static, Task, Trapped, Unwind, field_place, home_holder, thing_holder, word}
+use Rattle.aom_semantics.specs.State.{An_object, AtRoot, Closing, Destroy, Dispatched, Frame, Home, Inside, Item, Run, State}
+use Rattle.aom_semantics.specs.State.{Static, Task, Trapped, Unwind, field_place, home_holder, thing_holder, word}
 use Rattle.aom_safety.specs.WellTyped.{Back, Caught, Fits, Gone, Houses, IsHoused, Leaves, Now, Returns, Stack, Good}
 use Rattle.aom_safety.proofs.Layers.{method_layer}
 use Rattle.aom_machine.specs.Agreement.{Agreement, AgreesInAll, FieldsAgree, NumberSays, RegistersAgree}

@@ -1,6 +1,7 @@
 -- A server is dispatched: with what begins to serve its queue the machine stands for the state in which the checked machine goes on, and its line is the same.
 use Rattle.std.proofs.lemmas.Bool.Decides.{nat_tests}
-use Rattle.std.proofs.Common.{Bool, List, None, Option, Some, [], ap, arith, cond, false, length, map, refl, subst, suc, sym, true, zero, ℕ, ℤ, ◌<◌, ◌≤◌, ◌++◌, ◌∙◌, ◌∷◌, ◌≡◌}
+use Rattle.std.proofs.Common.{Bool, List, None, Option, Some, [], ap, arith, cond, false, length, map}
+use Rattle.std.proofs.Common.{refl, subst, suc, sym, true, zero, ℕ, ℤ, ◌<◌, ◌≤◌, ◌++◌, ◌∙◌, ◌∷◌, ◌≡◌}
 use Rattle.std.specs.List.{list_any}
 use Rattle.std.specs.Prelude.{is_some}
 use Rattle.std.proofs.lemmas.Bool.{cases_lt, true≢false}
@@ -40,7 +41,8 @@ use Rattle.aom_semantics.specs.Lines.{serve_of}
 use Rattle.aom_semantics.specs.Places.{Cell, Elsewhere, Going, In_service, Object, Place, Queued, Session, held, moved, named, requested, service_of}
 use Rattle.aom_safety.specs.Quiet.{IsCalm}
 use Rattle.aom_semantics.specs.Servers.{is_server, reserved, seats_taken, taken_first}
-use Rattle.aom_semantics.specs.State.{A_mark, Accepts, Closing, Destroy, Dispatch, Dispatched, Goes, Inside, Item, Home, Of_server, Parts, Counters, Seat, Serves, Stage, State, Task, frame_of}
+use Rattle.aom_semantics.specs.State.{A_mark, Accepts, Closing, Destroy, Dispatch, Dispatched, Goes, Inside, Item, Home}
+use Rattle.aom_semantics.specs.State.{Of_server, Parts, Counters, Seat, Serves, Stage, State, Task, frame_of}
 use Rattle.aom_safety.specs.Traps.{AllAtTraps}
 use Rattle.aom_safety.specs.WellTyped.{Keeps}
 use Rattle.aom_semantics.specs.World.{IsBetween, Picks, message_words, pick_line, picked, serving, taken_from as checked_taken}

@@ -33,7 +33,8 @@ use Rattle.aom_safety.proofs.Straight.{fits_unowning}
 use Rattle.aom_safety.proofs.Things.{message_plain}
 use Rattle.aom_semantics.specs.Destruction as checked
 use Rattle.aom_semantics.specs.Enlisted.{part_of}
-use Rattle.aom_semantics.specs.Places.{Cell, Elsewhere, Entry as Entry_at, Field, Going, In_service, Object, Place, Queued, Register, Service, Session, changed, held, moved, named, service_of, same_place, word_field}
+use Rattle.aom_semantics.specs.Places.{Cell, Elsewhere, Entry as Entry_at, Field, Going, In_service, Object, Place, Queued, Register}
+use Rattle.aom_semantics.specs.Places.{Service, Session, changed, held, moved, named, service_of, same_place, word_field}
 use Rattle.aom_semantics.specs.Servers.{is_server, reserved, taken_first, has_more}
 use Rattle.aom_semantics.specs.State.{A_mark, Accepts, Dispatched, Frame, Goes, Inside, Of_server, Parts, Counters, Seat, Serves, State, Task, frame_of}
 use Rattle.aom_semantics.specs.World.{message_words, parting_with, picked, serves_first, serving, taken_from as checked_taken, dispatched}

@@ -1,6 +1,7 @@
 -- The parts of a turn: what the machine does between dispatches is what the checked machine does.
 use Rattle.std.proofs.lemmas.Bool.Decides.{nat_tests}
-use Rattle.std.proofs.Common.{ap, append-nil, arith, Bool, cond, false, length, List, None, Option, pos, refl, Some, subst, suc, sym, true, ℕ, ◌<◌, ◌≤◌, ◌∙◌, ◌∷◌, ◌++◌, ◌≡◌, []}
+use Rattle.std.proofs.Common.{ap, append-nil, arith, Bool, cond, false, length, List, None, Option, pos}
+use Rattle.std.proofs.Common.{refl, Some, subst, suc, sym, true, ℕ, ◌<◌, ◌≤◌, ◌∙◌, ◌∷◌, ◌++◌, ◌≡◌, []}
 use Rattle.std.specs.Prelude.{IfSome, IsSome, is_some, not, option_map, ◌||◌, ◌≢◌}
 use Rattle.std.proofs.lemmas.Bool.{eq-eqb, true≢false}
 use Rattle.std.proofs.lemmas.List.{nil_from_length}
@@ -46,7 +47,8 @@ use Rattle.aom_semantics.specs.Servers.{has_more, is_server}
 use Rattle.aom_semantics.specs.Places.{Cell, Elsewhere, Object, Place, Register, Request, Root, Timer, held, named, requested, service_of}
 use Rattle.aom_semantics.specs.State.{Dispatch, Dispatched, Goes, Inside, Of_object, Counters, Seat, State}
 use Rattle.aom_safety.specs.WellTyped.{Keeps}
-use Rattle.aom_semantics.specs.World.{Candidate, Cuts, Hears, IsBetween, Passes, Picks, Timed, Turning, Waits, dispatched, serves_first, due_of, first_due, first_ready, is_ready, picked as any_picked, run_line, turned, with_request, written_by, ready_count, signal_count}
+use Rattle.aom_semantics.specs.World.{Candidate, Cuts, Hears, IsBetween, Passes, Picks, Timed, Turning, Waits, dispatched, serves_first, due_of, first_due}
+use Rattle.aom_semantics.specs.World.{first_ready, is_ready, picked as any_picked, run_line, turned, with_request, written_by, ready_count, signal_count}
 use Rattle.aom_progress.proofs.Pushed.{asked_same}
 use Rattle.aom_progress.proofs.Turns.{picking}
 use Rattle.aom_progress.specs.Left.{is_entry}

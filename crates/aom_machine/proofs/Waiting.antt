@@ -1,6 +1,7 @@
 -- Each move keeps what the typing says of the methods that wait: what runs over a method leaves its registers alone, and a method begins to wait with its operands moved.
 use Rattle.std.proofs.lemmas.Bool.Decides.{nat_tests}
-use Rattle.std.proofs.Common.{Bool, List, None, Option, Some, [], ap, arith, cond, false, length, pos, refl, subst, suc, sym, true, ℕ, ℤ, ◌&&◌, ◌<◌, ◌≤◌, ◌==◌, ◌∙◌, ◌∷◌, ◌≡◌}
+use Rattle.std.proofs.Common.{Bool, List, None, Option, Some, [], ap, arith, cond, false, length, pos}
+use Rattle.std.proofs.Common.{refl, subst, suc, sym, true, ℕ, ℤ, ◌&&◌, ◌<◌, ◌≤◌, ◌==◌, ◌∙◌, ◌∷◌, ◌≡◌}
 use Rattle.std.proofs.lemmas.Bool.{eq-eqb, eqb-true, ne_eqb}
 use Rattle.std.proofs.lemmas.Option.{same_Some}
 use Rattle.aom_image.specs.Image.{Image}
@@ -37,10 +38,15 @@ use Rattle.aom_safety.proofs.Services.{held_served}
 use Rattle.aom_safety.proofs.Unslotting.{each_unslotted_alike}
 use Rattle.aom_semantics.specs.Clients.{each_unslotted}
 use Rattle.aom_semantics.specs.Servers.{without_queue}
-use Rattle.aom_semantics.specs.Effects.{Calls, Cancels, Carried, Counts, Destroys, Destroys_last, Effect, Goes_on, Handed, Jumps, Replied, Leaves, Made, Operates, Popped, Pushed, Repeats, Requested, Returns, Sets_trap, Spot, Update, Written, applied, cells_after, deletes, spot_place, with_words, Sessioned}
+use Rattle.aom_semantics.specs.Effects.{Calls, Cancels, Carried, Counts, Destroys, Destroys_last, Effect, Goes_on, Handed, Jumps}
+use Rattle.aom_semantics.specs.Effects.{Replied, Leaves, Made, Operates, Popped, Pushed, Repeats, Requested, Returns, Sets_trap, Spot}
+use Rattle.aom_semantics.specs.Effects.{Update, Written, applied, cells_after, deletes, spot_place, with_words, Sessioned}
 use Rattle.aom_semantics.specs.Moves.{answered, asking, counted, dispatch_ends, does, failed, handled, main_ends, needs, object_ends, stage_ends, step}
-use Rattle.aom_semantics.specs.Places.{Cell, Elsewhere, Entry, Going, Object, Place, Register, Root, Session, Sight, held, moved, same_place, service_of, without}
-use Rattle.aom_semantics.specs.State.{Accept_left, Accepted, Accepts, Answered, Asks, Choice, Closing, Destroy, Dispatch, Dispatched, Frame, Goes, Home, Main_left, Need, Object_left, Of_main, Of_object, Of_root, Of_server, Parts, Run, Seat, Serves, Service_left, Stage, State, Task, Trapped, Unwind, field_place, guarded, resumed, word}
+use Rattle.aom_semantics.specs.Places.{Cell, Elsewhere, Entry, Going, Object, Place, Register, Root}
+use Rattle.aom_semantics.specs.Places.{Session, Sight, held, moved, same_place, service_of, without}
+use Rattle.aom_semantics.specs.State.{Accept_left, Accepted, Accepts, Answered, Asks, Choice, Closing, Destroy, Dispatch, Dispatched, Frame}
+use Rattle.aom_semantics.specs.State.{Goes, Home, Main_left, Need, Object_left, Of_main, Of_object, Of_root, Of_server, Parts, Run, Seat}
+use Rattle.aom_semantics.specs.State.{Serves, Service_left, Stage, State, Task, Trapped, Unwind, field_place, guarded, resumed, word}
 use Rattle.aom_safety.specs.Steps.{Acts, Arrives, Clears, Comes_out, Empties, Ends, Fits as May, Move, Rests, Undoes, Vanishes}
 use Rattle.aom_safety.specs.WellTyped.{Fits, Good, WellTyped, WordFits}
 use Rattle.aom_semantics.specs.Words.{here, stored}

@@ -1,6 +1,7 @@
 -- What the machine finds that the next step asks of a native is what the checked machine wants.
 use Rattle.std.proofs.lemmas.Bool.Decides.{nat_tests}
-use Rattle.std.proofs.Common.{arith, ◌≡◌, ◌==◌, ◌&&◌, ◌||◌, ℕ, ℤ, Bool, true, not, cond, length, List, ◌∷◌, Option, Some, None, refl, sym, ap, ◌∙◌, subst, [], slice_get}
+use Rattle.std.proofs.Common.{arith, ◌≡◌, ◌==◌, ◌&&◌, ◌||◌, ℕ, ℤ, Bool, true, not, cond, length, List}
+use Rattle.std.proofs.Common.{◌∷◌, Option, Some, None, refl, sym, ap, ◌∙◌, subst, [], slice_get}
 use Rattle.std.specs.Prelude.{option_map, is_some}
 use Rattle.std.specs.List.{list_any}
 use Rattle.aom_image.specs.Image.{Image}
@@ -18,7 +19,8 @@ use Rattle.aom_semantics.specs.Natives.{is_dead, is_owed, native_of}
 use Rattle.aom_semantics.specs.Places.{Going, Object, held as owned_at, in_session, named, requested}
 use Rattle.aom_semantics.specs.State.{AtRoot, Destroy, Home, Inside, State, Static, Task, word}
 use Rattle.aom_safety.proofs.Exchanging.{HasWords, has_words}
-use Rattle.aom_semantics.specs.Wanted.{Exchange, Nothing, An_open, A_start, An_ask, A_cancel, A_close, exchange, exchange_at, Wanted, Asks, Cancels, Closes, Starts, is_served, wanted, wanted_at, wanted_by, wanted_going, wanted_gone, wanted_here, wanted_task}
+use Rattle.aom_semantics.specs.Wanted.{Exchange, Nothing, An_open, A_start, An_ask, A_cancel, A_close, exchange, exchange_at, Wanted, Asks, Cancels}
+use Rattle.aom_semantics.specs.Wanted.{Closes, Starts, is_served, wanted, wanted_at, wanted_by, wanted_going, wanted_gone, wanted_here, wanted_task}
 use Rattle.aom_safety.specs.WellTyped.{Keeps}
 use Rattle.aom_semantics.specs.Words.{read}
 use Rattle.aom_frames.specs.Tasks.{Runs, method_here, place_here}

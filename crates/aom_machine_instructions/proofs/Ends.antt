@@ -1,6 +1,7 @@
 -- The end of a dispatch.
 use Rattle.std.proofs.lemmas.Bool.Decides.{nat_tests}
-use Rattle.std.proofs.Common.{◌≡◌, ◌+◌, ◌<◌, ◌&&◌, ◌==◌, ℕ, ℤ, pos, Bool, true, false, not, cond, length, List, [], ◌∷◌, ◌++◌, Option, Some, None, slice_set, refl, sym, ap, ◌∙◌, subst, append-nil, arith}
+use Rattle.std.proofs.Common.{◌≡◌, ◌+◌, ◌<◌, ◌&&◌, ◌==◌, ℕ, ℤ, pos, Bool, true, false, not, cond, length, List, [], ◌∷◌}
+use Rattle.std.proofs.Common.{◌++◌, Option, Some, None, slice_set, refl, sym, ap, ◌∙◌, subst, append-nil, arith}
 use Rattle.std.specs.Int.{w32, cast_unsigned}
 use Rattle.std.specs.Ordering.{int_eq}
 use Rattle.std.proofs.Common.{FitsSigned}
@@ -17,7 +18,8 @@ use Rattle.aom_semantics.specs.Places.{Cell, Place, Register, Elsewhere, Root, O
 use Rattle.aom_transcript.specs.declared.line.Ending.TheVariants.{Stopped, MainLeft as Left_with}
 use Rattle.aom_semantics.specs.State.{Dispatch, guarded, Home, Inside, Frame, frame_of, Seat, Asks, Task, Run, Dispatched, Counters, State, Choice, raised}
 use Rattle.aom_semantics.specs.Lines.{dispatch_lines}
-use Rattle.aom_semantics.specs.Moves.{needs_end, answered, asked, asking, is_counted, closed, error_frame, failed, main_ends, object_ends, dispatch_ends, step, step_task, written_task}
+use Rattle.aom_semantics.specs.Moves.{needs_end, answered, asked, asking, is_counted, closed, error_frame, failed}
+use Rattle.aom_semantics.specs.Moves.{main_ends, object_ends, dispatch_ends, step, step_task, written_task}
 use Rattle.aom_safety.specs.WellTyped.{WellTyped}
 use Rattle.aom_machine_state.specs.LineBuffer.{LineBuffer}
 use Rattle.aom_frames.specs.Tasks.{below_first, fresh, with_register}
@@ -25,7 +27,8 @@ use Rattle.aom_frames.specs.declared.frame.Frame.{Frame as Machine_frame}
 use Rattle.aom_frames.specs.declared.task.Task.{Task as Machine_task}
 use Rattle.aom_frames.specs.declared.task.Task.TheVariants.{Run as Runs_frame, Dispatched as Ends}
 use Rattle.aom_frames.specs.declared.dispatch.Dispatch.{Dispatch as Machine_dispatch}
-use Rattle.aom_frames.specs.declared.dispatch.Dispatch.TheVariants.{Answered as One_answered, Asks as One_asks, Main, MainLeft, Object as Of_one, ObjectLeft as One_left, Root as End_of_run, Server as Of_one_served}
+use Rattle.aom_frames.specs.declared.dispatch.Dispatch.TheVariants.{Answered as One_answered, Asks as One_asks, Main, MainLeft, Object as Of_one}
+use Rattle.aom_frames.specs.declared.dispatch.Dispatch.TheVariants.{ObjectLeft as One_left, Root as End_of_run, Server as Of_one_served}
 use Rattle.aom_frames.specs.declared.dispatch.Subject.{Subject}
 use Rattle.aom_machine_state.specs.declared.parts.Parts.{Parts}
 use Rattle.aom_machine_instructions.specs.Ends as ends

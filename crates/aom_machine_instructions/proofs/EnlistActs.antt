@@ -1,6 +1,7 @@
 -- The instruction that enlists its object: an active object, or a server, which is the last of its class from then on.
 use Rattle.std.proofs.lemmas.Bool.Decides.{nat_tests}
-use Rattle.std.proofs.Common.{Bool, List, None, Option, Some, [], ap, arith, cond, false, inl, inr, length, refl, slice_index_or, subst, sym, true, ℕ, ℤ, ◌&&◌, ◌++◌, ◌<◌, ◌==◌, ◌∙◌, ◌∷◌, ◌≡◌}
+use Rattle.std.proofs.Common.{Bool, List, None, Option, Some, [], ap, arith, cond, false, inl, inr, length, refl}
+use Rattle.std.proofs.Common.{slice_index_or, subst, sym, true, ℕ, ℤ, ◌&&◌, ◌++◌, ◌<◌, ◌==◌, ◌∙◌, ◌∷◌, ◌≡◌}
 use Rattle.std.specs.Prelude.{is_some, ◌||◌}
 use Rattle.std.proofs.lemmas.Bool.{eq-eqb, eqb-true, false≢true}
 use Rattle.std.proofs.lemmas.List.Folds.{list_any_at}
@@ -37,7 +38,8 @@ use Rattle.aom_machine_instructions.specs.Going.{is_server_class}
 use Rattle.aom_machine_instructions.specs.Next.{IsNext}
 use Rattle.aom_machine_instructions.proofs.GoingActs.{thing_is}
 use Rattle.aom_machine_instructions.proofs.Housing.{at_hand, needs_met}
-use Rattle.aom_machine_instructions.proofs.RequestActs.{OnObject, asks_on, finds_object, kind_told, named_here, on_object, own_told, requests_enlisted, thing_here}
+use Rattle.aom_machine_instructions.proofs.RequestActs.{OnObject, asks_on, finds_object, kind_told, named_here}
+use Rattle.aom_machine_instructions.proofs.RequestActs.{on_object, own_told, requests_enlisted, thing_here}
 use Rattle.aom_machine_instructions.proofs.Running.{free}
 use Rattle.aom_machine_instructions.proofs.WordActs.{plain_at}
 

@@ -11,7 +11,8 @@ use Rattle.aom_classes.specs.Roles.{or_else}
 use Rattle.aom_classes.specs.Overriding.{body_of}
 use Rattle.aom_roles.specs.Things.{Member, is_object}
 use Rattle.aom_image.specs.declared.method.Thing.{Thing}
-use Rattle.std.proofs.Common.{zero, suc, ◌≢◌, ◌≡◌, ◌==◌, ◌&&◌, ℕ, ℤ, ◌<◌, ◌≤◌, ◌+◌, Bool, true, false, cond, length, List, [], ◌∷◌, ◌++◌, Option, Some, None, slice_index_or, slice_set, refl, sym, ap, ◌∙◌, subst, arith, append-nil, append_assoc}
+use Rattle.std.proofs.Common.{zero, suc, ◌≢◌, ◌≡◌, ◌==◌, ◌&&◌, ℕ, ℤ, ◌<◌, ◌≤◌, ◌+◌, Bool, true, false, cond, length, List, [], ◌∷◌, ◌++◌}
+use Rattle.std.proofs.Common.{Option, Some, None, slice_index_or, slice_set, refl, sym, ap, ◌∙◌, subst, arith, append-nil, append_assoc}
 use Rattle.std.specs.Prelude.{IfSome, IsSome, is_some}
 use Rattle.std.proofs.lemmas.Bool.{eq-eqb, eqb-true, false≢true, ne_eqb}
 use Rattle.std.proofs.lemmas.Bool.Decides.{leb_tells}
@@ -27,9 +28,11 @@ use Rattle.aom_image.specs.declared.method.Method.{Method as Method_decl}
 use Rattle.aom_roles.specs.Tests.{AllTrue}
 use Rattle.aom_cells.specs.Heap.{cell_at, class_of, class_at, Lives, Heap, null}
 use Rattle.aom_roles.specs.Tables.{put_at}
-use Rattle.aom_semantics.specs.Calls.{run_by, is_worked_on, entered, entry_place, home_at, needs_each, needs_entering, needs_target, passed_cells, passed_words, target_home, target_view}
+use Rattle.aom_semantics.specs.Calls.{run_by, is_worked_on, entered, entry_place, home_at, needs_each, needs_entering}
+use Rattle.aom_semantics.specs.Calls.{needs_target, passed_cells, passed_words, target_home, target_view}
 use Rattle.aom_semantics.specs.Places.{named, Place, Register, Elsewhere, Entry, Field, Going, Object, Cell, changed, held, moved, same_place}
-use Rattle.aom_semantics.specs.State.{thing_holder, thing_view, home_view, home_holder, Counters, Inside, AtRoot, Static, Home, Frame, Need, Task, Run, Trapped, A_mark, State, field_place, frame_as, word}
+use Rattle.aom_semantics.specs.State.{thing_holder, thing_view, home_view, home_holder, Counters, Inside, AtRoot, Static}
+use Rattle.aom_semantics.specs.State.{Home, Frame, Need, Task, Run, Trapped, A_mark, State, field_place, frame_as, word}
 use Rattle.aom_safety.proofs.Finishing.{all_parts}
 use Rattle.aom_semantics.proofs.Maps.{held_moved}
 use Rattle.aom_frames.specs.Tasks.{given, given_here, on_top, passed_on, passing, register_here, this_here, with_register, method_here, place_here}
@@ -58,7 +61,8 @@ use Rattle.aom_machine_state.proofs.Services.{services_passed}
 use Rattle.aom_safety.proofs.Owned.{object_for}
 use Rattle.aom_semantics.proofs.Maps.{held_lives}
 use Rattle.aom_machine_instructions.proofs.FieldActs.{this_is}
-use Rattle.aom_machine_instructions.proofs.Running.{object_lives_at, object_class, null_unnamed, Aside, Top, agrees_with, aside_of, aside_with, by_top, begun_as, object_small, reframed, no_word}
+use Rattle.aom_machine_instructions.proofs.Running.{object_lives_at, object_class, null_unnamed, Aside, Top, agrees_with, aside_of}
+use Rattle.aom_machine_instructions.proofs.Running.{aside_with, by_top, begun_as, object_small, reframed, no_word}
 use Rattle.aom_machine_state.proofs.Values.{kept, moves, value_here, value_written, word_written, writes}
 use Rattle.aom_machine_state.proofs.Sessions.{natives_passed}
 

@@ -1,6 +1,7 @@
 -- Instructions on the cleanup stack.
 use Rattle.std.proofs.lemmas.Bool.Decides.{nat_tests}
-use Rattle.std.proofs.Common.{inl, inr, ◌≡◌, ◌≤◌, ℕ, ℤ, ◌<◌, Bool, true, false, cond, length, List, [], ◌∷◌, Option, None, negsuc, refl, sym, ap, ◌∙◌, subst, arith}
+use Rattle.std.proofs.Common.{inl, inr, ◌≡◌, ◌≤◌, ℕ, ℤ, ◌<◌, Bool, true, false, cond, length, List}
+use Rattle.std.proofs.Common.{[], ◌∷◌, Option, None, negsuc, refl, sym, ap, ◌∙◌, subst, arith}
 use Rattle.std.specs.Int.{w32, cast_signed}
 use Rattle.std.proofs.lemmas.Bool.{true≢false}
 use Rattle.aom_image.specs.Image.{Image}

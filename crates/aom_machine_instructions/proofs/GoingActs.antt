@@ -5,7 +5,8 @@ use Rattle.aom_image.specs.declared.method.Role.TheVariants.{Destruct}
 use Rattle.aom_image.specs.Views.{method_class, class_in}
 use Rattle.aom_frames.specs.declared.view.View.{View}
 use Rattle.aom_frames.specs.Views.{own}
-use Rattle.std.proofs.Common.{Bool, suc, ◌≡◌, ℕ, ℤ, ◌<◌, true, cond, length, List, [], ◌∷◌, Option, Some, None, slice_set, slice_index_or, refl, sym, ap, ◌∙◌, subst, arith, false}
+use Rattle.std.proofs.Common.{Bool, suc, ◌≡◌, ℕ, ℤ, ◌<◌, true, cond, length, List, [], ◌∷◌, Option, Some}
+use Rattle.std.proofs.Common.{None, slice_set, slice_index_or, refl, sym, ap, ◌∙◌, subst, arith, false}
 use Rattle.aom_image.proofs.Given.{some_given}
 use Rattle.std.proofs.lemmas.Option.{same_Some}
 use Rattle.std.proofs.lemmas.Bool.{eqb-true, eq-eqb}
@@ -19,7 +20,8 @@ use Rattle.aom_cells.specs.declared.cell.Cell.{Cell as Machine_cell}
 use Rattle.aom_rules.specs.Typing.{Typing}
 use Rattle.aom_semantics.specs.Places.{Place, Register, Field, Going, Elsewhere, Root, same_place, Object, Cell, held, named, moved, changed}
 use Rattle.aom_semantics.specs.Effects.{applied, deletes}
-use Rattle.aom_semantics.specs.State.{Home, frame_as, frame_of, home_view, word, set_word, Dispatch, Of_root, Task, Run, Closing, Destroy, Dispatched, resumed, Counters, State, raised}
+use Rattle.aom_semantics.specs.State.{Home, frame_as, frame_of, home_view, word, set_word, Dispatch, Of_root, Task}
+use Rattle.aom_semantics.specs.State.{Run, Closing, Destroy, Dispatched, resumed, Counters, State, raised}
 use Rattle.aom_classes.specs.Roles.{destructor_of}
 use Rattle.aom_semantics.specs.Destruction as checked
 use Rattle.aom_semantics.specs.Destruction.{begun_by, is_field_of, owns_nothing}
@@ -44,8 +46,10 @@ use Rattle.aom_machine_state.specs.Places.{others, Others, value_in, going_in, w
 use Rattle.aom_machine_instructions.specs.Going.{begun, destructed, destructor_in, destructor_at, dying, is_server_class, uprooted}
 use Rattle.aom_machine_state.specs.Agrees.{word_at, Represents, SameTasks, thing_in, number, Agrees}
 use Rattle.aom_machine_instructions.specs.Acts.{requested, In_going, DoesIn}
-use Rattle.aom_machine_state.proofs.Values.{same_length, kept, moves, at_depth, register_past, going_past, word_past, value_here, value_kept, value_written, word_next, word_written, destroys_value, destroys_word}
-use Rattle.aom_machine_instructions.proofs.Running.{begun_as, Aside, agrees_with, aside_moved, object_class, object_small, object_there, Top, by_top, reframed, moved_on, begun_registers, word_here, no_word, nothing_held, some_held}
+use Rattle.aom_machine_state.proofs.Values.{same_length, kept, moves, at_depth, register_past, going_past, word_past, value_here}
+use Rattle.aom_machine_state.proofs.Values.{value_kept, value_written, word_next, word_written, destroys_value, destroys_word}
+use Rattle.aom_machine_instructions.proofs.Running.{begun_as, Aside, agrees_with, aside_moved, object_class, object_small, object_there, Top}
+use Rattle.aom_machine_instructions.proofs.Running.{by_top, reframed, moved_on, begun_registers, word_here, no_word, nothing_held, some_held}
 use Rattle.aom_machine_state.proofs.Cells.{unowned}
 use Rattle.aom_machine_instructions.proofs.ObjectActs.{shown}
 use Rattle.aom_machine_instructions.proofs.WordActs.{plain_at}

@@ -1,6 +1,7 @@
 -- A cell goes, and of a server all that clients have at it: its queue is completed, and the sessions with it end.
 use Rattle.std.proofs.lemmas.Bool.Decides.{nat_tests}
-use Rattle.std.proofs.Common.{Bool, inl, inr, not, List, None, Option, Some, [], ap, arith, cond, false, length, refl, subst, suc, sym, true, ℕ, ◌++◌, ◌+◌, ◌<◌, ◌==◌, ◌||◌, ◌∙◌, ◌∷◌, ◌≡◌, ◌≤◌}
+use Rattle.std.proofs.Common.{Bool, inl, inr, not, List, None, Option, Some, [], ap, arith, cond, false, length}
+use Rattle.std.proofs.Common.{refl, subst, suc, sym, true, ℕ, ◌++◌, ◌+◌, ◌<◌, ◌==◌, ◌||◌, ◌∙◌, ◌∷◌, ◌≡◌, ◌≤◌}
 use Rattle.std.specs.Prelude.{IsSome, flat_map, is_some, map}
 use Rattle.std.proofs.lemmas.Bool.{and_parts, eq-eqb, eqb-true, false≢true}
 use Rattle.std.proofs.lemmas.List.{append_assoc, get_or_past, length-append}
@@ -22,7 +23,8 @@ use Rattle.aom_machine_state.specs.LineBuffer.{LineBuffer}
 use Rattle.aom_cells.specs.Store.{Store, count as count_kept, message_at}
 use Rattle.aom_cells.specs.Sessions.{Sets, Standing}
 use Rattle.aom_semantics.proofs.Maps.{held_lives, held_without, named_without, requested_without, unnamed}
-use Rattle.aom_safety.proofs.Sifted.{cell_of, cell_of_sifted, kept as left_of, named_cell, object_in, request_in, requested_cell, service_cell, service_in, tidy_sifted, unqueued_so}
+use Rattle.aom_safety.proofs.Sifted.{cell_of, cell_of_sifted, kept as left_of, named_cell, object_in, request_in}
+use Rattle.aom_safety.proofs.Sifted.{requested_cell, service_cell, service_in, tidy_sifted, unqueued_so}
 use Rattle.aom_safety.proofs.Storing.{Alike}
 use Rattle.aom_safety.proofs.Unslotting.{each_unslotted_alike, each_unslotted_requests}
 use Rattle.aom_semantics.specs.Clients.{each_unslotted}
@@ -30,7 +32,8 @@ use Rattle.aom_semantics.specs.Destruction.{is_field_of, owns_nothing, vanished}
 use Rattle.aom_safety.specs.Kept.{IsKept, QueueFits}
 use Rattle.aom_semantics.specs.Lines.{queue_lines}
 use Rattle.aom_semantics.specs.Moves.{goes_line}
-use Rattle.aom_semantics.specs.Places.{Cell, Elsewhere, Field, Going, Object, Place, Queued, Request, Service, Session, Tidy, changed, held, named, requested, service_of, without}
+use Rattle.aom_semantics.specs.Places.{Cell, Elsewhere, Field, Going, Object, Place, Queued, Request, Service}
+use Rattle.aom_semantics.specs.Places.{Session, Tidy, changed, held, named, requested, service_of, without}
 use Rattle.aom_safety.specs.Requests.{Suits, resting_in, states_claim, thing_kind}
 use Rattle.aom_semantics.specs.Servers.{is_among, is_queue, is_queue_of, without_queue}
 use Rattle.aom_semantics.specs.State.{Destroy, State, Task, resumed}
@@ -68,7 +71,8 @@ use Rattle.aom_semantics.specs.Tokens.{awaited}
 use Rattle.std.proofs.lemmas.Option.{same_Some}
 use Rattle.aom_roles.specs.Things.{is_object}
 use Rattle.aom_machine_state.specs.declared.parts.Parts.{Parts}
-use Rattle.aom_machine_instructions.proofs.GoingActs.{Ends_cell, by_going, fields_gone, going_object, going_on, going_small, line_of, nothing_owned, number_of, over, same_resumed, thing_of_it, value_resumed, word_resumed}
+use Rattle.aom_machine_instructions.proofs.GoingActs.{Ends_cell, by_going, fields_gone, going_object, going_on, going_small, line_of, nothing_owned}
+use Rattle.aom_machine_instructions.proofs.GoingActs.{number_of, over, same_resumed, thing_of_it, value_resumed, word_resumed}
 use Rattle.aom_machine_instructions.proofs.ReturnActs.{lives_within}
 use Rattle.aom_machine_instructions.specs.Acts.{GoesAway, In_going}
 use Rattle.aom_machine_instructions.specs.Serving.{AllKept, CanVanish, Drops, answers, count_messages, gone_lines, has_message}

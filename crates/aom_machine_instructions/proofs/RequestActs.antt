@@ -1,7 +1,8 @@
 -- Instructions on the request of what a method works on: the machine's table stands for the requests that the checked machine then has.
 use Rattle.std.proofs.lemmas.Bool.Decides.{nat_tests}
 use Rattle.aom_frames.specs.Views.{class_above}
-use Rattle.std.proofs.Common.{◌≡◌, ◌≢◌, ◌<◌, ◌==◌, ℕ, ℤ, Bool, true, false, cond, length, List, ◌∷◌, Option, Some, None, IsSome, refl, sym, ap, ◌∙◌, subst, arith}
+use Rattle.std.proofs.Common.{◌≡◌, ◌≢◌, ◌<◌, ◌==◌, ℕ, ℤ, Bool, true, false, cond, length, List, ◌∷◌}
+use Rattle.std.proofs.Common.{Option, Some, None, IsSome, refl, sym, ap, ◌∙◌, subst, arith}
 use Rattle.std.specs.Prelude.{is_some, option_map}
 use Rattle.std.specs.Int.{w32, cast_signed}
 use Rattle.std.proofs.lemmas.Bool.{eq-eqb, false≢true}
@@ -38,8 +39,11 @@ use Rattle.aom_active.proofs.Telling.{held_state, standing_follows, told_active,
 use Rattle.aom_semantics.specs.Effects.{applied, cancels_if, jumps_if, updates, Cancels, Requested, writes as writes_word, asking_with, heard}
 use Rattle.aom_machine_state.proofs.Heights.{stands_here}
 use Rattle.aom_semantics.specs.Enlisted as enlisted
-use Rattle.aom_semantics.specs.Enlisted.{aborted, begun_cells, cancel_method, cancel_of, cancelling, due_after, first_request, home_kind, in_phase, is_cancelling, is_idle, is_issued, issued_by, issued_of, next_order, next_timer, on_request, own_request, rerequested, status_of, thing_kind, waits, Asking, completed_at_once}
-use Rattle.aom_semantics.specs.Places.{Register, Service, service_of, Cell, Idle, Issued, Object, Phase, Place, Request, in_session, named, requested, set_request}
+use Rattle.aom_semantics.specs.Enlisted.{aborted, begun_cells, cancel_method, cancel_of, cancelling, due_after, first_request, home_kind}
+use Rattle.aom_semantics.specs.Enlisted.{in_phase, is_cancelling, is_idle, is_issued, issued_by, issued_of, next_order, next_timer, on_request}
+use Rattle.aom_semantics.specs.Enlisted.{own_request, rerequested, status_of, thing_kind, waits, Asking, completed_at_once}
+use Rattle.aom_semantics.specs.Places.{Register, Service, service_of, Cell, Idle, Issued, Object, Phase}
+use Rattle.aom_semantics.specs.Places.{Place, Request, in_session, named, requested, set_request}
 use Rattle.aom_semantics.specs.State.{Choice, Frame, Home, Inside, Run, State, Task, frame_as}
 use Rattle.aom_semantics.specs.Moves.{needs}
 use Rattle.aom_semantics.specs.Words.{read, word_or_zero}

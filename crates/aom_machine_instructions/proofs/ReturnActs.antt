@@ -1,6 +1,7 @@
 -- A method returns: to the method that called it, through a trap, to the going of its cell, to an unwinding, or to the dispatch that has asked it.
 use Rattle.std.proofs.lemmas.Bool.Decides.{nat_tests}
-use Rattle.std.proofs.Common.{Bool, ◌⊎◌, inl, inr, List, None, Option, Some, [], ap, arith, cond, false, length, pos, refl, slice_index_or, slice_set, subst, suc, sym, true, ℕ, ℤ, ◌&&◌, ◌<◌, ◌==◌, ◌∙◌, ◌∷◌, ◌≡◌, ◌≤◌}
+use Rattle.std.proofs.Common.{Bool, ◌⊎◌, inl, inr, List, None, Option, Some, [], ap, arith, cond, false, length, pos, refl}
+use Rattle.std.proofs.Common.{slice_index_or, slice_set, subst, suc, sym, true, ℕ, ℤ, ◌&&◌, ◌<◌, ◌==◌, ◌∙◌, ◌∷◌, ◌≡◌, ◌≤◌}
 use Rattle.std.proofs.lemmas.Bool.{OnTrue_at, eq-eqb, eqb-true, false≢true, ne_eqb}
 use Rattle.std.proofs.lemmas.List.{length-set}
 use Rattle.aom_image.specs.Image.{Image}
@@ -18,7 +19,8 @@ use Rattle.aom_rules.specs.Typing.{Typing}
 use Rattle.aom_safety.proofs.View.{under_dispatch}
 use Rattle.aom_semantics.specs.Calls.{answered_by, below_top, end_needs, ended_well, result_needs, result_register, returned, told_answer}
 use Rattle.aom_safety.specs.Claims.{Layer, Method, Mark, tasks_of, claim, declared}
-use Rattle.aom_semantics.specs.Places.{Cell, named, Session, Tidy, Elsewhere, Entry, Field, Going, Object, Place, Register, changed, held, moved, same_place, seen}
+use Rattle.aom_semantics.specs.Places.{Cell, named, Session, Tidy, Elsewhere, Entry, Field, Going, Object}
+use Rattle.aom_semantics.specs.Places.{Place, Register, changed, held, moved, same_place, seen}
 use Rattle.aom_semantics.specs.State.{Accepted, Accepts, Of_server, Seat, Dispatch, Dispatched, Frame, Run, State, Task, Trapped, next, set_word, word}
 use Rattle.aom_safety.specs.WellTyped.{Awaits, Fits, Good, WellTyped, WordFits}
 use Rattle.aom_safety.proofs.Claimed.{claim_register_above}
@@ -73,15 +75,18 @@ use Rattle.aom_machine_instructions.proofs.Housing.{at_hand, needs_met}
 use Rattle.aom_machine_instructions.proofs.Stepping.{at_step}
 use Rattle.aom_machine_state.proofs.Premises.{connecting_below}
 use Rattle.aom_machine_state.proofs.Cells.{cell_small}
-use Rattle.aom_machine_instructions.proofs.Running.{Aside, Top, agrees_with, aside_moved, aside_of, aside_unmarked, by_top, free, moved_on, no_word, object_lives_at, register_shows, retasked}
+use Rattle.aom_machine_instructions.proofs.Running.{Aside, Top, agrees_with, aside_moved, aside_of, aside_unmarked, by_top}
+use Rattle.aom_machine_instructions.proofs.Running.{free, moved_on, no_word, object_lives_at, register_shows, retasked}
 use Rattle.std.specs.Bool.{OnTrue}
 use Rattle.std.specs.Prelude.{IsSome, is_some}
 use Rattle.std.proofs.lemmas.Option.{none-some}
 use Rattle.aom_image.proofs.Given.{none_given}
 use Rattle.aom_roles.specs.Things.{is_object}
 use Rattle.aom_roles.specs.Tests.{AllTrue}
-use Rattle.aom_machine_state.proofs.Alike.{A_catcher, A_last_trap, A_leave, A_method, An_end, Alike, Tops, alike, both_end, both_run, both_trapped, both_unwind, catcher_on_top, end_on_top, last_trap_on_top, leave_on_top, method_on_top, tops}
-use Rattle.aom_machine_state.proofs.Values.{at_depth, cases, going_past, kept, none_alike, register_past, value_kept, value_written, word_next, word_past, word_written, writes}
+use Rattle.aom_machine_state.proofs.Alike.{A_catcher, A_last_trap, A_leave, A_method, An_end, Alike, Tops, alike, both_end, both_run, both_trapped}
+use Rattle.aom_machine_state.proofs.Alike.{both_unwind, catcher_on_top, end_on_top, last_trap_on_top, leave_on_top, method_on_top, tops}
+use Rattle.aom_machine_state.proofs.Values.{at_depth, cases, going_past, kept, none_alike, register_past, value_kept}
+use Rattle.aom_machine_state.proofs.Values.{value_written, word_next, word_past, word_written, writes}
 use Rattle.aom_machine_instructions.proofs.WordActs.{plain_at, word_read}
 
 -- what a method gives back

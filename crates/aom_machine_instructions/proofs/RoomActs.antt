@@ -1,6 +1,7 @@
 -- Each instruction keeps the room that a run needs.
 use Rattle.std.proofs.lemmas.Bool.Decides.{nat_tests}
-use Rattle.std.proofs.Common.{Bool, List, None, Option, Some, [], ap, arith, cond, false, inl, length, refl, subst, suc, sym, true, ℕ, ℤ, pos, ◌&&◌, ◌==◌, ◌+◌, ◌-◌, ◌<◌, ◌∙◌, ◌∷◌, ◌≡◌, ◌≤◌}
+use Rattle.std.proofs.Common.{Bool, List, None, Option, Some, [], ap, arith, cond, false, inl, length, refl, subst}
+use Rattle.std.proofs.Common.{suc, sym, true, ℕ, ℤ, pos, ◌&&◌, ◌==◌, ◌+◌, ◌-◌, ◌<◌, ◌∙◌, ◌∷◌, ◌≡◌, ◌≤◌}
 use Rattle.aom_image.proofs.Given.{false_given, some_given}
 use Rattle.std.proofs.lemmas.Bool.{ne_eqb}
 use Rattle.std.specs.Prelude.{is_some, not, ◌||◌}
@@ -42,20 +43,25 @@ use Rattle.aom_safety.proofs.Redeeming.{redeemed_by_alike}
 use Rattle.aom_safety.proofs.Storing.{ended_alike, held_set_word, rerequested_alike, resessioned_alike}
 use Rattle.aom_typings.proofs.Listed.{run_among, cancel_among, kept_in_line, runs_among, stands_among}
 use Rattle.aom_roles.proofs.Descending.{itself}
-use Rattle.aom_semantics.specs.Calls.{ended_well, accepted_cells, below_top, entered, given_cells, over_caller, over_trap, passed_cells, received, result_cells, result_register, returned, run_by, target_view}
+use Rattle.aom_semantics.specs.Calls.{ended_well, accepted_cells, below_top, entered, given_cells, over_caller, over_trap, passed_cells}
+use Rattle.aom_semantics.specs.Calls.{received, result_cells, result_register, returned, run_by, target_view}
 use Rattle.aom_safety.specs.Claims.{objects}
 use Rattle.aom_semantics.specs.Cleanup.{operation_frame, top_place}
 use Rattle.aom_classes.specs.Roles.{destructor_of}
 use Rattle.aom_semantics.specs.Destruction.{destructor_frame, begun, begun_by, destructed, line_on, next_destructor}
-use Rattle.aom_semantics.specs.Effects.{Handed, Replied, Calls, Cancels, Carried, Counts, Destroys, Destroys_last, Effect, Goes_on, Jumps, Leaves, Made, Operates, Popped, Popped_operation, Pushed, Pushed_operation, Repeats, Requested, Returns, Same, Sets_trap, Spot, Update, Written, applied, cells_after, items_after, spot_place, with_words, Sessioned}
+use Rattle.aom_semantics.specs.Effects.{Handed, Replied, Calls, Cancels, Carried, Counts, Destroys, Destroys_last, Effect, Goes_on, Jumps, Leaves}
+use Rattle.aom_semantics.specs.Effects.{Made, Operates, Popped, Popped_operation, Pushed, Pushed_operation, Repeats, Requested, Returns, Same, Sets_trap}
+use Rattle.aom_semantics.specs.Effects.{Spot, Update, Written, applied, cells_after, items_after, spot_place, with_words, Sessioned}
 use Rattle.aom_safety.specs.Laws.{IsWired}
 use Rattle.aom_safety.specs.Steps.{Fits as May, FitsUpdate}
 use Rattle.aom_semantics.specs.Places.{Session, Place, Elsewhere, Cell, Entry, Going, Object, Register, Sight, held, moved, same_place, seen, without}
-use Rattle.aom_semantics.specs.State.{Of_server, Dispatch, Accepts, A_mark, An_object, An_operation, Choice, Destroy, Dispatched, Frame, Home, Inside, Item, Run, State, Task, Trapped, Unwind, field_place, frame_as, next, set_word}
+use Rattle.aom_semantics.specs.State.{Of_server, Dispatch, Accepts, A_mark, An_object, An_operation, Choice, Destroy, Dispatched, Frame}
+use Rattle.aom_semantics.specs.State.{Home, Inside, Item, Run, State, Task, Trapped, Unwind, field_place, frame_as, next, set_word}
 use Rattle.aom_safety.specs.WellTyped.{AllUndo, Fits, IsUndo}
 use Rattle.aom_semantics.specs.Words.{here, stored}
 use Rattle.aom_machine_state.specs.Room.{Destructs, IsUnder, NoClosing, below_height, entries_in, may_push}
-use Rattle.aom_machine_state.proofs.Depths.{AllLow, Roomy, SameBelow, begins, closing_begins, dropped, going_begins, held_apart, item_pushed, lower, off_to_trap, popped, popped_top, recelled, top_under}
+use Rattle.aom_machine_state.proofs.Depths.{AllLow, Roomy, SameBelow, begins, closing_begins, dropped, going_begins, held_apart}
+use Rattle.aom_machine_state.proofs.Depths.{item_pushed, lower, off_to_trap, popped, popped_top, recelled, top_under}
 use Rattle.aom_machine_state.proofs.Heights.{LowUnder, Stands_here, own_entries}
 use Rattle.aom_semantics.specs.Enlisted.{begun_cells, cancel_method, cancelling, ended_cells, on_request, own_request}
 use Rattle.aom_semantics.specs.Tokens.{redeemed_by, token_of}

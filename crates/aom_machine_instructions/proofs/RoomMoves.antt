@@ -46,13 +46,15 @@ use Rattle.aom_safety.proofs.Layers.{closing_layer, dispatch_layer, method_layer
 use Rattle.aom_safety.specs.Claims.{Dispatching, Dying, Ending, Layer, Method, claim, declared, forms, items_of, tasks_of}
 use Rattle.aom_semantics.specs.Moves.{answered, asking, counted, dispatch_ends, main_ends, step}
 use Rattle.aom_semantics.specs.Places.{service_of, Entry, Cell, Elsewhere, Going, Object, Place, Root, Session, held, moved, same_place, seen, without}
-use Rattle.aom_semantics.specs.State.{Closing, Destroy, A_mark, An_object, An_operation, Choice, Dispatch, Dispatched, Frame, Goes, Home, Item, Counters, Run, Seat, State, Task, Trapped, Unwind, frame_of, next}
+use Rattle.aom_semantics.specs.State.{Closing, Destroy, A_mark, An_object, An_operation, Choice, Dispatch, Dispatched, Frame}
+use Rattle.aom_semantics.specs.State.{Goes, Home, Item, Counters, Run, Seat, State, Task, Trapped, Unwind, frame_of, next}
 use Rattle.aom_safety.specs.WellTyped.{AllUndo, Fits as Fits_kind, Good, IsOfFamily, IsOverDying, WellTyped}
 use Rattle.aom_semantics.specs.World.{boot_state}
 use Rattle.aom_machine_state.specs.Room.{Destructs, HasRoom, entries_in}
 use Rattle.aom_machine_state.proofs.Depths.{Roomy, going_ends, held_apart, on_again, popped, recelled}
 use Rattle.aom_machine_state.proofs.Heights.{Stands_here, low_unwinding, stands_here}
-use Rattle.aom_machine_instructions.proofs.RoomActs.{IsDealt, LineGoes, NextGoes, Tables, acts_room, begins_over, clears, destructed_over, goes_there_now, going_apart, session_apart, undoes}
+use Rattle.aom_machine_instructions.proofs.RoomActs.{IsDealt, LineGoes, NextGoes, Tables, acts_room, begins_over, clears}
+use Rattle.aom_machine_instructions.proofs.RoomActs.{destructed_over, goes_there_now, going_apart, session_apart, undoes}
 use Rattle.aom_clients.specs.declared.client.Client.{Client}
 use Rattle.aom_safety.proofs.Dropping.{dropped, queue_dropped, held_dropped}
 use Rattle.aom_safety.proofs.Unslotting.{each_unslotted_alike}

@@ -17,7 +17,8 @@ use Rattle.aom_safety.proofs.Services.{held_served}
 use Rattle.aom_semantics.specs.Calls.{accepted_cells, accepted_clients, below_top}
 use Rattle.aom_semantics.specs.Clients.{at_opening, client_at, with_client}
 use Rattle.aom_safety.specs.Kept.{ClientsFit, StageKept}
-use Rattle.aom_semantics.specs.Places.{Cell, Elsewhere, Entry, Field, Going, In_service, Place, Queued, Register, Root, Session, Tidy, held, moved, named, same_place, service_of}
+use Rattle.aom_semantics.specs.Places.{Cell, Elsewhere, Entry, Field, Going, In_service, Place, Queued, Register}
+use Rattle.aom_semantics.specs.Places.{Root, Session, Tidy, held, moved, named, same_place, service_of}
 use Rattle.aom_semantics.specs.Servers.{opened, reserved}
 use Rattle.aom_semantics.specs.State.{Accepts, Accepted, Dispatched, Of_server, State, Task}
 use Rattle.aom_machine_state.proofs.Asking.{requests_kept, requests_moved}

@@ -1,6 +1,7 @@
 -- Tokens: one is handed out for the request of the method's object, and one is replied to, which completes the request that waits for it.
 use Rattle.std.proofs.lemmas.Bool.Decides.{nat_tests}
-use Rattle.std.proofs.Common.{[], Bool, List, None, Option, Some, ap, arith, cond, false, length, refl, subst, sym, true, ℕ, ℤ, ◌+◌, ◌++◌, ◌<◌, ◌≤◌, ◌∙◌, ◌∷◌, ◌≡◌, inl, inr, append-nil}
+use Rattle.std.proofs.Common.{[], Bool, List, None, Option, Some, ap, arith, cond, false, length, refl, subst}
+use Rattle.std.proofs.Common.{sym, true, ℕ, ℤ, ◌+◌, ◌++◌, ◌<◌, ◌≤◌, ◌∙◌, ◌∷◌, ◌≡◌, inl, inr, append-nil}
 use Rattle.std.specs.Prelude.{IfSome, IsTrue, is_some}
 use Rattle.std.proofs.lemmas.Bool.{eq-eqb, le-leb, lt-leb}
 use Rattle.std.proofs.lemmas.Option.{none-some}
@@ -30,17 +31,20 @@ use Rattle.aom_semantics.specs.Effects.{applied, hands_unless, sets}
 use Rattle.aom_semantics.specs.Enlisted.{completed_at_once, home_kind, is_idle, is_unanswered, on_request, own_request, rerequested}
 use Rattle.aom_safety.specs.Kept.{IsKept}
 use Rattle.aom_semantics.specs.Moves.{is_refused, needs}
-use Rattle.aom_semantics.specs.Places.{Cell, Elsewhere, Idle, Object, Place, Register, Request, Root, Token, changed, held, named, requested, same_place, service_of, set_request, without}
+use Rattle.aom_semantics.specs.Places.{Cell, Elsewhere, Idle, Object, Place, Register, Request, Root, Token, changed}
+use Rattle.aom_semantics.specs.Places.{held, named, requested, same_place, service_of, set_request, without}
 use Rattle.aom_safety.specs.Requests.{Known, Suits, states_claim, thing_kind}
 use Rattle.aom_semantics.specs.State.{Choice, Inside, Run, State, next, set_word}
-use Rattle.aom_semantics.specs.Tokens.{all_redeemed, awaited, awaits, busy, class_of_thing, handed_cells, home_class, is_crowded, is_order, needs_hand, next_token, order_in, promised, redeemed_by, token_of, with_token}
+use Rattle.aom_semantics.specs.Tokens.{all_redeemed, awaited, awaits, busy, class_of_thing, handed_cells, home_class, is_crowded}
+use Rattle.aom_semantics.specs.Tokens.{is_order, needs_hand, next_token, order_in, promised, redeemed_by, token_of, with_token}
 use Rattle.aom_safety.specs.WellTyped.{WellTyped}
 use Rattle.aom_semantics.specs.Words.{read}
 use Rattle.aom_semantics.specs.Lines.{message_line, told_line}
 use Rattle.aom_machine_state.proofs.Handing.{cells_handed, natives_handed, requests_handed, services_handed, with_its_token}
 use Rattle.aom_machine_state.proofs.Owed.{pending_told}
 use Rattle.aom_machine_state.proofs.Sessions.{natives_rerequested}
-use Rattle.aom_machine_state.proofs.Redeeming.{cells_answered, its_order, its_token, natives_answered, redeemed_left, requests_answered, services_answered, waits_here}
+use Rattle.aom_machine_state.proofs.Redeeming.{cells_answered, its_order, its_token, natives_answered, redeemed_left}
+use Rattle.aom_machine_state.proofs.Redeeming.{requests_answered, services_answered, waits_here}
 use Rattle.aom_machine_state.proofs.Replying.{completion_told, message_kept, place_below, place_of, told_no_sender}
 use Rattle.aom_machine_state.specs.Agrees.{Agrees, SameRequests, heard_by}
 use Rattle.aom_machine_state.specs.Fields.{this}
@@ -58,7 +62,8 @@ use Rattle.aom_machine_instructions.proofs.GoingActs.{thing_is}
 use Rattle.aom_machine_instructions.proofs.GoingOn.{goes_on_with, still_none, written}
 use Rattle.aom_machine_instructions.proofs.Housing.{at_hand, needs_met}
 use Rattle.aom_machine_instructions.proofs.MessageActs.{InRegister, in_register, it_was_sent, replied, reply_done, reply_told}
-use Rattle.aom_machine_instructions.proofs.RequestActs.{OnObject, cells_rerequested, finds_cell, finds_object, idle_only, idle_untold, in_one, on_object, own_told, requests_become, requests_set, services_become, state_told, thing_here}
+use Rattle.aom_machine_instructions.proofs.RequestActs.{OnObject, cells_rerequested, finds_cell, finds_object, idle_only, idle_untold, in_one, on_object}
+use Rattle.aom_machine_instructions.proofs.RequestActs.{own_told, requests_become, requests_set, services_become, state_told, thing_here}
 use Rattle.aom_machine_instructions.proofs.Running.{free, heard_fits, lives_below, no_thing}
 use Rattle.aom_machine_instructions.proofs.WordActs.{plain_does, word_read}
 

@@ -33,7 +33,8 @@ use Rattle.aom_machine_state.specs.Room.{ReturnsTo}
 use Rattle.std.specs.Bool.{OnFalse}
 use Rattle.std.proofs.lemmas.Bool.{false≢true}
 use Rattle.aom_image.proofs.Given.{some_given}
-use Rattle.aom_machine_state.proofs.Alike.{A_catcher, A_method, A_trap, Alike, Alike_items, Tops, alike, both_objects, both_trapped, by_item, by_items, catcher_on_top, items_alike, method_on_top, same_below, tops, trap_on_top}
+use Rattle.aom_machine_state.proofs.Alike.{A_catcher, A_method, A_trap, Alike, Alike_items, Tops, alike, both_objects, both_trapped, by_item}
+use Rattle.aom_machine_state.proofs.Alike.{by_items, catcher_on_top, items_alike, method_on_top, same_below, tops, trap_on_top}
 use Rattle.aom_machine_state.proofs.Entries.{same_items_length, top_value}
 use Rattle.aom_safety.proofs.Owned.{entry_object}
 use Rattle.aom_machine_instructions.proofs.Finding.{class_fits, object_lives}

@@ -1,6 +1,7 @@
 -- The moves of a leave that unwinds: what was pushed is dealt with, and then the code arrives.
 use Rattle.std.proofs.lemmas.Bool.Decides.{nat_tests}
-use Rattle.std.proofs.Common.{suc, ◌≡◌, ◌<◌, ℕ, ℤ, Bool, true, cond, length, List, [], ◌∷◌, ◌++◌, Option, Some, None, slice_set, pos, refl, sym, ap, ◌∙◌, subst, append-nil, arith}
+use Rattle.std.proofs.Common.{suc, ◌≡◌, ◌<◌, ℕ, ℤ, Bool, true, cond, length, List, [], ◌∷◌, ◌++◌, Option}
+use Rattle.std.proofs.Common.{Some, None, slice_set, pos, refl, sym, ap, ◌∙◌, subst, append-nil, arith}
 use Rattle.std.specs.Int.{w32, cast_unsigned}
 use Rattle.std.proofs.lemmas.Bool.{eq-eqb}
 use Rattle.std.proofs.Common.{FitsSigned, of_z, to_z}
@@ -22,7 +23,8 @@ use Rattle.aom_safety.specs.Claims.{Unwinding, tasks_of, declared}
 use Rattle.aom_semantics.specs.Cleanup.{arrival, code_told, dealt_with as deals_with, ended_by, top_is_whole, tops_entry, unwound}
 use Rattle.aom_safety.specs.Laws.{IsWired}
 use Rattle.aom_semantics.specs.Places.{Place, Register, changed, held}
-use Rattle.aom_semantics.specs.State.{Frame, Task, Run, Trapped, Unwind, Dispatched, Item, An_object, An_operation, A_mark, State, Goes, IsStuck, NullOrDead, next, set_word, word}
+use Rattle.aom_semantics.specs.State.{Frame, Task, Run, Trapped, Unwind, Dispatched, Item, An_object, An_operation}
+use Rattle.aom_semantics.specs.State.{A_mark, State, Goes, IsStuck, NullOrDead, next, set_word, word}
 use Rattle.aom_safety.specs.WellTyped.{Good, Keeps, WellTyped}
 use Rattle.aom_transcript.specs.declared.line.Line.TheVariants.{Leave}
 use Rattle.aom_safety.proofs.Guarded.{goes_same, guarded_goes, guarded_met}
@@ -50,7 +52,9 @@ use Rattle.aom_machine_state.proofs.Entries.{mark_shows_none, value_alike}
 use Rattle.aom_machine_instructions.proofs.Finding.{held_beneath, unwinds_over, IsTrapOnTop}
 use Rattle.aom_machine_instructions.proofs.LeavingActs.{unwinds_value, unwinds_word}
 use Rattle.aom_machine_state.proofs.Overs.{over_value, over_words}
-use Rattle.aom_machine_state.proofs.Alike.{A_caught_leave, A_last_leave, Alike, Alike_items, Entries_alike, Tops, alike, both_end, both_marks, both_run, both_trapped, both_unwind, caught_leave_on_top, entries_alike, entries_own, entries_run, items_alike, last_leave_on_top, same_below, tops}
+use Rattle.aom_machine_state.proofs.Alike.{A_caught_leave, A_last_leave, Alike, Alike_items, Entries_alike, Tops, alike, both_end}
+use Rattle.aom_machine_state.proofs.Alike.{both_marks, both_run, both_trapped, both_unwind, caught_leave_on_top, entries_alike}
+use Rattle.aom_machine_state.proofs.Alike.{entries_own, entries_run, items_alike, last_leave_on_top, same_below, tops}
 use Rattle.aom_machine_instructions.proofs.ReturnActs.{awaiting, awaits_none, bears, caught_layer, word_alone}
 use Rattle.aom_machine_instructions.proofs.Running.{agrees_with, an_open, aside_of, aside_unmarked, moved_on}
 use Rattle.aom_machine_instructions.proofs.Stepping.{at_rest, goes_somewhere, step_of_unwinding, unwinding_of}

@@ -21,6 +21,7 @@ ordered_found xs x (Err i) h =
     in
     sym (list_any_none (λ n. n == x) xs (All-from_get_or (λ n. (n == x) ≡ false) xs 0 (λ k within. ne_eqb (get_or xs k 0) x (apart k within))))
 
-pub found : (numbers ordered : List ℕ) (x : ℕ) (r : Result ℕ ℕ) → IsPermutation numbers ordered → IsNonDecreasing ordered → IsBinarySearchResult (λ y. nat_cmp y x) ordered r → is_ok r ≡ list_any (λ n. n == x) numbers
+pub found : (numbers ordered : List ℕ) (x : ℕ) (r : Result ℕ ℕ) →
+    IsPermutation numbers ordered → IsNonDecreasing ordered → IsBinarySearchResult (λ y. nat_cmp y x) ordered r → is_ok r ≡ list_any (λ n. n == x) numbers
 found numbers ordered x r same rises is =
     ordered_found ordered x r (searched ordered x r is (λ i j. rises i j 0)) ∙ sym (list_any-IsPermutation (λ n. n == x) numbers ordered same)

@@ -1,12 +1,16 @@
 -- No fault of a text is want of memory: by the definition of what a text denotes.
-use Rattle.std.proofs.Common.{◌≡◌, ℕ, ◌+◌, ◌^◌, nat_le, if◌then◌else◌, Bool, true, false, List, [], ◌∷◌, ◌++◌, length, codes, Option, None, Some, Result, Ok, Err, subst}
+use Rattle.std.proofs.Common.{◌≡◌, ℕ, ◌+◌, ◌^◌, nat_le, if◌then◌else◌, Bool, true, false, List, []}
+use Rattle.std.proofs.Common.{◌∷◌, ◌++◌, length, codes, Option, None, Some, Result, Ok, Err, subst}
 use Rattle.std.specs.List.{list_all}
 use Rattle.std.specs.Str.{bytes_eq}
 use Rattle.aom_text.specs.Numbers.{number_of}
 use Rattle.aom_text.specs.Text.{lines_of}
 use Rattle.aom_text.specs.Words.{is_plain, words}
 use Rattle.aom_text.specs.declared.number.Number.{Number}
-use Rattle.aom_script.specs.Script.{Script, client_says, command_numbers, connect_numbers, connect_says, counted, denoted, denoted_by, event_says, fault_in, fault_of, faults_after, in_line, in_place, is_back, is_refusal, kill_numbers, kill_says, last_time, leaving_says, line_says, message_says, reading_of, refusal_says, refused_in, said_by, send_says, tell_numbers, timed_in, timed_says, unless, words_say}
+use Rattle.aom_script.specs.Script.{Script, client_says, command_numbers, connect_numbers, connect_says, counted, denoted, denoted_by}
+use Rattle.aom_script.specs.Script.{event_says, fault_in, fault_of, faults_after, in_line, in_place, is_back, is_refusal, kill_numbers}
+use Rattle.aom_script.specs.Script.{kill_says, last_time, leaving_says, line_says, message_says, reading_of, refusal_says, refused_in}
+use Rattle.aom_script.specs.Script.{said_by, send_says, tell_numbers, timed_in, timed_says, unless, words_say}
 use Rattle.aom_script.specs.declared.fault.ScriptFault.{ScriptFault}
 use Rattle.aom_script.specs.declared.fault.ScriptFaultKind.{ScriptFaultKind}
 use Rattle.aom_script.specs.declared.fault.ScriptFaultKind.TheVariants.{NotAscii, BadLine, BadNumber, TimeBack, LimitPassed, OutOfMemory}
@@ -130,7 +134,8 @@ timed kind ws =
 of_words : (ws : List (List ℕ)) → Fails_so (words_say ws)
 of_words [] = tt
 of_words (first ∷ []) = tt
-of_words (first ∷ second ∷ others) = either Fails_so (is_refusal first others) (refusal_says (number_of second)) (timed_says second (first ∷ others)) (refusals (number_of second)) (timed second (first ∷ others))
+of_words (first ∷ second ∷ others) = either Fails_so (is_refusal first others)
+    (refusal_says (number_of second)) (timed_says second (first ∷ others)) (refusals (number_of second)) (timed second (first ∷ others))
 
 of_reading : (line : List ℕ) → Fails_so (reading_of line)
 of_reading line = either Fails_so (list_all is_plain line) (words_say (words line)) (Err NotAscii) (of_words (words line)) tt

@@ -19,7 +19,8 @@ rises_too : (before : ℕ) (event : TimedEvent) (timed : List TimedEvent) → be
 rises_too before event [] later rises = (later, tt)
 rises_too before event (x ∷ xs) later rises = go (nat_le x.time event.time) refl (1 + place_after event.time xs) (omega arith) (λ by. rises_too x.time event xs by rises.1)
   where
-    go : (b : Bool) → nat_le x.time event.time ≡ b → (k : ℕ) → k ≡ suc (place_after event.time xs) → (x.time ≤ event.time → Rises x.time (insert xs (place_after event.time xs) event)) → Rises before (insert (x ∷ xs) (cond b k 0) event)
+    go : (b : Bool) → nat_le x.time event.time ≡ b → (k : ℕ) → k ≡ suc (place_after event.time xs) →
+        (x.time ≤ event.time → Rises x.time (insert xs (place_after event.time xs) event)) → Rises before (insert (x ∷ xs) (cond b k 0) event)
     go true is k more rest = subst (λ k. Rises before (insert (x ∷ xs) k event)) (sym more) (rises.0, rest (comes_by x.time event.time is))
     go false is k more rest = (later, (comes_later x.time event.time is, rises.1))
 

@@ -42,7 +42,9 @@ long time client (a ∷ b ∷ c ∷ d ∷ e ∷ f ∷ ws) some = refl
 abbrev pub says_of : (time client f a b d e : List ℕ) → Result Reading ScriptFaultKind
 says_of time client f a b d e = command_numbers (number_of time) (number_of client) (message_numbers (number_of f) (number_of a) (number_of b) (number_of d) (number_of e))
 
-five : (time client f a b d e : List ℕ) (ws : List (List ℕ)) → Some f ≡ first_of ws → Some a ≡ first_of (others_of ws) → Some b ≡ first_of (others_of (others_of ws)) → Some d ≡ first_of (others_of (others_of (others_of ws))) → Some e ≡ first_of (others_of (others_of (others_of (others_of ws)))) → true ≡ is_none_left (others_of (others_of (others_of (others_of (others_of ws))))) → says_of time client f a b d e ≡ message_says time client ws
+five : (time client f a b d e : List ℕ) (ws : List (List ℕ)) → Some f ≡ first_of ws → Some a ≡ first_of (others_of ws) → Some b ≡ first_of (others_of
+    (others_of ws)) → Some d ≡ first_of (others_of (others_of (others_of ws))) → Some e ≡ first_of (others_of (others_of (others_of (others_of ws)))) →
+    true ≡ is_none_left (others_of (others_of (others_of (others_of (others_of ws))))) → says_of time client f a b d e ≡ message_says time client ws
 five time client f a b d e [] f_is a_is b_is d_is e_is none = cc
 five time client f a b d e (v ∷ []) f_is a_is b_is d_is e_is none = cc
 five time client f a b d e (v ∷ w ∷ []) f_is a_is b_is d_is e_is none = cc
@@ -61,6 +63,8 @@ module _ (time client : List ℕ) (ws ws₁ ws₂ ws₃ ws₄ : List (List ℕ))
   pub too_many : (ws₅ : List (List ℕ)) → ws₅ ≡ others_of ws₄ → is_none_left ws₅ ≡ false → Err BadLine ≡ message_says time client ws
   too_many ws₅ five some = long time client ws (ap is_none_left (sym (five ∙ ap others_of four_on)) ∙ some)
 
-  pub just_five : (f a b d e : List ℕ) → Some f ≡ first_of ws → Some a ≡ first_of ws₁ → Some b ≡ first_of ws₂ → Some d ≡ first_of ws₃ → Some e ≡ first_of ws₄ → (ws₅ : List (List ℕ)) → ws₅ ≡ others_of ws₄ → true ≡ is_none_left ws₅ → says_of time client f a b d e ≡ message_says time client ws
+  pub just_five : (f a b d e : List ℕ) → Some f ≡ first_of ws → Some a ≡ first_of ws₁ → Some b ≡ first_of ws₂ → Some d ≡ first_of ws₃ → Some e ≡ first_of ws₄ →
+      (ws₅ : List (List ℕ)) → ws₅ ≡ others_of ws₄ → true ≡ is_none_left ws₅ → says_of time client f a b d e ≡ message_says time client ws
   just_five f a b d e f_is a_is b_is d_is e_is ws₅ last none =
-      five time client f a b d e ws f_is (a_is ∙ ap first_of one) (b_is ∙ ap first_of (two ∙ ap others_of one)) (d_is ∙ ap first_of (three ∙ ap others_of (two ∙ ap others_of one))) (e_is ∙ ap first_of four_on) (none ∙ ap is_none_left (last ∙ ap others_of four_on))
+      five time client f a b d e ws f_is (a_is ∙ ap first_of one) (b_is ∙ ap first_of (two ∙ ap others_of one)) (d_is
+      ∙ ap first_of (three ∙ ap others_of (two ∙ ap others_of one))) (e_is ∙ ap first_of four_on) (none ∙ ap is_none_left (last ∙ ap others_of four_on))

@@ -1,5 +1,6 @@
 -- The times of a denoted script never fall and its numbers are in their ranges: line by line, by the lines before.
-use Rattle.std.proofs.Common.{◌≡◌, ◌∙◌, ◌≤◌, ◌<◌, ℕ, ◌+◌, ◌^◌, false, List, [], ◌∷◌, ◌++◌, length, append-nil, Option, Some, Result, Ok, Err, refl, sym, ap, subst, arith, rules, tests}
+use Rattle.std.proofs.Common.{◌≡◌, ◌∙◌, ◌≤◌, ◌<◌, ℕ, ◌+◌, ◌^◌, false, List, [], ◌∷◌, ◌++◌, length, append-nil}
+use Rattle.std.proofs.Common.{Option, Some, Result, Ok, Err, refl, sym, ap, subst, arith, rules, tests}
 use Rattle.std.proofs.lemmas.Bool.Decides.{nat_tests}
 use Rattle.std.proofs.lemmas.Grind.{flat_map-append, fold-append}
 use Rattle.std.specs.Prelude.{option_map, ℤ}
@@ -22,7 +23,9 @@ use Rattle.aom_script.specs.declared.reading.EventNumbers.{EventNumbers}
 use Rattle.aom_script.specs.declared.reading.EventNumbers.TheVariants.{ToTell, ToKill, OfClient}
 use Rattle.aom_script.specs.declared.reading.Reading.{Reading}
 use Rattle.aom_script.specs.declared.reading.Reading.TheVariants.{Blank, Refusal, At}
-use Rattle.aom_script.specs.Script.{Script, reading_of, said_by, said_in, event_within, is_back, both, at_time, command_within, send_of, line_says, time_after, last_time, fault_in, timed_by, refused_in, timed_in, in_line, faults_after, unless, denoted_by, Rises, NumbersFit, SlotsFit, InRange, IsTimely}
+use Rattle.aom_script.specs.Script.{Script, reading_of, said_by, said_in, event_within, is_back, both, at_time, command_within}
+use Rattle.aom_script.specs.Script.{send_of, line_says, time_after, last_time, fault_in, timed_by, refused_in, timed_in, in_line}
+use Rattle.aom_script.specs.Script.{faults_after, unless, denoted_by, Rises, NumbersFit, SlotsFit, InRange, IsTimely}
 use Rattle.aom_script.proofs.Lines.{Said, is_said}
 
 -- ---- numbers
@@ -55,7 +58,8 @@ slots_fit ToDie command is = let same : Die ≡ command = cc in subst SlotsFit s
 numbers_fit : (event : EventNumbers) (e : Event) → event_within event ≡ Some e → NumbersFit e
 numbers_fit (ToTell native word) e is = made NumbersFit Tell (number_within 0 15 native) (number_signed word) e (λ n w within said. below 0 15 native n within) is
 numbers_fit (ToKill native) e is = mapped NumbersFit Kill (number_within 0 15 native) e (λ n within. below 0 15 native n within) is
-numbers_fit (OfClient client command) e is = made NumbersFit Client (number_within 0 63 client) (command_within command) e (λ c x within said. (below 0 63 client c within, slots_fit command x said)) is
+numbers_fit (OfClient client command) e is =
+    made NumbersFit Client (number_within 0 63 client) (command_within command) e (λ c x within said. (below 0 63 client c within, slots_fit command x said)) is
 
 -- ---- one line
 
@@ -73,7 +77,8 @@ nothing last said none = record {
 one : (last : ℕ) (event : TimedEvent) → last ≤ event.time → InRange event → Fits last (Timed event)
 one last event later within = record { rises = λ events r. (later, r); in_range = λ events a. All-cons InRange event events within a }
 
-timed_fits : (last : ℕ) (time : Number) (event : EventNumbers) (said : ScriptLine) → number_below last time ≡ false → both at_time (number_within 0 (10 ^ 15) time) (event_within event) ≡ Some said → Fits last said
+timed_fits : (last : ℕ) (time : Number) (event : EventNumbers) (said : ScriptLine) →
+    number_below last time ≡ false → both at_time (number_within 0 (10 ^ 15) time) (event_within event) ≡ Some said → Fits last said
 timed_fits last time event said on_time is = made (Fits last) at_time (number_within 0 (10 ^ 15) time) (event_within event) said fits_at is
   where
     fits_at : (t : ℕ) (e : Event) → number_within 0 (10 ^ 15) time ≡ Some t → event_within event ≡ Some e → Fits last (at_time t e)
@@ -103,16 +108,20 @@ pub record Are (time : ℕ) (events : List TimedEvent) : Type 0 where
   pub rises : Rises time events
   pub in_range : All InRange events
 
-added : (last : ℕ) (reading : Result Reading ScriptFaultKind) (said : ScriptLine) (number : ℕ) (events : List TimedEvent) → Said number last reading said → Are (time_after last (timed_by (said_in reading))) events → Are last (timed_by (said_in reading) ++ events)
+added : (last : ℕ) (reading : Result Reading ScriptFaultKind) (said : ScriptLine) (number : ℕ) (events : List TimedEvent) →
+    Said number last reading said → Are (time_after last (timed_by (said_in reading))) events → Are last (timed_by (said_in reading) ++ events)
 added last reading said number events s are =
     let is : said_in reading ≡ Some said = ap said_in s.reads ∙ s.says in
     let f = fits last s.ok said s.on_time s.says in
-    subst (λ o. Are (time_after last (timed_by o)) events → Are last (timed_by o ++ events)) (sym is) (λ are. record { rises = f.rises events are.rises; in_range = f.in_range events are.in_range }) are
+    subst (λ o. Are (time_after last (timed_by o)) events → Are last (timed_by o ++ events))
+    (sym is) (λ are. record { rises = f.rises events are.rises; in_range = f.in_range events are.in_range }) are
 
 timely_after : (before lines : List (List ℕ)) → faults_after before lines ≡ [] → Are (last_time (timed_in before)) (timed_in lines)
 timely_after before [] e = record { rises = tt; in_range = All-nil InRange }
 timely_after before (line ∷ lines) e = go (line_says (length before + 1) (last_time (timed_in before)) line) (timely_after (before ++ line ∷ []) lines) refl e where
-  go : (said : Result ScriptLine ScriptFaultKind) → (faults_after (before ++ line ∷ []) lines ≡ [] → Are (last_time (timed_in (before ++ line ∷ []))) (timed_in lines)) → line_says (length before + 1) (last_time (timed_in before)) line ≡ said → in_line (length before + 1) (fault_in said) ++ faults_after (before ++ line ∷ []) lines ≡ [] → Are (last_time (timed_in before)) (timed_in (line ∷ lines))
+  go : (said : Result ScriptLine ScriptFaultKind) → (faults_after (before ++ line ∷ []) lines ≡ [] →
+      Are (last_time (timed_in (before ++ line ∷ []))) (timed_in lines)) → line_says (length before + 1) (last_time (timed_in before)) line ≡ said →
+      in_line (length before + 1) (fault_in said) ++ faults_after (before ++ line ∷ []) lines ≡ [] → Are (last_time (timed_in before)) (timed_in (line ∷ lines))
   go (Ok said) rest says e =
       let later = subst (λ t. Are t (timed_in lines)) (time_on before line) (rest e) in
       added (last_time (timed_in before)) (reading_of line) said (length before + 1) (timed_in lines) (is_said (length before + 1) (last_time (timed_in before)) (reading_of line) said says) later

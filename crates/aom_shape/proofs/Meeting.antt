@@ -53,7 +53,8 @@ pub meet_missing : (a b n : Kind) → meet_kind a b ≡ None → Weaker n a → 
 meet_missing a b n e h k = let differ = missing_differ a b e in none_passes a b n differ.0 differ.1 differ.2 (weaker_tests n a h) (weaker_tests n b k)
 
 -- one more meet is written
-pub met_more : (a b m : List Kind) (i : ℕ) (x y r : Kind) → Met a b m i → i < 16 → length a ≡ 16 → length b ≡ 16 → meet_kind (slice_index_or a i x) (slice_index_or b i y) ≡ Some r → Met a b (slice_set m i r) (i + 1)
+pub met_more : (a b m : List Kind) (i : ℕ) (x y r : Kind) →
+    Met a b m i → i < 16 → length a ≡ 16 → length b ≡ 16 → meet_kind (slice_index_or a i x) (slice_index_or b i y) ≡ Some r → Met a b (slice_set m i r) (i + 1)
 met_more a b m i x y r h within la lb e = record {
   size = length-set m i r ∙ h.size;
   each = λ k below. elim (eqb_tells k i) [
@@ -68,7 +69,8 @@ met_none a b i x y within la lb e = record {
   none = rw (← at_within Unset x a i (omega arith), ← at_within Unset y b i (omega arith)) e;
 }
 
-pub met_more_fillings : (a b m : List Filling) (i : ℕ) (e : Filling) → MetFillings a b m i → i < 8 → length a ≡ 8 → length b ≡ 8 → MetFillings a b (slice_set m i (meet_filling (slice_index_or a i e) (slice_index_or b i e))) (i + 1)
+pub met_more_fillings : (a b m : List Filling) (i : ℕ) (e : Filling) → MetFillings a b m i →
+    i < 8 → length a ≡ 8 → length b ≡ 8 → MetFillings a b (slice_set m i (meet_filling (slice_index_or a i e) (slice_index_or b i e))) (i + 1)
 met_more_fillings a b m i e h within la lb = record {
   size = length-set m i (meet_filling (slice_index_or a i e) (slice_index_or b i e)) ∙ h.size;
   each = λ k below. elim (eqb_tells k i) [
@@ -111,7 +113,9 @@ fillings_everywhere a b m la lb h i =
     ]
 
 -- a state of the meets is the meet
-pub met : (a b m : Shape) → length a.registers ≡ 16 → length b.registers ≡ 16 → length a.fields ≡ 8 → length b.fields ≡ 8 → Met a.registers b.registers m.registers 16 → MetFillings a.fields b.fields m.fields 8 → m.entries ≡ a.entries → m.entries ≡ b.entries → m.states ≡ bit_or a.states b.states → m.delivery ≡ a.delivery → m.delivery ≡ b.delivery → IsMeet m a b
+pub met : (a b m : Shape) → length a.registers ≡ 16 → length b.registers ≡ 16 →
+    length a.fields ≡ 8 → length b.fields ≡ 8 → Met a.registers b.registers m.registers 16 → MetFillings a.fields b.fields m.fields 8 →
+    m.entries ≡ a.entries → m.entries ≡ b.entries → m.states ≡ bit_or a.states b.states → m.delivery ≡ a.delivery → m.delivery ≡ b.delivery → IsMeet m a b
 met a b m la lb fa fb registers fields first second states delivered other =
     let kinds = met_everywhere a.registers b.registers m.registers la lb registers in
     let fillings = fillings_everywhere a.fields b.fields m.fields fa fb fields in

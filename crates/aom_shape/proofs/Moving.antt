@@ -18,7 +18,8 @@ pub one_on : (xs : List Argument) (i : ℕ) → drop (suc i) xs ≡ drop (i + 1)
 one_on xs i = let e : suc i ≡ i + 1 = omega arith in ap (λ (k : ℕ). drop k xs) e
 
 -- one more has moved
-pub moves_one : (xs : List Argument) (first i : ℕ) (x : Argument) (sh : Shape) → i < length xs → x ≡ slice_index_or xs i x → arguments_moved (drop i xs) (first + i) sh ≡ arguments_moved (drop (i + 1) xs) (first + (i + 1)) (argument_moved x (first + i) sh)
+pub moves_one : (xs : List Argument) (first i : ℕ) (x : Argument) (sh : Shape) → i < length xs → x ≡ slice_index_or xs i x →
+    arguments_moved (drop i xs) (first + i) sh ≡ arguments_moved (drop (i + 1) xs) (first + (i + 1)) (argument_moved x (first + i) sh)
 moves_one xs first i x sh within e =
     ap (λ (l : List Argument). arguments_moved l (first + i) sh) (split xs i x within e ∙ ap (λ (l : List Argument). x ∷ l) (one_on xs i))
     ∙ ap (λ (k : ℕ). arguments_moved (drop (i + 1) xs) k (argument_moved x (first + i) sh)) (after first i)

@@ -38,7 +38,8 @@ module _ {X : Type 0} (test : X → X → Bool) (all : List X → List X → Boo
   all_hold itself each (x ∷ xs) (y ∷ ys) e h (suc i) = all_hold itself each xs ys (omega arith) (and_parts (test x y) (all xs ys) (sym (steps x y xs ys) ∙ h)).1 i
   all_hold itself each _ _ e h i = absurd (omega arith)
 
-  all_pass : ((xs ys : List X) → (length xs ≡ 0) ⊎ (length ys ≡ 0) → all xs ys ≡ true) → ((x y : X) → R x y → test x y ≡ true) → (xs ys : List X) → ((i : ℕ) → R (at none xs i) (at none ys i)) → all xs ys ≡ true
+  all_pass : ((xs ys : List X) → (length xs ≡ 0) ⊎ (length ys ≡ 0) → all xs ys ≡ true) →
+      ((x y : X) → R x y → test x y ≡ true) → (xs ys : List X) → ((i : ℕ) → R (at none xs i) (at none ys i)) → all xs ys ≡ true
   all_pass ended each [] ys h = ended [] ys (inl refl)
   all_pass ended each (x ∷ xs) [] h = ended (x ∷ xs) [] (inr refl)
   all_pass ended each (x ∷ xs) (y ∷ ys) h = rw (steps x y xs ys, each x y (h 0), all_pass ended each xs ys (λ i. h (suc i)))
@@ -71,7 +72,8 @@ abbrev requests_test : Shape → Shape → Bool
 requests_test a b = has a.states b.states && same_delivery a.delivery b.delivery
 
 -- where they and the entries are well, both lists pass exactly where the first state says no more
-decided : (a b : Shape) → length a.registers ≡ length b.registers → length a.fields ≡ length b.fields → a.entries ≡ b.entries → requests_test a b ≡ true → IsTrue (all_no_more a.registers b.registers && all_no_more_fillings a.fields b.fields) ↔ SaysNoMore a b
+decided : (a b : Shape) → length a.registers ≡ length b.registers → length a.fields ≡ length b.fields →
+    a.entries ≡ b.entries → requests_test a b ≡ true → IsTrue (all_no_more a.registers b.registers && all_no_more_fillings a.fields b.fields) ↔ SaysNoMore a b
 decided a b r f e q = (
   λ h. let requests = and_parts (has a.states b.states) (same_delivery a.delivery b.delivery) q in
       let pair = and_parts (all_no_more a.registers b.registers) (all_no_more_fillings a.fields b.fields) h in record {
@@ -85,7 +87,8 @@ decided a b r f e q = (
 )
 
 -- the same for what the two tests answer one after the other
-pub decided_by : (a b : Shape) (r : Bool) → length a.registers ≡ length b.registers → length a.fields ≡ length b.fields → a.entries ≡ b.entries → requests_test a b ≡ true → r ≡ (all_no_more a.registers b.registers && all_no_more_fillings a.fields b.fields) → IsTrue r ↔ SaysNoMore a b
+pub decided_by : (a b : Shape) (r : Bool) → length a.registers ≡ length b.registers → length a.fields ≡ length b.fields → a.entries ≡ b.entries →
+    requests_test a b ≡ true → r ≡ (all_no_more a.registers b.registers && all_no_more_fillings a.fields b.fields) → IsTrue r ↔ SaysNoMore a b
 decided_by a b r k f e q h = rw h (decided a b k f e q)
 
 -- neither says no more where their request states or messages do not allow it

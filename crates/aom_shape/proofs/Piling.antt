@@ -50,7 +50,8 @@ pushed_stands nodes pile e h =
       rw (at_last nodes x) (still_there pile.height nodes x pile.top h),
     )
 
-pub pushed_entries : (nodes : List Node) (pile : Pile) (e : Entry) → Stands nodes pile → listed (suc pile.height) (nodes ++ record { entry = e; below = pile.top } ∷ []) (length nodes) ≡ e ∷ entries_of nodes pile
+pub pushed_entries : (nodes : List Node) (pile : Pile) (e : Entry) →
+    Stands nodes pile → listed (suc pile.height) (nodes ++ record { entry = e; below = pile.top } ∷ []) (length nodes) ≡ e ∷ entries_of nodes pile
 pushed_entries nodes pile e h =
     let x : Node = record { entry = e; below = pile.top } in
     rw (at_last nodes x, still_listed pile.height nodes x pile.top h)
@@ -71,7 +72,8 @@ pub entry_first : (nodes : List Node) (top h n : ℕ) → 0 < h → n ≡ 0 → 
 entry_first nodes top zero n some none = absurd (omega arith)
 entry_first nodes top (suc h) n some none = rw none refl
 
-pub same_below : (a b : List Node) (x y h : ℕ) → 0 < h → same_entries (listed h a x) (listed h b y) ≡ (same_entry (node_at a x).entry (node_at b y).entry && same_entries (listed (h - 1) a (node_at a x).below) (listed (h - 1) b (node_at b y).below))
+pub same_below : (a b : List Node) (x y h : ℕ) → 0 < h → same_entries (listed h a x) (listed h b y)
+    ≡ (same_entry (node_at a x).entry (node_at b y).entry && same_entries (listed (h - 1) a (node_at a x).below) (listed (h - 1) b (node_at b y).below))
 same_below a b x y zero some = absurd (omega arith)
 same_below a b x y (suc h) some = let e : suc h - 1 ≡ h = omega arith in rw e refl
 

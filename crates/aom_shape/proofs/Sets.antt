@@ -31,11 +31,10 @@ pub has_both : (n a b : ℕ) → IsTrue (has n a) → IsTrue (has n b) → IsTru
 has_both n a b h k = has_by n (bit_or a b) (go n a b (shared n a h) (shared n b k))
   where
     go : (n a b : ℕ) → bit_and n a ≡ a → bit_and n b ≡ b → bit_and n (bit_or a b) ≡ bit_or a b
-    go =
-        bin_ind (λ (n : ℕ). (a b : ℕ) → bit_and n a ≡ a → bit_and n b ≡ b → bit_and n (bit_or a b) ≡ bit_or a b)
+    go = bin_ind (λ (n : ℕ). (a b : ℕ) → bit_and n a ≡ a → bit_and n b ≡ b → bit_and n (bit_or a b) ≡ bit_or a b)
         (λ a b h k. omega (arith, and_le_l 0 a, and_le_l 0 b, or_add_and a b, and_le_l 0 (bit_or a b)))
-        (λ n ih a b h k.
-        let below : bit_and (n / 2) (bit_or a b / 2) ≡ bit_or a b / 2 = ap (bit_and (n / 2)) (or_shr a b 1) ∙ ih (a / 2) (b / 2) (omega (arith, and_step n a)) (omega (arith, and_step n b)) ∙ sym (or_shr a b 1) in
+        (λ n ih a b h k. let below : bit_and (n / 2) (bit_or a b / 2) ≡ bit_or a b / 2 = ap (bit_and (n / 2)) (or_shr a b 1)
+        ∙ ih (a / 2) (b / 2) (omega (arith, and_step n a)) (omega (arith, and_step n b)) ∙ sym (or_shr a b 1) in
         omega (arith, below, and_step n (bit_or a b), and_step n a, and_step n b, or_step a b))
 
 -- what a set has of a third, one that has it has too

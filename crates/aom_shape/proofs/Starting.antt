@@ -1,5 +1,6 @@
 -- The registers as a method begins: its arguments, and unset ones after them.
-use Rattle.std.proofs.Common.{◌≡◌, ℕ, zero, suc, ◌+◌, ◌<◌, ◌≤◌, List, [], ◌∷◌, length, map, replicate, slice_index_or, slice_set, Some, inl, inr, refl, sym, subst, ◌∙◌, arith}
+use Rattle.std.proofs.Common.{◌≡◌, ℕ, zero, suc, ◌+◌, ◌<◌, ◌≤◌, List, [], ◌∷◌, length, map, replicate}
+use Rattle.std.proofs.Common.{slice_index_or, slice_set, Some, inl, inr, refl, sym, subst, ◌∙◌, arith}
 use Rattle.std.proofs.lemmas.List.{length-set}
 use Rattle.std.proofs.lemmas.Bool.Decides.{eqb_tells, leb_tells}
 use Rattle.aom_image.specs.Image.{Image}
@@ -49,7 +50,8 @@ unset_everywhere (suc n) (suc k) = unset_everywhere n k
 pub none_placed : (arguments : List Argument) → Placed arguments (replicate 16 Unset) 0
 none_placed arguments = record { size = refl; below = λ k h. absurd (omega arith); above = λ k h. unset_everywhere 16 k }
 
-pub one_placed : (arguments : List Argument) (kinds : List Kind) (i : ℕ) (x : Argument) → Placed arguments kinds i → i < length arguments → length arguments ≤ 16 → x ≡ slice_index_or arguments i x → Placed arguments (slice_set kinds i (argument_kind x)) (i + 1)
+pub one_placed : (arguments : List Argument) (kinds : List Kind) (i : ℕ) (x : Argument) → Placed arguments kinds i →
+    i < length arguments → length arguments ≤ 16 → x ≡ slice_index_or arguments i x → Placed arguments (slice_set kinds i (argument_kind x)) (i + 1)
 one_placed arguments kinds i x h within fits e =
     let kind = argument_kind x in
     record {
@@ -79,7 +81,9 @@ says_the_same a b registers fields entries states delivery = record {
 }
 
 -- what a method begins with
-pub begun : (p : Image) (m : ℕ) (d : Method) (known : Known) → method_at p m ≡ Some d → ((k : ℕ) → at Unset known.registers k ≡ at Unset (map argument_kind d.arguments) k) → known.fields ≡ entry_fields (Some d.role) → known.states ≡ d.before.0 → known.delivery ≡ Here → SaysNoMore (known_with known []) (entry_shape p m) × SaysNoMore (entry_shape p m) (known_with known [])
+pub begun : (p : Image) (m : ℕ) (d : Method) (known : Known) →
+    method_at p m ≡ Some d → ((k : ℕ) → at Unset known.registers k ≡ at Unset (map argument_kind d.arguments) k) → known.fields ≡ entry_fields (Some d.role) →
+    known.states ≡ d.before.0 → known.delivery ≡ Here → SaysNoMore (known_with known []) (entry_shape p m) × SaysNoMore (entry_shape p m) (known_with known [])
 begun p m d known e registers fields states here =
     let same : (k : ℕ) → at Unset known.registers k ≡ at Unset (map argument_kind (arguments_of p m)) k = λ k. rw (arguments_there p m d e) (registers k) in
     let fields_same : known.fields ≡ entry_fields (method_role p m) = rw (role_there p m d e) fields in

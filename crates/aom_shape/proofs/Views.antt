@@ -2,7 +2,8 @@
 use Rattle.std.proofs.Common.{◌≡◌, ℕ, ◌<◌, ◌≤◌, List, [], length, Some, None, slice_get, slice_index_or, refl, ap, subst, sym}
 use Rattle.std.proofs.lemmas.Option.{slice_get_past, slice_get_read}
 use Rattle.aom_image.specs.Image.{Image}
-use Rattle.aom_image.specs.Views.{method_at, gives_of, gives_in, is_quiet, quiet_in, leaves, leaves_in, has, method_role, role_in, method_class, class_in, arguments_of, arguments_in, class_at, fields_of, fields_in}
+use Rattle.aom_image.specs.Views.{method_at, gives_of, gives_in, is_quiet, quiet_in, leaves, leaves_in, has, method_role, role_in}
+use Rattle.aom_image.specs.Views.{method_class, class_in, arguments_of, arguments_in, class_at, fields_of, fields_in}
 use Rattle.aom_image.specs.declared.class.ClassDecl.{ClassDecl}
 use Rattle.aom_image.specs.declared.method.Method.{Method}
 use Rattle.aom_shape.specs.Arguments.{after_in, after_of, before_in, before_of}

@@ -1,5 +1,6 @@
 -- The arguments of a call, one after the other.
-use Rattle.std.proofs.Common.{◌≡◌, ℕ, suc, true, false, nat_lt, cond, ◌+◌, ◌<◌, ◌≤◌, List, ◌∷◌, ◌++◌, length, slice_get, Some, None, drop, inl, inr, sym, ap, ◌∙◌, Ok, Err, arith}
+use Rattle.std.proofs.Common.{◌≡◌, ℕ, suc, true, false, nat_lt, cond, ◌+◌, ◌<◌, ◌≤◌, List, ◌∷◌, ◌++◌, length}
+use Rattle.std.proofs.Common.{slice_get, Some, None, drop, inl, inr, sym, ap, ◌∙◌, Ok, Err, arith}
 use Rattle.std.proofs.lemmas.Bool.{le-leb, lt-leb, lt-ltb, le-ltb}
 use Rattle.std.proofs.lemmas.Option.{slice_get_within}
 use Rattle.std.proofs.lemmas.Bool.Decides.{leb_tells}
@@ -20,16 +21,20 @@ use Rattle.aom_shape.proofs.Judging.{failed_first, passed_first}
 use Rattle.aom_shape.proofs.Moving.{after, one_on, split}
 
 -- one more is as it is declared, or is not
-needs_one : (p : Image) (sh : Shape) (xs : List Argument) (first i : ℕ) (x : Argument) → i < length xs → x ≡ slice_index_or xs i x → each_argument p sh (drop i xs) (first + i) ≡ argument_needs p x (register sh (first + i)) ++ each_argument p sh (drop (i + 1) xs) (first + (i + 1))
+needs_one : (p : Image) (sh : Shape) (xs : List Argument) (first i : ℕ) (x : Argument) → i < length xs → x ≡ slice_index_or xs i x →
+    each_argument p sh (drop i xs) (first + i) ≡ argument_needs p x (register sh (first + i)) ++ each_argument p sh (drop (i + 1) xs) (first + (i + 1))
 needs_one p sh xs first i x within e =
     ap (λ (l : List Argument). each_argument p sh l (first + i)) (split xs i x within e ∙ ap (λ (l : List Argument). x ∷ l) (one_on xs i))
     ∙ ap (λ (k : ℕ). argument_needs p x (register sh (first + i)) ++ each_argument p sh (drop (i + 1) xs) k) (after first i)
 
-pub needs_passed : (p : Image) (sh : Shape) (xs : List Argument) (first i : ℕ) (x : Argument) (u : Unit {0}) → i < length xs → x ≡ slice_index_or xs i x → tested (argument_needs p x (register sh (first + i))) ≡ Ok u → tested (each_argument p sh (drop i xs) (first + i)) ≡ tested (each_argument p sh (drop (i + 1) xs) (first + (i + 1)))
+pub needs_passed : (p : Image) (sh : Shape) (xs : List Argument) (first i : ℕ) (x : Argument) (u : Unit {0}) →
+    i < length xs → x ≡ slice_index_or xs i x → tested (argument_needs p x (register sh (first + i))) ≡ Ok u →
+    tested (each_argument p sh (drop i xs) (first + i)) ≡ tested (each_argument p sh (drop (i + 1) xs) (first + (i + 1)))
 needs_passed p sh xs first i x u within e passed =
     ap tested (needs_one p sh xs first i x within e) ∙ passed_first (argument_needs p x (register sh (first + i))) (each_argument p sh (drop (i + 1) xs) (first + (i + 1))) tt u tt passed
 
-pub needs_failed : (p : Image) (sh : Shape) (xs : List Argument) (first i : ℕ) (x : Argument) (w : Why) → i < length xs → x ≡ slice_index_or xs i x → tested (argument_needs p x (register sh (first + i))) ≡ Err w → tested (each_argument p sh (drop i xs) (first + i)) ≡ Err w
+pub needs_failed : (p : Image) (sh : Shape) (xs : List Argument) (first i : ℕ) (x : Argument) (w : Why) → i < length xs →
+    x ≡ slice_index_or xs i x → tested (argument_needs p x (register sh (first + i))) ≡ Err w → tested (each_argument p sh (drop i xs) (first + i)) ≡ Err w
 needs_failed p sh xs first i x w within e failed =
     ap tested (needs_one p sh xs first i x within e) ∙ failed_first (argument_needs p x (register sh (first + i))) (each_argument p sh (drop (i + 1) xs) (first + (i + 1))) tt tt w failed
 

@@ -9,7 +9,8 @@ use Rattle.aom_image.specs.declared.method.Argument.TheVariants.{Word as A_word_
 use Rattle.aom_image.specs.declared.method.Method.{Method}
 use Rattle.aom_image.specs.declared.method.Role.{Role}
 use Rattle.aom_roles.specs.Roles.{is_construct}
-use Rattle.aom_site.specs.Calls.{brought, caught, while_called, rule_given, rule_target, rule_arguments, rule_moved, flow_call, rule_trapped, rule_trap, flow_trap}
+use Rattle.aom_site.specs.Calls.{brought, caught, while_called, rule_given, rule_target, rule_arguments}
+use Rattle.aom_site.specs.Calls.{rule_moved, flow_call, rule_trapped, rule_trap, flow_trap}
 use Rattle.aom_site.specs.Requests.{resting}
 use Rattle.aom_site.specs.Site.{Site, call_answer, trap_answer}
 use Rattle.aom_site.specs.declared.calls.Call.{Call}
@@ -103,11 +104,10 @@ module _ (site : Site) (call : Call) (d : Method) (there : method_at site.image 
       ++ rest (arguments_moved xs call.first site.shape))
 
   asked : (rest : Shape → List Need) → asks rest (method_class site.image call.method) (method_role site.image call.method) (arguments_of site.image call.method) ≡ needs ++ rest after
-  asked rest =
-      ap (λ class. asks rest class (method_role site.image call.method) (arguments_of site.image call.method)) (class_there site.image call.method d there)
-      ∙ ap (λ role. asks rest d.class role (arguments_of site.image call.method)) (role_there site.image call.method d there)
-      ∙ ap (λ xs. asks rest d.class (Some d.role) xs) (arguments_there site.image call.method d there)
-      ∙ sym (append_assoc (of_target site.image site.method site.shape call.target call.method call.first d) (of_arguments site.image site.method site.shape call.target call.method call.first d) (rest after))
+  asked rest = ap (λ class. asks rest class (method_role site.image call.method) (arguments_of site.image call.method)) (class_there
+      site.image call.method d there) ∙ ap (λ role. asks rest d.class role (arguments_of site.image call.method)) (role_there site.image call.method d there)
+      ∙ ap (λ xs. asks rest d.class (Some d.role) xs) (arguments_there site.image call.method d there) ∙ sym (append_assoc (of_target site.image site.method
+      site.shape call.target call.method call.first d) (of_arguments site.image site.method site.shape call.target call.method call.first d) (rest after))
 
   -- ---- calls
 
@@ -121,7 +121,8 @@ module _ (site : Site) (call : Call) (d : Method) (there : method_at site.image 
   call_leaves = rw (gives_there site.image call.method d there, class_there site.image call.method d there, arguments_there site.image call.method d there, after_there site.image call.method d there) refl
 
   call_is : call_answer site call.target call.method call.first call.result ≡ judged (needs ++ of_moved after) (left_by_call after)
-  call_is = ap (λ ns. judged ns (flow_call site.image site.method site.place site.shape call.target call.method call.first call.result)) (asked of_moved) ∙ ap (λ fs. judged (needs ++ of_moved after) fs) call_leaves
+  call_is = ap (λ ns. judged ns (flow_call site.image site.method site.place site.shape call.target call.method call.first call.result)) (asked of_moved)
+      ∙ ap (λ fs. judged (needs ++ of_moved after) fs) call_leaves
 
   pub call_decides : Decides site.image site.method site.shape call.target call.method call.first d of_moved left_by_call (call_answer site call.target call.method call.first call.result)
   call_decides = decides site.image site.method site.shape call.target call.method call.first d of_moved left_by_call (call_answer site call.target call.method call.first call.result) call_is
@@ -144,7 +145,8 @@ module _ (site : Site) (call : Call) (d : Method) (there : method_at site.image 
     trap_leaves = rw (gives_there site.image call.method d there, class_there site.image call.method d there, arguments_there site.image call.method d there) refl
 
     trap_is : trap_answer site call.target call.method call.first call.result ≡ judged (needs ++ of_trapped after) (left_by_trap after)
-    trap_is = ap (λ ns. judged ns (flow_trap site.image site.method site.place site.shape call.target call.method call.first call.result)) trap_asks ∙ ap (λ fs. judged (needs ++ of_trapped after) fs) trap_leaves
+    trap_is = ap (λ ns. judged ns (flow_trap site.image site.method site.place site.shape call.target call.method call.first call.result)) trap_asks
+        ∙ ap (λ fs. judged (needs ++ of_trapped after) fs) trap_leaves
 
     pub trap_decides : Decides site.image site.method site.shape call.target call.method call.first d of_trapped left_by_trap (trap_answer site call.target call.method call.first call.result)
     trap_decides = decides site.image site.method site.shape call.target call.method call.first d of_trapped left_by_trap (trap_answer site call.target call.method call.first call.result) trap_is

@@ -1,5 +1,6 @@
 -- The parts of a text by where the first end is.
-use Rattle.std.proofs.Common.{◌≡◌, ℕ, suc, ◌+◌, ◌-◌, ◌<◌, ◌==◌, ◌&&◌, ◌||◌, Bool, true, false, not, cond, nat_lt, nat_le, List, [], ◌∷◌, Option, Some, None, length, take, drop, map, refl, sym, ap, subst, ◌∙◌, arith, rules, tests}
+use Rattle.std.proofs.Common.{◌≡◌, ℕ, suc, ◌+◌, ◌-◌, ◌<◌, ◌==◌, ◌&&◌, ◌||◌, Bool, true, false, not, cond, nat_lt, nat_le, List, []}
+use Rattle.std.proofs.Common.{◌∷◌, Option, Some, None, length, take, drop, map, refl, sym, ap, subst, ◌∙◌, arith, rules, tests}
 use Rattle.std.specs.List.{filter, slice_split, onto_first, find, position, position_or_len}
 use Rattle.std.proofs.lemmas.Grind.{common_steps}
 use Rattle.std.proofs.lemmas.List.{take_rest}
@@ -58,7 +59,8 @@ one_more : (part : List ℕ) (parts : List (List ℕ)) → Parts parts → true_
 one_more part parts h = subst (λ ps. true_lines (part ∷ ps) ≡ part ∷ true_lines ps) (sym h.is) refl
 
 pub lines_first : (bs : List ℕ) (i : ℕ) → position (λ b. b == 10) bs ≡ Some i → lines_of bs ≡ take i bs ∷ lines_of (take (length bs - (i + 1)) (drop (i + 1) bs))
-lines_first bs i is = ap true_lines (split_some (λ b. b == 10) bs i is) ∙ one_more (take i bs) (slice_split (λ b. b == 10) (take (length bs - (i + 1)) (drop (i + 1) bs))) (has_parts (λ b. b == 10) (take (length bs - (i + 1)) (drop (i + 1) bs)))
+lines_first bs i is = ap true_lines (split_some (λ b. b == 10) bs i is) ∙ one_more (take i bs)
+    (slice_split (λ b. b == 10) (take (length bs - (i + 1)) (drop (i + 1) bs))) (has_parts (λ b. b == 10) (take (length bs - (i + 1)) (drop (i + 1) bs)))
 
 pub lines_only : (bs : List ℕ) → position (λ b. b == 10) bs ≡ None → 0 < length bs → lines_of bs ≡ bs ∷ []
 lines_only [] is some = absurd (omega arith)
@@ -71,7 +73,8 @@ put_is [] rest = refl
 put_is (w ∷ ws) rest = refl
 
 pub worded_first : (bs : List ℕ) (i : ℕ) → position (λ b. b == 59) bs ≡ Some i → worded bs ≡ put_words (words (take i bs)) (worded (take (length bs - (i + 1)) (drop (i + 1) bs)))
-worded_first bs i is = ap (λ ps. filter has_words (map words ps)) (split_some (λ b. b == 59) bs i is) ∙ put_is (words (take i bs)) (map words (slice_split (λ b. b == 59) (take (length bs - (i + 1)) (drop (i + 1) bs))))
+worded_first bs i is = ap (λ ps. filter has_words (map words ps)) (split_some (λ b. b == 59) bs i is)
+    ∙ put_is (words (take i bs)) (map words (slice_split (λ b. b == 59) (take (length bs - (i + 1)) (drop (i + 1) bs))))
 
 pub worded_only : (bs : List ℕ) → position (λ b. b == 59) bs ≡ None → worded bs ≡ put_words (words bs) []
 worded_only bs is = ap (λ ps. filter has_words (map words ps)) (split_none (λ b. b == 59) bs is) ∙ put_is (words bs) []
@@ -100,9 +103,10 @@ module _ (p : ℕ → Bool) where
   first_at : (So : List ℕ → List ℕ → Type 0) → ((bs : List ℕ) → So bs bs) → ((b : ℕ) (bs rest : List ℕ) → p b ≡ true → So bs rest → So (b ∷ bs) rest)
       → (bs : List ℕ) → nat_lt (position_or_len (λ b. not (p b)) bs) (length bs) ≡ true → First p So bs (position_or_len (λ b. not (p b)) bs)
   first_at So self behind [] h = absurd cc
-  first_at So self behind (b ∷ bs) h =
-      let known : (t : Bool) → p b ≡ t → nat_lt (cond (not (not t)) (1 + position_or_len (λ b. not (p b)) bs) 0) (length (b ∷ bs)) ≡ true → First p So (b ∷ bs) (cond (not (not t)) (1 + position_or_len (λ b. not (p b)) bs) 0) =
-      λ t. elim t as (λ t. p b ≡ t → nat_lt (cond (not (not t)) (1 + position_or_len (λ b. not (p b)) bs) 0) (length (b ∷ bs)) ≡ true → First p So (b ∷ bs) (cond (not (not t)) (1 + position_or_len (λ b. not (p b)) bs) 0)) [
+  first_at So self behind (b ∷ bs) h = let known : (t : Bool) → p b ≡ t → nat_lt (cond (not (not t)) (1 + position_or_len (λ b. not (p b)) bs) 0)
+      (length (b ∷ bs)) ≡ true → First p So (b ∷ bs) (cond (not (not t)) (1 + position_or_len (λ b. not (p b)) bs) 0) =
+      λ t. elim t as (λ t. p b ≡ t → nat_lt (cond (not (not t)) (1 + position_or_len (λ b. not (p b)) bs) 0) (length (b ∷ bs)) ≡ true →
+      First p So (b ∷ bs) (cond (not (not t)) (1 + position_or_len (λ b. not (p b)) bs) 0)) [
         | true ↦ λ e past. let rest = first_at So self behind bs (grind (arith, common_steps)) in record {
           first = rest.first;
           more = rest.more;
@@ -141,10 +145,13 @@ pub words_none : (bs : List ℕ) → position (λ b. not (is_blank b)) bs ≡ No
 words_none bs is = all_blank bs (not_chosen _ _ is)
 
 -- the first word, of what begins with no blank
-cut_word : (b : ℕ) (bs : List ℕ) (parts : List (List ℕ)) (n : ℕ) → is_blank b ≡ false → filter has_bytes (take (cond (not (is_blank b)) (1 + n) 0) (b ∷ bs) ∷ parts) ≡ take (cond (not (is_blank b)) (1 + n) 0) (b ∷ bs) ∷ filter has_bytes parts
-cut_word b bs parts n e = subst (λ t. filter has_bytes (take (cond (not t) (1 + n) 0) (b ∷ bs) ∷ parts) ≡ take (cond (not t) (1 + n) 0) (b ∷ bs) ∷ filter has_bytes parts) (sym e) (subst (λ (t : List ℕ). filter has_bytes (t ∷ parts) ≡ t ∷ filter has_bytes parts) (sym (take_one n b bs)) refl)
+cut_word : (b : ℕ) (bs : List ℕ) (parts : List (List ℕ)) (n : ℕ) → is_blank b ≡ false →
+    filter has_bytes (take (cond (not (is_blank b)) (1 + n) 0) (b ∷ bs) ∷ parts) ≡ take (cond (not (is_blank b)) (1 + n) 0) (b ∷ bs) ∷ filter has_bytes parts
+cut_word b bs parts n e = subst (λ t. filter has_bytes (take (cond (not t) (1 + n) 0) (b ∷ bs) ∷ parts) ≡ take (cond (not t) (1 + n) 0)
+    (b ∷ bs) ∷ filter has_bytes parts) (sym e) (subst (λ (t : List ℕ). filter has_bytes (t ∷ parts) ≡ t ∷ filter has_bytes parts) (sym (take_one n b bs)) refl)
 
-word_then : (b : ℕ) (bs : List ℕ) (e : ℕ) → is_blank b ≡ false → position is_blank (b ∷ bs) ≡ Some e → words (b ∷ bs) ≡ take e (b ∷ bs) ∷ words (take (length (b ∷ bs) - (e + 1)) (drop (e + 1) (b ∷ bs)))
+word_then : (b : ℕ) (bs : List ℕ) (e : ℕ) → is_blank b ≡ false →
+    position is_blank (b ∷ bs) ≡ Some e → words (b ∷ bs) ≡ take e (b ∷ bs) ∷ words (take (length (b ∷ bs) - (e + 1)) (drop (e + 1) (b ∷ bs)))
 word_then b bs e ink is =
     let at = chosen (nat_lt (position_or_len is_blank (b ∷ bs)) (length (b ∷ bs))) (position_or_len is_blank (b ∷ bs)) e is in
     ap (filter has_bytes) (split_some is_blank (b ∷ bs) e is)
@@ -158,7 +165,8 @@ word_first bs i e is ends =
     let at = chosen (nat_lt (position_or_len (λ b. not (is_blank b)) bs) (length bs)) (position_or_len (λ b. not (is_blank b)) bs) i is in
     let ink : Inked bs i = subst (Inked bs) at.1 (inked bs at.0) in
     let same : take (length bs - i) (drop i bs) ≡ ink.first ∷ ink.more = take_rest bs i ∙ ink.at in
-    subst (λ (t : List ℕ). position is_blank t ≡ Some e → words bs ≡ take e t ∷ words (take (length t - (e + 1)) (drop (e + 1) t))) (sym same) (λ h. ink.so ∙ word_then ink.first ink.more e ink.is h) ends
+    subst (λ (t : List ℕ). position is_blank t ≡ Some e → words bs ≡ take e t ∷ words (take (length t - (e + 1)) (drop (e + 1) t)))
+    (sym same) (λ h. ink.so ∙ word_then ink.first ink.more e ink.is h) ends
 
 pub word_only : (bs : List ℕ) (i : ℕ) → position (λ b. not (is_blank b)) bs ≡ Some i → position is_blank (take (length bs - i) (drop i bs)) ≡ None
     → words bs ≡ take (length bs - i) (drop i bs) ∷ []

@@ -41,7 +41,8 @@ filling_stays a b (alike_filling {x = x}) e = alike_filling
 filling_stays a b _ e = absurd (omega arith)
 
 -- what can fall no more often in each place can so in all, and if it can as often in all it can in each
-module _ {K : Type 0} (none : K) (rank : K → ℕ) (Less : K → K → Type 0) (self : Less none none) (low : rank none ≡ 0) (falls : (a b : K) → Less a b → rank a ≤ rank b) (stays : (a b : K) → Less a b → rank a ≡ rank b → Less b a) where
+module _ {K : Type 0} (none : K) (rank : K → ℕ) (Less : K → K → Type 0) (self : Less none none)
+    (low : rank none ≡ 0) (falls : (a b : K) → Less a b → rank a ≤ rank b) (stays : (a b : K) → Less a b → rank a ≡ rank b → Less b a) where
   all_fall : (xs ys : List K) → ((i : ℕ) → Less (at none xs i) (at none ys i)) → sum_by rank xs ≤ sum_by rank ys
   all_fall [] ys h = omega arith
   all_fall (x ∷ xs) [] h = omega (arith, sum_by-cons rank x xs, falls x none (h 0), all_fall xs [] (λ i. h (suc i)))

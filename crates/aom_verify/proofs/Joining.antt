@@ -101,7 +101,8 @@ joins_none s to sh there here h =
     }
 
 -- the state there falls
-pub joins_lower : (s : Shapes) (to : ℕ) (sh there less : Shape) → to < length s → at None s to ≡ Some there → ¬ SaysNoMore there sh → IsMeet less there sh → less.states < 256 → Joins s (slice_set s to (Some less)) ((to, sh) ∷ []) Fell
+pub joins_lower : (s : Shapes) (to : ℕ) (sh there less : Shape) → to < length s → at None s to ≡ Some there →
+    ¬ SaysNoMore there sh → IsMeet less there sh → less.states < 256 → Joins s (slice_set s to (Some less)) ((to, sh) ∷ []) Fell
 joins_lower s to sh there less within here differs meet byte =
     let read : slice_index_or s to (Some there) ≡ Some there = at_within None (Some there) s to within ∙ here in
     let falls = shape_falls less there byte meet.first (λ h. differs (transitive there less sh h meet.second)) in

@@ -1,5 +1,6 @@
 -- What is kept of the states of a method, and the states themselves.
-use Rattle.std.proofs.Common.{◌≡◌, ℕ, zero, suc, ◌<◌, List, [], ◌∷◌, length, Option, Some, None, replicate, slice_set, slice_index_or, inl, inr, refl, sym, ◌∙◌, ap, arith}
+use Rattle.std.proofs.Common.{◌≡◌, ℕ, zero, suc, ◌<◌, List, [], ◌∷◌, length, Option, Some, None, replicate}
+use Rattle.std.proofs.Common.{slice_set, slice_index_or, inl, inr, refl, sym, ◌∙◌, ap, arith}
 use Rattle.std.specs.Prelude.{IfSome}
 use Rattle.std.proofs.lemmas.Bool.Decides.{eqb_tells}
 use Rattle.std.proofs.lemmas.List.{length-replicate}
@@ -46,10 +47,12 @@ none_shapes nodes (suc n) = ap (λ (s : Shapes). None ∷ s) (none_shapes nodes 
 pub read_kept : (kept : List (Option Kept)) (to : ℕ) (o : Option Kept) → to < length kept → o ≡ slice_index_or kept to o → at None kept to ≡ o
 read_kept kept to o within h = sym (at_within None o kept to within) ∙ sym h
 
-pub kept_there : (nodes : List Node) (kept : List (Option Kept)) (pc : ℕ) (o : Option Kept) → pc < length (shapes_of nodes kept) → o ≡ slice_index_or kept pc o → shape_of nodes o ≡ at None (shapes_of nodes kept) pc
+pub kept_there : (nodes : List Node) (kept : List (Option Kept)) (pc : ℕ) (o : Option Kept) →
+    pc < length (shapes_of nodes kept) → o ≡ slice_index_or kept pc o → shape_of nodes o ≡ at None (shapes_of nodes kept) pc
 kept_there nodes kept pc o within is = ap (shape_of nodes) (sym (read_kept kept pc o (omega (arith, within, length_shapes nodes kept)) is)) ∙ sym (at_shapes nodes kept pc)
 
-pub kept_stands : (nodes : List Node) (kept : List (Option Kept)) (pc : ℕ) (o : Option Kept) → pc < length (shapes_of nodes kept) → o ≡ slice_index_or kept pc o → AreKept nodes kept → IfSome o (λ k. Stands nodes k.pile)
+pub kept_stands : (nodes : List Node) (kept : List (Option Kept)) (pc : ℕ) (o : Option Kept) →
+    pc < length (shapes_of nodes kept) → o ≡ slice_index_or kept pc o → AreKept nodes kept → IfSome o (λ k. Stands nodes k.pile)
 kept_stands nodes kept pc None within is keeps = tt
 kept_stands nodes kept pc (Some k) within is keeps = keeps.stand pc k (read_kept kept pc (Some k) (omega (arith, within, length_shapes nodes kept)) is)
 
@@ -71,7 +74,8 @@ kept_extended old new kept h k = record {
 
 -- ---- a place that is written
 
-stands_set : (nodes : List Node) (kept : List (Option Kept)) (to : ℕ) (new : Kept) → to < length kept → ((pc : ℕ) (k : Kept) → at None kept pc ≡ Some k → Stands nodes k.pile) → Stands nodes new.pile → (pc : ℕ) (k : Kept) → at None (slice_set kept to (Some new)) pc ≡ Some k → Stands nodes k.pile
+stands_set : (nodes : List Node) (kept : List (Option Kept)) (to : ℕ) (new : Kept) → to < length kept → ((pc : ℕ) (k : Kept) → at None kept pc ≡ Some k →
+    Stands nodes k.pile) → Stands nodes new.pile → (pc : ℕ) (k : Kept) → at None (slice_set kept to (Some new)) pc ≡ Some k → Stands nodes k.pile
 stands_set nodes kept to new within stand here pc k e = elim (eqb_tells pc to) [
   | inl w ↦
       let put = at_set_here None kept to (Some new) within in
@@ -102,7 +106,8 @@ module _ (nodes : List Node) (kept : List (Option Kept)) (to : ℕ) (new : Kept)
   pub none_joined : (there : Kept) → at None kept to ≡ Some there → Lowers nodes there new None → Joins (shapes_of nodes kept) (shapes_of nodes kept) ((to, kept_shape nodes new) ∷ []) Nothing
   none_joined there e h = joins_none _ to _ _ (filled there e) h
 
-  pub kept_lower : (there : Kept) (known : Known) → AreKept nodes kept → at None kept to ≡ Some there → Lowers nodes there new (Some known) → AreKept nodes (slice_set kept to (Some (record { known = known; pile = there.pile })))
+  pub kept_lower : (there : Kept) (known : Known) → AreKept nodes kept → at None kept to ≡ Some there →
+      Lowers nodes there new (Some known) → AreKept nodes (slice_set kept to (Some (record { known = known; pile = there.pile })))
   kept_lower there known h e low =
       let less : Kept = record { known = known; pile = there.pile } in
       record {
@@ -110,12 +115,15 @@ module _ (nodes : List Node) (kept : List (Option Kept)) (to : ℕ) (new : Kept)
         few = rw (set_shapes nodes kept to (Some less)) (few_lower _ to _ _ _ h.few inside (filled there e) low.1.0);
       }
 
-  pub lower_joined : (there : Kept) (known : Known) → at None kept to ≡ Some there → Lowers nodes there new (Some known) → Joins (shapes_of nodes kept) (shapes_of nodes (slice_set kept to (Some (record { known = known; pile = there.pile })))) ((to, kept_shape nodes new) ∷ []) Fell
+  pub lower_joined : (there : Kept) (known : Known) → at None kept to ≡ Some there → Lowers nodes there new (Some known) → Joins
+      (shapes_of nodes kept) (shapes_of nodes (slice_set kept to (Some (record { known = known; pile = there.pile })))) ((to, kept_shape nodes new) ∷ []) Fell
   lower_joined there known e low =
       let less : Kept = record { known = known; pile = there.pile } in
       rw (set_shapes nodes kept to (Some less)) (joins_lower _ to _ _ _ inside (filled there e) low.0 low.1.0 low.1.1)
 
-  pub never_joined : (there : Kept) (why : Why) → at None kept to ≡ Some there → NoMeet (kept_shape nodes there) (kept_shape nodes new) → WhyNoMeet (kept_shape nodes there) (kept_shape nodes new) why → JoinStops (shapes_of nodes kept) (shapes_of nodes kept) ((to, kept_shape nodes new) ∷ []) (At to why)
+  pub never_joined : (there : Kept) (why : Why) → at None kept to ≡ Some there →
+      NoMeet (kept_shape nodes there) (kept_shape nodes new) → WhyNoMeet (kept_shape nodes there) (kept_shape nodes new) why →
+      JoinStops (shapes_of nodes kept) (shapes_of nodes kept) ((to, kept_shape nodes new) ∷ []) (At to why)
   never_joined there why e none reason = (cannot_join _ to _ _ (filled there e) none, inside, join_fails _ to _ _ why (filled there e) none reason)
 
 -- ---- the first states

@@ -12,8 +12,8 @@ use Rattle.aom_verify.specs.Sweep.{HasPlaces, Spans}
 
 pub some_places : (p : Image) (m : ℕ) (d : Method) → WellFormed p → method_at p m ≡ Some d → 0 < length d.code
 unfolding method_at
-some_places p m d h e =
-    let fits : MethodFits p.header.version (length p.classes) (length p.methods) d = all_there (λ x. MethodFits p.header.version (length p.classes) (length p.methods) x) p.methods m d h.methods.each e in
+some_places p m d h e = let fits : MethodFits p.header.version (length p.classes) (length p.methods) d =
+    all_there (λ x. MethodFits p.header.version (length p.classes) (length p.methods) x) p.methods m d h.methods.each e in
     omega (arith, fits.some_code)
 
 -- a state with room has fewer entries than a method may have places
@@ -23,7 +23,8 @@ few_places p m sh h some room =
     elim (method_at p m) as (λ o. method_at p m ≡ o → IsSome o → length sh.entries < 1024) [
       | None ↦ λ e some. absurd cc
       | Some d ↦ λ e some.
-          let fits : MethodFits p.header.version (length p.classes) (length p.methods) d = all_there (λ x. MethodFits p.header.version (length p.classes) (length p.methods) x) p.methods m d h.methods.each e in
+          let fits : MethodFits p.header.version (length p.classes) (length p.methods) d =
+          all_there (λ x. MethodFits p.header.version (length p.classes) (length p.methods) x) p.methods m d h.methods.each e in
           omega (arith, fits.code_length, room.each d e)
     ] refl some
 

@@ -38,7 +38,8 @@ stops_last a b c xs ys x (At place why) joins h = (cannot_last a b xs ys x joins
 pub stops_rule : (p : Image) (m : ℕ) (s : Shapes) (pc : ℕ) (sh : Shape) (why : Why) → pc < length s → at None s pc ≡ Some sh → Fails p m pc sh why → Stops p m s s (At pc why)
 stops_rule p m s pc sh why within e h = (failed_visit p m s pc sh why e h, within, told_rule p m s pc pc sh why e h refl)
 
-pub stops_visit : (p : Image) (m : ℕ) (s new : Shapes) (pc : ℕ) (sh : Shape) (ways : List Flow) (fault : Fault) → at None s pc ≡ Some sh → Flows p m pc sh ways → JoinStops s new ways fault → Stops p m s new fault
+pub stops_visit : (p : Image) (m : ℕ) (s new : Shapes) (pc : ℕ) (sh : Shape) (ways : List Flow) (fault : Fault) → at None s pc ≡ Some sh →
+    Flows p m pc sh ways → JoinStops s new ways fault → Stops p m s new fault
 stops_visit p m s new pc sh ways OutOfMemory e h k = tt
 stops_visit p m s new pc sh ways (At place why) e h k = (failed_join p m s pc sh ways e h k.0, k.1, told_join p m s new pc place sh ways why e h k.2)
 
@@ -51,11 +52,13 @@ fails_there p m s place why stops = go stops.refused
     go (without_meet other none told) = by_meet (stops.arrive place stops.shape stops.there) other none told
 
 -- the states that are found from the first ones on
-pub stops_there : (p : Image) (m places : ℕ) (entry : Shape) (new : Shapes) (place : ℕ) (why : Why) → 0 < places → SaysNoMore entry (entry_shape p m) → SaysNoMore (entry_shape p m) entry → Stops p m (first_shapes places entry) new (At place why) → StopsAt p m new place why
+pub stops_there : (p : Image) (m places : ℕ) (entry : Shape) (new : Shapes) (place : ℕ) (why : Why) → 0 < places → SaysNoMore entry (entry_shape p m) →
+    SaysNoMore (entry_shape p m) entry → Stops p m (first_shapes places entry) new (At place why) → StopsAt p m new place why
 stops_there p m places entry new place why some no_more no_less h = h.2 (first_arrives p m places entry some no_more no_less)
 
 -- a method in which the sweeps end early is refused
-pub stops_refused : (p : Image) (m places : ℕ) (entry : Shape) (new : Shapes) (fault : Fault) → HasPlaces p m places → 0 < places → SaysNoMore entry (entry_shape p m) → SaysNoMore (entry_shape p m) entry → Stops p m (first_shapes places entry) new fault → RefusesMethod p m (refusal_of m fault)
+pub stops_refused : (p : Image) (m places : ℕ) (entry : Shape) (new : Shapes) (fault : Fault) → HasPlaces p m places → 0 < places → SaysNoMore entry
+    (entry_shape p m) → SaysNoMore (entry_shape p m) entry → Stops p m (first_shapes places entry) new fault → RefusesMethod p m (refusal_of m fault)
 stops_refused p m places entry new OutOfMemory has some no_more no_less h = tt
 stops_refused p m places entry new (At place why) has some no_more no_less h =
     let spans = spanned p m places (first_shapes places entry) has (first_count places entry) in (

@@ -94,7 +94,8 @@ first_arrives p m places entry some no_more no_less = λ pc sh e. elim (eqb_tell
 ]
 
 -- settled states are the strongest typing
-pub settled : (p : Image) (m : ℕ) (places : ℕ) (entry : Shape) (s : Shapes) → 0 < places → SaysNoMore entry (entry_shape p m) → SaysNoMore (entry_shape p m) entry → Settles p m (first_shapes places entry) s → IsMethodStrongest p m s
+pub settled : (p : Image) (m : ℕ) (places : ℕ) (entry : Shape) (s : Shapes) →
+    0 < places → SaysNoMore entry (entry_shape p m) → SaysNoMore (entry_shape p m) entry → Settles p m (first_shapes places entry) s → IsMethodStrongest p m s
 settled p m places entry s some no_more no_less h = record {
   typed = record {
     each = λ pc sh e. elim (leb_tells (length s) pc) [

@@ -76,16 +76,19 @@ ways_arrive p m s pc sh ways e h all = rw h.is (each_arrives p m (flows p m pc s
 pub told_rule : (p : Image) (m : ℕ) (s : Shapes) (pc place : ℕ) (sh : Shape) (why : Why) → at None s pc ≡ Some sh → Fails p m pc sh why → place ≡ pc → StatesFail p m s s place why
 told_rule p m s pc place sh why e h same = λ all. rw same (record { arrive = all; shape = sh; there = e; refused = by_need h.stands h.is })
 
-pub told_join : (p : Image) (m : ℕ) (s new : Shapes) (pc place : ℕ) (sh : Shape) (ways : List Flow) (why : Why) → at None s pc ≡ Some sh → Flows p m pc sh ways → JoinFails s new ways place why → StatesFail p m s new place why
+pub told_join : (p : Image) (m : ℕ) (s new : Shapes) (pc place : ℕ) (sh : Shape) (ways : List Flow) (why : Why) → at None s pc ≡ Some sh →
+    Flows p m pc sh ways → JoinFails s new ways place why → StatesFail p m s new place why
 told_join p m s new pc place sh ways why e h fails = λ all. fails p m all (ways_arrive p m s pc sh ways e h all)
 
-applies_after : (p : Image) (m : ℕ) (s new : Shapes) (pc : ℕ) (sh : Shape) (ways : List Flow) → at None s pc ≡ Some sh → Flows p m pc sh ways → AllMet new ways → at None new pc ≡ at None s pc → AppliesAt p m new pc
+applies_after : (p : Image) (m : ℕ) (s new : Shapes) (pc : ℕ) (sh : Shape) (ways : List Flow) → at None s pc ≡ Some sh →
+    Flows p m pc sh ways → AllMet new ways → at None new pc ≡ at None s pc → AppliesAt p m new pc
 applies_after p m s new pc sh ways e h met same = λ x f.
     let alike : sh ≡ x = let g = rw same at f in cc in
     let found : Applies p m new pc sh = record { instr = h.instr; stands = h.stands; needs = h.needs; flows = rw h.is at met } in
     rw alike at found
 
-pub visited : (p : Image) (m : ℕ) (s new : Shapes) (pc : ℕ) (sh : Shape) (ways : List Flow) (step : Step) → at None s pc ≡ Some sh → Flows p m pc sh ways → Joins s new ways step.change → IsAhead pc s new step → Visits p m s new pc step
+pub visited : (p : Image) (m : ℕ) (s new : Shapes) (pc : ℕ) (sh : Shape) (ways : List Flow) (step : Step) → at None s pc ≡ Some sh →
+    Flows p m pc sh ways → Joins s new ways step.change → IsAhead pc s new step → Visits p m s new pc step
 visited p m s new pc sh ways step e h k ahead = record {
   keeps = record {
     size = k.size;

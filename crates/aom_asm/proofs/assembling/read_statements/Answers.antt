@@ -26,7 +26,8 @@ as_image (Ok p) read is = ap (λ x. and_then x (λ p. Ok (image_of p))) is
 as_image (Err e) read fails = λ other. ap (λ x. and_then x (λ p. Ok (image_of p))) (fails other)
 
 -- what is read again, with the classes of the first reading, is what the statements say
-again : (last : ℕ) (ss : List Statement) (s : Scope) (first : Program) (kinds : List ClassDecl) (r : Result Program AsmFault) → s ≡ scope_of false ss [] → read_program last s ss ≡ Ok first → kinds ≡ first.classes
+again : (last : ℕ) (ss : List Statement) (s : Scope) (first : Program) (kinds : List ClassDecl) (r : Result Program AsmFault) →
+    s ≡ scope_of false ss [] → read_program last s ss ≡ Ok first → kinds ≡ first.classes
     → Answers (λ p. p) r (read_program last (record s { is_strict = true; kinds = kinds }) ss) → Answers image_of r (read_statements last ss)
 again last ss s first kinds r is found classes read =
     let statements = ap (λ x. and_then x (λ first. and_then (read_program last (scope_of true ss first.classes) ss) (λ p. Ok (image_of p)))) (ap (λ t. read_program last t ss) (sym is) ∙ found) in
@@ -42,4 +43,5 @@ returns-in_err-first c =
 pub returns : goal.returns
 returns c =
     let scope = named c.args.last c.named.result c.in_ok-scope.scope _ c.in_ok-scope.ensures c.named.ensures in
-    again c.args.last c.args.text c.in_ok-scope.scope c.in_ok-first.first _ c.read_again.result scope (ap (read_program c.args.last c.in_ok-scope.scope) (sym c.again.ensures) ∙ c.in_ok-first.ensures) c.into_classes.ensures c.read_again.ensures
+    again c.args.last c.args.text c.in_ok-scope.scope c.in_ok-first.first _ c.read_again.result scope
+    (ap (read_program c.args.last c.in_ok-scope.scope) (sym c.again.ensures) ∙ c.in_ok-first.ensures) c.into_classes.ensures c.read_again.ensures

@@ -11,9 +11,11 @@ use Rattle.aom_budget.proofs.cancels.raise_cancel_depths.Goals as goal
 pub loop-index-preserved : goal.loop-index-preserved
 loop-index-preserved c =
     let same : c.from.result ≡ c.of_perhaps-depth.result = search rules in
-    raised_next c.args.linked.now _ _ _ _ _ _ _ _ c.image-in-loop-index.ensures c.class_number-class.ensures (same ∙ c.of_perhaps-depth.ensures ∙ ap (λ o. most_at c.args.depths.now (listed o)) c.role.ensures) c.loop-index.invariant c.raise_class.ensures.size c.raise_class.ensures.each
+    raised_next c.args.linked.now _ _ _ _ _ _ _ _ c.image-in-loop-index.ensures c.class_number-class.ensures (same ∙ c.of_perhaps-depth.ensures
+    ∙ ap (λ o. most_at c.args.depths.now (listed o)) c.role.ensures) c.loop-index.invariant c.raise_class.ensures.size c.raise_class.ensures.each
 
 pub returns : goal.returns
 returns c =
     let count : c.loop-index.index ≡ length c.args.linked.now.classes = search rules in
-    greatest_made c.args.linked.now c.args.depths.now (λ y. listed (role_of c.args.linked.now y Cancel)) (absent_cancels c.args.linked.now (rw c.image.ensures at c.classes.ensures.well_formed)) _ _ c.requires.size c.requires.below (rw count at c.loop-index.invariant)
+    greatest_made c.args.linked.now c.args.depths.now (λ y. listed (role_of c.args.linked.now y Cancel)) (absent_cancels c.args.linked.now
+    (rw c.image.ensures at c.classes.ensures.well_formed)) _ _ c.requires.size c.requires.below (rw count at c.loop-index.invariant)

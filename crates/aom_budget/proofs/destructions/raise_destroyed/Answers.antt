@@ -5,7 +5,8 @@ use Rattle.aom_budget.proofs.Raised.{raised_next}
 use Rattle.aom_budget.proofs.destructions.raise_destroyed.Goals as goal
 
 pub loop-index-preserved : goal.loop-index-preserved
-loop-index-preserved c = raised_next c.args.linked.now _ _ _ _ _ _ _ _ c.image-in-loop-index.ensures c.class_number-class.ensures c.whole_going.ensures.is c.loop-index.invariant c.raise_class.ensures.size c.raise_class.ensures.each
+loop-index-preserved c = raised_next c.args.linked.now _ _ _ _ _ _ _ _ c.image-in-loop-index.ensures
+    c.class_number-class.ensures c.whole_going.ensures.is c.loop-index.invariant c.raise_class.ensures.size c.raise_class.ensures.each
 
 pub returns : goal.returns
 returns c =

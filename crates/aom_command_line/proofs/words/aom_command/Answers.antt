@@ -11,5 +11,6 @@ with_two to first second = with_subcommand (with_subcommand to first.top) second
 pub returns : goal.returns
 returns c =
     let bare : app_of c.subcommand_required-command.result ≡ bare_form = search rules in
-    let uses = IfOk-weaker c.with_uses.result _ (λ u. app_of u ≡ with_two (with_two bare_form check_form run_form) explore_form debug_form) (λ u made. made ∙ ap (λ a. with_two (with_two a check_form run_form) explore_form debug_form) bare) c.with_uses.ensures in
+    let uses = IfOk-weaker c.with_uses.result _ (λ u. app_of u ≡ with_two (with_two bare_form check_form run_form) explore_form debug_form)
+    (λ u made. made ∙ ap (λ a. with_two (with_two a check_form run_form) explore_form debug_form) bare) c.with_uses.ensures in
     c.with_translations.ensures _ uses

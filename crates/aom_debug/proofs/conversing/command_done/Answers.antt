@@ -6,13 +6,16 @@ use Rattle.aom_debug.proofs.Heeding.{heard_cut, heard_done, heard_refused, heard
 use Rattle.aom_debug.proofs.conversing.command_done.Goals as goal
 
 pub returns-in-Ok-clause-ok : goal.returns-in-Ok-clause-ok
-returns-in-Ok-clause-ok g c = heard_done c.args.debugger.now c.obey.new.self c.args.command c.requires.well (g.W.Sink.out c.args.out.now) (g.W.Sink.out c.obey.new.out) (g.W.Sink.failed c.obey.new.out) c.in-Ok.ensures.answer
+returns-in-Ok-clause-ok g c = heard_done c.args.debugger.now c.obey.new.self c.args.command c.requires.well
+    (g.W.Sink.out c.args.out.now) (g.W.Sink.out c.obey.new.out) (g.W.Sink.failed c.obey.new.out) c.in-Ok.ensures.answer
 
 pub returns-in-WriteFault-clause-err : goal.returns-in-WriteFault-clause-err
 returns-in-WriteFault-clause-err g c = (
   refl,
   heard_cut c.args.debugger.now c.obey.new.self c.args.command c.requires.well (g.W.Sink.out c.args.out.now) (g.W.Sink.out c.obey.new.out) (g.W.Sink.failed c.obey.new.out)
-      (subst (λ f. Obeys c.args.command c.args.debugger.now c.obey.new.self (record { before = g.W.Sink.out c.args.out.now; now = g.W.Sink.out c.obey.new.out; failed = g.W.Sink.failed c.obey.new.out }) (Err f)) c.in-WriteFault.is c.in-Err.ensures.answer),
+      (subst (λ f. Obeys c.args.command c.args.debugger.now c.obey.new.self
+      (record { before = g.W.Sink.out c.args.out.now; now = g.W.Sink.out c.obey.new.out; failed = g.W.Sink.failed c.obey.new.out })
+      (Err f)) c.in-WriteFault.is c.in-Err.ensures.answer),
 )
 
 pub returns-in_default-clause-ok : goal.returns-in_default-clause-ok
@@ -21,7 +24,8 @@ returns-in_default-clause-ok g c =
     let mid = g.W.Sink.out c.obey.new.out in
     let now = g.W.Sink.out c.tell_fault.new.out in
     IfOk-weaker c.tell_fault.result _ _ (λ done out.
-    heard_refused c.args.debugger.now c.obey.new.self c.args.command c.requires.well before mid (g.W.Sink.failed c.obey.new.out) c.in-Err.fault c.in_default.not-WriteFault c.in-Err.ensures.answer now (g.W.Sink.failed c.tell_fault.new.out)
+    heard_refused c.args.debugger.now c.obey.new.self c.args.command c.requires.well before mid
+    (g.W.Sink.failed c.obey.new.out) c.in-Err.fault c.in_default.not-WriteFault c.in-Err.ensures.answer now (g.W.Sink.failed c.tell_fault.new.out)
     out)
     c.tell_fault.ensures.ok
 
@@ -33,7 +37,7 @@ returns-in_default-clause-err g c =
     let then = g.W.Sink.failed c.tell_fault.new.out in
     IfErr-weaker c.tell_fault.result _ _ (λ why cut. (
       cut.0,
-      heard_refused_part c.args.debugger.now c.obey.new.self c.args.command c.requires.well before mid (g.W.Sink.failed c.obey.new.out) c.in-Err.fault c.in_default.not-WriteFault c.in-Err.ensures.answer now then
-          cut.1,
+      heard_refused_part c.args.debugger.now c.obey.new.self c.args.command c.requires.well before mid
+          (g.W.Sink.failed c.obey.new.out) c.in-Err.fault c.in_default.not-WriteFault c.in-Err.ensures.answer now then cut.1,
     ))
     c.tell_fault.ensures.err

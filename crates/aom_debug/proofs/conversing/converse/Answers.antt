@@ -25,9 +25,10 @@ loop-preserved g c =
     let buffer = c.get.new.buffer in
     let count = c.in-Some.count in
     record {
-      talked = talked_on c.args.debugger.now c.loop.debugger c.loop.pending c.loop.counter (g.R.Reader.given c.args.reader.now) (g.R.Reader.given c.loop.reader) (g.W.Sink.out c.args.out.now) (g.W.Sink.out c.loop.out) c.loop.invariant.talked
-          c.hear.new.debugger c.hear.new.pending (take count buffer) (g.R.Reader.given c.get.new.self) (g.W.Sink.out c.hear.new.out) (some_taken buffer count (length c.loop.buffer) c.in-Some.ensures.within c.in-Some.ensures.long c.in-Some.count-test.1)
-          c.in-Some.ensures.gives c.in_ok-hear-in-Some.ensures.ok;
+      talked = talked_on c.args.debugger.now c.loop.debugger c.loop.pending c.loop.counter (g.R.Reader.given c.args.reader.now) (g.R.Reader.given c.loop.reader)
+          (g.W.Sink.out c.args.out.now) (g.W.Sink.out c.loop.out) c.loop.invariant.talked c.hear.new.debugger c.hear.new.pending
+          (take count buffer) (g.R.Reader.given c.get.new.self) (g.W.Sink.out c.hear.new.out) (some_taken buffer count (length c.loop.buffer)
+          c.in-Some.ensures.within c.in-Some.ensures.long c.in-Some.count-test.1) c.in-Some.ensures.gives c.in_ok-hear-in-Some.ensures.ok;
       lives = c.in-Some.ensures.lives ∙ c.loop.invariant.lives;
       long = c.in-Some.ensures.long ∙ c.loop.invariant.long;
       well = c.in_ok-hear-in-Some.ensures.well;
@@ -39,8 +40,9 @@ pub returns-in-None-clause-err : goal.returns-in-None-clause-err
 returns-in-None-clause-err g c =
     inl (
       refl,
-      talked_fails c.args.debugger.now c.loop.debugger c.loop.pending c.loop.counter (g.R.Reader.given c.args.reader.now) (g.R.Reader.given c.loop.reader) (g.W.Sink.out c.args.out.now) (g.W.Sink.out c.loop.out) c.loop.invariant.talked c.args.reads
-          (g.R.Reader.given c.get.new.self) (g.R.Reader.ended c.get.new.self) (g.R.Reader.failed c.args.reader.now) (g.R.Reader.failed c.get.new.self) c.in-None.ensures.fails.0 c.in-None.ensures.fails.1,
+      talked_fails c.args.debugger.now c.loop.debugger c.loop.pending c.loop.counter (g.R.Reader.given c.args.reader.now) (g.R.Reader.given c.loop.reader)
+          (g.W.Sink.out c.args.out.now) (g.W.Sink.out c.loop.out) c.loop.invariant.talked c.args.reads (g.R.Reader.given c.get.new.self) (g.R.Reader.ended
+          c.get.new.self) (g.R.Reader.failed c.args.reader.now) (g.R.Reader.failed c.get.new.self) c.in-None.ensures.fails.0 c.in-None.ensures.fails.1,
     )
 
 pub returns-in-Some-eq0-clause-ok : goal.returns-in-Some-eq0-clause-ok
@@ -49,16 +51,20 @@ returns-in-Some-eq0-clause-ok g c =
     let gives = c.in-Some-eq0.ensures.gives ∙ ap (λ n. after (g.R.Reader.given c.loop.reader) (take n c.get.new.buffer)) zero in
     let ended = c.in-Some-eq0.ensures.ends (ap (λ (n : ℕ). Some n) zero) (omega (arith, c.loop.invariant.long)) in
     IfOk-weaker c.end.result _ _ (λ done ends.
-    talked_ends c.args.debugger.now c.loop.debugger c.loop.pending c.loop.counter (g.R.Reader.given c.args.reader.now) (g.R.Reader.given c.loop.reader) (g.W.Sink.out c.args.out.now) (g.W.Sink.out c.loop.out) c.loop.invariant.talked
-    (g.R.Reader.given c.get.new.self) (g.W.Sink.out c.end.new.out) (g.R.Reader.ended c.get.new.self) (g.R.Reader.failed c.args.reader.now) (g.R.Reader.failed c.get.new.self) gives ended (c.in-Some-eq0.ensures.lives ∙ c.loop.invariant.lives) ends) c.end.ensures.ok
+    talked_ends c.args.debugger.now c.loop.debugger c.loop.pending c.loop.counter
+    (g.R.Reader.given c.args.reader.now) (g.R.Reader.given c.loop.reader) (g.W.Sink.out c.args.out.now) (g.W.Sink.out c.loop.out) c.loop.invariant.talked
+    (g.R.Reader.given c.get.new.self) (g.W.Sink.out c.end.new.out) (g.R.Reader.ended c.get.new.self) (g.R.Reader.failed c.args.reader.now)
+    (g.R.Reader.failed c.get.new.self) gives ended (c.in-Some-eq0.ensures.lives ∙ c.loop.invariant.lives) ends) c.end.ensures.ok
 
 pub returns-in-Some-eq0-clause-err : goal.returns-in-Some-eq0-clause-err
 returns-in-Some-eq0-clause-err g c =
     let gives = c.in-Some-eq0.ensures.gives ∙ ap (λ n. after (g.R.Reader.given c.loop.reader) (take n c.get.new.buffer)) c.in-Some-eq0.field-0-test in
     IfErr-weaker c.end.result _ _ (λ why breaks. inr (
       breaks.0,
-      talked_breaks c.args.debugger.now c.loop.debugger c.loop.pending c.loop.counter (g.R.Reader.given c.args.reader.now) (g.R.Reader.given c.loop.reader) (g.W.Sink.out c.args.out.now) (g.W.Sink.out c.loop.out) c.loop.invariant.talked
-          [] (g.R.Reader.given c.get.new.self) (g.W.Sink.out c.end.new.out) (g.R.Reader.ended c.get.new.self) (g.R.Reader.failed c.args.reader.now) (g.R.Reader.failed c.get.new.self) (g.W.Sink.failed c.end.new.out) gives breaks.1,
+      talked_breaks c.args.debugger.now c.loop.debugger c.loop.pending c.loop.counter
+          (g.R.Reader.given c.args.reader.now) (g.R.Reader.given c.loop.reader) (g.W.Sink.out c.args.out.now) (g.W.Sink.out c.loop.out) c.loop.invariant.talked
+          [] (g.R.Reader.given c.get.new.self) (g.W.Sink.out c.end.new.out) (g.R.Reader.ended c.get.new.self)
+          (g.R.Reader.failed c.args.reader.now) (g.R.Reader.failed c.get.new.self) (g.W.Sink.failed c.end.new.out) gives breaks.1,
     )) c.end.ensures.err
 
 pub returns-in_err-hear-in-Some-clause-err : goal.returns-in_err-hear-in-Some-clause-err
@@ -66,15 +72,17 @@ returns-in_err-hear-in-Some-clause-err g c =
     let e = err_from_is_err_and c.from_residual.result c.from_residual.ensures.1 in
     rw e.1 (inr (
       e.2 ∙ c.in_err-hear-in-Some.ensures.err.0,
-      talked_breaks c.args.debugger.now c.loop.debugger c.loop.pending c.loop.counter (g.R.Reader.given c.args.reader.now) (g.R.Reader.given c.loop.reader) (g.W.Sink.out c.args.out.now) (g.W.Sink.out c.loop.out) c.loop.invariant.talked
-          (take c.in-Some.count c.get.new.buffer) (g.R.Reader.given c.get.new.self) (g.W.Sink.out c.hear.new.out) (g.R.Reader.ended c.get.new.self) (g.R.Reader.failed c.args.reader.now) (g.R.Reader.failed c.get.new.self) (g.W.Sink.failed c.hear.new.out)
-          c.in-Some.ensures.gives c.in_err-hear-in-Some.ensures.err.1,
+      talked_breaks c.args.debugger.now c.loop.debugger c.loop.pending c.loop.counter (g.R.Reader.given c.args.reader.now) (g.R.Reader.given c.loop.reader)
+          (g.W.Sink.out c.args.out.now) (g.W.Sink.out c.loop.out) c.loop.invariant.talked (take c.in-Some.count c.get.new.buffer)
+          (g.R.Reader.given c.get.new.self) (g.W.Sink.out c.hear.new.out) (g.R.Reader.ended c.get.new.self) (g.R.Reader.failed c.args.reader.now)
+          (g.R.Reader.failed c.get.new.self) (g.W.Sink.failed c.hear.new.out) c.in-Some.ensures.gives c.in_err-hear-in-Some.ensures.err.1,
     ))
 
 pub returns-clause-err : goal.returns-clause-err
 returns-clause-err g c =
     inl (
       refl,
-      talked_stops c.args.debugger.now c.loop.debugger c.loop.pending c.loop.counter (g.R.Reader.given c.args.reader.now) (g.R.Reader.given c.loop.reader) (g.W.Sink.out c.args.out.now) (g.W.Sink.out c.loop.out) c.loop.invariant.talked
+      talked_stops c.args.debugger.now c.loop.debugger c.loop.pending c.loop.counter
+          (g.R.Reader.given c.args.reader.now) (g.R.Reader.given c.loop.reader) (g.W.Sink.out c.args.out.now) (g.W.Sink.out c.loop.out) c.loop.invariant.talked
           c.args.reads (g.R.Reader.ended c.loop.reader) (g.R.Reader.failed c.args.reader.now) (g.R.Reader.failed c.loop.reader) c.loop-test.false,
     )

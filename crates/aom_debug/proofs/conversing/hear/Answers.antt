@@ -28,8 +28,10 @@ loop-byte-preserved g c =
       | then-byte-eq10+in_ok-obey w ↦
           rw (w.debugger-is, w.pending-is, w.out-is)
           (record {
-            goes = goes_line c.args.debugger.now c.loop-byte.debugger first c.loop-byte.pending here mid (take i bytes) (take (i + 1) bytes) byte (up_to bytes i c.loop-byte-test.true) far.goes w.obey.new.debugger w.take_named-said.new.pending (g.W.Sink.out w.obey.new.out)
-                (g.W.Sink.failed w.obey.new.out) w.take_named-said.result (eq-eqb byte 10 w.if-byte-eq10.true) w.take_named-said.ensures.anew w.take_named-said.ensures.said w.obey.ensures.keeps w.in_ok-obey.ensures.ok;
+            goes = goes_line c.args.debugger.now c.loop-byte.debugger first c.loop-byte.pending here mid (take i bytes) (take (i + 1) bytes) byte
+                (up_to bytes i c.loop-byte-test.true) far.goes w.obey.new.debugger w.take_named-said.new.pending (g.W.Sink.out w.obey.new.out)
+                (g.W.Sink.failed w.obey.new.out) w.take_named-said.result (eq-eqb byte 10 w.if-byte-eq10.true)
+                w.take_named-said.ensures.anew w.take_named-said.ensures.said w.obey.ensures.keeps w.in_ok-obey.ensures.ok;
             well = w.in_ok-obey.ensures.ok.well;
             ready = w.obey.ensures.keeps.ready;
             agree = w.obey.ensures.agree;
@@ -37,7 +39,8 @@ loop-byte-preserved g c =
       | else-byte-eq10 w ↦
           rw (w.debugger-is, w.pending-is, w.out-is)
           (record {
-            goes = goes_byte c.args.debugger.now c.loop-byte.debugger first c.loop-byte.pending here mid (take i bytes) (take (i + 1) bytes) byte (up_to bytes i c.loop-byte-test.true) far.goes w.add.new.self (ne_eqb byte 10 w.if-byte-eq10.false) w.add.ensures;
+            goes = goes_byte c.args.debugger.now c.loop-byte.debugger first c.loop-byte.pending here mid (take i bytes)
+                (take (i + 1) bytes) byte (up_to bytes i c.loop-byte-test.true) far.goes w.add.new.self (ne_eqb byte 10 w.if-byte-eq10.false) w.add.ensures;
             well = far.well;
             ready = far.ready;
             agree = far.agree;
@@ -52,10 +55,13 @@ returns-in_err-obey-clause-err g c =
     let e = err_from_is_err_and c.from_residual.result c.from_residual.ensures.1 in
     rw e.1 (
       e.2 ∙ c.in_err-obey.ensures.err.0,
-      breaks_in_line c.args.debugger.now c.loop-byte.debugger c.args.pending.now c.loop-byte.pending (g.W.Sink.out c.args.out.now) (g.W.Sink.out c.loop-byte.out) (take i bytes) (drop (i + 1) bytes) bytes byte (from_on bytes i c.loop-byte-test.true)
-          c.loop-byte.invariant.goes (g.W.Sink.out c.obey.new.out) (g.W.Sink.failed c.obey.new.out) c.take_named-said.result (eq-eqb byte 10 c.if-byte-eq10.true) c.take_named-said.ensures.said c.in_err-obey.ensures.err.1,
+      breaks_in_line c.args.debugger.now c.loop-byte.debugger c.args.pending.now c.loop-byte.pending
+          (g.W.Sink.out c.args.out.now) (g.W.Sink.out c.loop-byte.out) (take i bytes) (drop (i + 1) bytes) bytes byte (from_on bytes i c.loop-byte-test.true)
+          c.loop-byte.invariant.goes (g.W.Sink.out c.obey.new.out) (g.W.Sink.failed c.obey.new.out) c.take_named-said.result
+          (eq-eqb byte 10 c.if-byte-eq10.true) c.take_named-said.ensures.said c.in_err-obey.ensures.err.1,
     )
 
 pub returns-clause-ok : goal.returns-clause-ok
-returns-clause-ok g c =
-    goes_all c.args.debugger.now c.loop-byte.debugger c.args.pending.now c.loop-byte.pending (g.W.Sink.out c.args.out.now) (g.W.Sink.out c.loop-byte.out) (take c.loop-byte.byte-index c.args.bytes.now) c.args.bytes.now (take_all c.loop-byte.byte-index c.args.bytes.now (omega (arith, c.loop-byte-test.false))) c.loop-byte.invariant.goes
+returns-clause-ok g c = goes_all c.args.debugger.now c.loop-byte.debugger c.args.pending.now c.loop-byte.pending
+    (g.W.Sink.out c.args.out.now) (g.W.Sink.out c.loop-byte.out) (take c.loop-byte.byte-index c.args.bytes.now) c.args.bytes.now
+    (take_all c.loop-byte.byte-index c.args.bytes.now (omega (arith, c.loop-byte-test.false))) c.loop-byte.invariant.goes

@@ -13,7 +13,8 @@ pub returns-in-Some-clause-err : goal.returns-in-Some-clause-err
 returns-in-Some-clause-err g c = rw (c.in-Ok.is, c.in-Some.is) c.command_done.ensures.err
 
 pub returns-in-Err-clause-ok : goal.returns-in-Err-clause-ok
-returns-in-Err-clause-ok g c = rw c.in-Err.is (IfOk-weaker c.tell_fault.result _ _ (λ done out. heard_fault c.args.debugger.now c.in-Err.fault (g.W.Sink.out c.args.out.now) (g.W.Sink.out c.tell_fault.new.out) (g.W.Sink.failed c.tell_fault.new.out) c.requires.well out) c.tell_fault.ensures.ok)
+returns-in-Err-clause-ok g c = rw c.in-Err.is (IfOk-weaker c.tell_fault.result _ _ (λ done out. heard_fault c.args.debugger.now c.in-Err.fault
+    (g.W.Sink.out c.args.out.now) (g.W.Sink.out c.tell_fault.new.out) (g.W.Sink.failed c.tell_fault.new.out) c.requires.well out) c.tell_fault.ensures.ok)
 
 pub returns-in-Err-clause-err : goal.returns-in-Err-clause-err
 returns-in-Err-clause-err g c = rw c.in-Err.is (IfErr-weaker c.tell_fault.result _ _ (λ why cut. (cut.0, heard_fault_part c.args.debugger.now c.in-Err.fault (g.W.Sink.out c.args.out.now) (g.W.Sink.out c.tell_fault.new.out) (g.W.Sink.failed c.tell_fault.new.out) cut.1)) c.tell_fault.ensures.err)

@@ -33,4 +33,5 @@ pub returns-in-Ok-new-clause-begun : goal.returns-in-Ok-new-clause-begun
 returns-in-Ok-new-clause-begun g c =
     let machine = c.args.machine in
     let new = c.in-Ok-new.ensures in
-    begun_of c.args.names c.args.accepted.now c.args.script c.args.limit (natives_of machine) machine c.requires.image c.requires.stands refl c.in-Ok-new.debugger _ new.machine new.given c.in-Ok.ensures.refused new.marks new.names
+    begun_of c.args.names c.args.accepted.now c.args.script c.args.limit (natives_of machine)
+    machine c.requires.image c.requires.stands refl c.in-Ok-new.debugger _ new.machine new.given c.in-Ok.ensures.refused new.marks new.names

@@ -9,10 +9,9 @@ use Rattle.aom_debug.proofs.Statuses.{broken_of, by_done, held_of, unbegun}
 use Rattle.aom_debug.proofs.debugging.debug_script.Goals as goal
 
 pub returns-in-Err : goal.returns-in-Err
-returns-in-Err g c =
-    λ bytes text spelled denotes errors status told.
-    unbegun c.args.names bytes text c.args.limit (length c.args.boxes.items) c.args.reads c.args.accepted.now c.args.script
-    (acceptable_of c.facts.ensures.linked c.facts.ensures.typed c.facts.ensures.budgets c.facts.ensures.within c.facts.ensures.high) spelled denotes _ _ errors c.in-Err.fault status c.in-Err.ensures.err refl refl told
+returns-in-Err g c = λ bytes text spelled denotes errors status told. unbegun c.args.names bytes text c.args.limit
+    (length c.args.boxes.items) c.args.reads c.args.accepted.now c.args.script (acceptable_of c.facts.ensures.linked c.facts.ensures.typed
+    c.facts.ensures.budgets c.facts.ensures.within c.facts.ensures.high) spelled denotes _ _ errors c.in-Err.fault status c.in-Err.ensures.err refl refl told
 
 pub returns-in-Ok : goal.returns-in-Ok
 returns-in-Ok g c =
@@ -23,6 +22,8 @@ returns-in-Ok g c =
     let d = c.in-Ok.debugger in
     let begun = c.in-Ok.ensures.begun in
     λ bytes text spelled denotes.
-    by_done (Untold (DebugAnswersBy c.args.names bytes text c.args.limit natives c.args.reads given out)) c.converse-told.result c.done.result c.done.ensures.ok c.done.ensures.err c.converse-told.ensures.ok c.converse-told.ensures.err
+    by_done (Untold (DebugAnswersBy c.args.names bytes text c.args.limit natives c.args.reads given out))
+    c.converse-told.result c.done.result c.done.ensures.ok c.done.ensures.err c.converse-told.ensures.ok c.converse-told.ensures.err
     (λ holds errors silent. held_of c.args.names bytes text c.args.limit natives c.args.reads c.args.accepted.now c.args.script acceptable spelled denotes given out errors d begun holds silent)
-    (λ fault why errors status told. broken_of c.args.names bytes text c.args.limit natives c.args.reads c.args.accepted.now c.args.script acceptable spelled denotes given out errors d begun fault status why told)
+    (λ fault why errors status told. broken_of c.args.names bytes
+    text c.args.limit natives c.args.reads c.args.accepted.now c.args.script acceptable spelled denotes given out errors d begun fault status why told)

@@ -8,14 +8,19 @@ pub returns-in-Ok-clause-ok : goal.returns-in-Ok-clause-ok
 returns-in-Ok-clause-ok g c =
     let m = c.args.machine.now.core in
     let told = rw (c.parts.ensures.parts, c.linked.ensures, c.accepted.ensures) at c.next_of.ensures in
-    IfOk-weaker c.tell_by.result _ _ (λ done out. place_told c.args.names.now m c.as_bytes.result.now (c.as_bytes.ensures ∙ c.end_page-page.ensures) (g.W.Sink.out c.args.out.now) (g.W.Sink.out c.send.new.out) (g.W.Sink.out c.tell_by.new.out) c.next_of.result told c.in-Ok.ensures.ok out) c.tell_by.ensures.ok
+    IfOk-weaker c.tell_by.result _ _
+    (λ done out. place_told c.args.names.now m c.as_bytes.result.now (c.as_bytes.ensures ∙ c.end_page-page.ensures) (g.W.Sink.out c.args.out.now)
+    (g.W.Sink.out c.send.new.out) (g.W.Sink.out c.tell_by.new.out) c.next_of.result told c.in-Ok.ensures.ok out) c.tell_by.ensures.ok
 
 pub returns-in-Ok-clause-err : goal.returns-in-Ok-clause-err
 returns-in-Ok-clause-err g c =
     let m = c.args.machine.now.core in
     let told = rw (c.parts.ensures.parts, c.linked.ensures, c.accepted.ensures) at c.next_of.ensures in
-    IfErr-weaker c.tell_by.result _ _ (λ fault cut. place_cut_later c.args.names.now m c.as_bytes.result.now (c.as_bytes.ensures ∙ c.end_page-page.ensures) (g.W.Sink.out c.args.out.now) (g.W.Sink.out c.send.new.out) (g.W.Sink.out c.tell_by.new.out) c.next_of.result told c.in-Ok.ensures.ok fault (g.W.Sink.failed c.tell_by.new.out) cut) c.tell_by.ensures.err
+    IfErr-weaker c.tell_by.result _ _ (λ fault cut. place_cut_later c.args.names.now m c.as_bytes.result.now
+    (c.as_bytes.ensures ∙ c.end_page-page.ensures) (g.W.Sink.out c.args.out.now) (g.W.Sink.out c.send.new.out)
+    (g.W.Sink.out c.tell_by.new.out) c.next_of.result told c.in-Ok.ensures.ok fault (g.W.Sink.failed c.tell_by.new.out) cut) c.tell_by.ensures.err
 
 pub returns-in-Err-clause-err : goal.returns-in-Err-clause-err
 returns-in-Err-clause-err g c =
-    place_cut c.args.names.now c.args.machine.now.core c.as_bytes.result.now (c.as_bytes.ensures ∙ c.end_page-page.ensures) (g.W.Sink.out c.args.out.now) (g.W.Sink.out c.send.new.out) (g.W.Sink.out c.send.new.out) c.in-Err.fault (g.W.Sink.failed c.send.new.out) c.in-Err.ensures.err
+    place_cut c.args.names.now c.args.machine.now.core c.as_bytes.result.now (c.as_bytes.ensures ∙ c.end_page-page.ensures) (g.W.Sink.out c.args.out.now)
+    (g.W.Sink.out c.send.new.out) (g.W.Sink.out c.send.new.out) c.in-Err.fault (g.W.Sink.failed c.send.new.out) c.in-Err.ensures.err

@@ -9,5 +9,6 @@ use Rattle.aom_debug_paths.proofs.following.owned_at.Given as goal
 abbrev pub invariant-loop-branch : goal.invariant-loop-branch
 invariant-loop-branch l = record {
   alive : IsAlive l.parts l.holding;
-  held : (s : State) → StandsFor (record { image = l.accepted; parts = l.parts }) s → IsHeld s (fold (onward s.cells) (held_in s.cells (outer_place s l.path.outer)) (take l.branch-index l.path.branches)) l.holding;
+  held : (s : State) → StandsFor (record { image = l.accepted; parts = l.parts }) s →
+      IsHeld s (fold (onward s.cells) (held_in s.cells (outer_place s l.path.outer)) (take l.branch-index l.path.branches)) l.holding;
 }

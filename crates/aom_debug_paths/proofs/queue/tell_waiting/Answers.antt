@@ -24,12 +24,15 @@ returns-in_err-tell_any-clause-err g c =
     let less = c.loop-ahead-test.true in
     let many = c.queued-ahead-end.ensures in
     rw (error.1, error.2)
-    (λ p. part_same (record { image = p; parts = k }) (λ s. answers_text (gathered (entry_lines k n) (length (queue_at k.clients n)))) (λ s. answers_text (waiting_lines (service_of s.cells n).queue)) (λ s st. ap answers_text (queue_told p k s st n)) _ _ _ _
-    (tells_part of_answer (record { image = p; parts = k }) (λ s. entry_lines k n) (λ s. length (queue_at k.clients n)) c.loop-ahead.ahead _ _ _ (listed c.waiting_answer.result) _ _ (c.loop-ahead.invariant p)
+    (λ p. part_same (record { image = p; parts = k }) (λ s. answers_text (gathered (entry_lines k n) (length (queue_at k.clients n))))
+    (λ s. answers_text (waiting_lines (service_of s.cells n).queue)) (λ s st. ap answers_text (queue_told p k s st n)) _ _ _ _
+    (tells_part of_answer (record { image = p; parts = k })
+    (λ s. entry_lines k n) (λ s. length (queue_at k.clients n)) c.loop-ahead.ahead _ _ _ (listed c.waiting_answer.result) _ _ (c.loop-ahead.invariant p)
     (λ s st. ap listed c.waiting_answer.ensures) (λ s st. omega (arith, less, many)) c.in_err-tell_any.ensures.err))
 
 pub loop-ahead-preserved : goal.loop-ahead-preserved
-loop-ahead-preserved g c = λ p. tells_next of_answer (record { image = p; parts = c.args.parts.now }) (λ s. entry_lines c.args.parts.now c.args.server) c.loop-ahead.ahead _ _ _ (listed c.waiting_answer.result) (c.loop-ahead.invariant p)
+loop-ahead-preserved g c = λ p. tells_next of_answer (record { image = p; parts = c.args.parts.now })
+    (λ s. entry_lines c.args.parts.now c.args.server) c.loop-ahead.ahead _ _ _ (listed c.waiting_answer.result) (c.loop-ahead.invariant p)
     (λ s st. ap listed c.waiting_answer.ensures) c.in_ok-tell_any.ensures.ok
 
 pub returns-clause-ok : goal.returns-clause-ok
@@ -39,5 +42,7 @@ returns-clause-ok g c =
     let most = c.loop-ahead.auto.ahead-end in
     let least = c.loop-ahead-test.false in
     let many = c.queued-ahead-end.ensures in
-    λ p. tells_same (record { image = p; parts = k }) (λ s. answers_text (gathered (entry_lines k n) (length (queue_at k.clients n)))) (λ s. answers_text (waiting_lines (service_of s.cells n).queue)) (λ s st. ap answers_text (queue_told p k s st n)) _ _
-    (tells_all of_answer (record { image = p; parts = k }) (λ s. entry_lines k n) (λ s. length (queue_at k.clients n)) c.loop-ahead.ahead _ _ (c.loop-ahead.invariant p) (λ s st. omega (arith, most, least, many)))
+    λ p. tells_same (record { image = p; parts = k }) (λ s. answers_text (gathered (entry_lines k n) (length (queue_at k.clients n))))
+    (λ s. answers_text (waiting_lines (service_of s.cells n).queue)) (λ s st. ap answers_text (queue_told p k s st n)) _ _
+    (tells_all of_answer (record { image = p; parts = k }) (λ s. entry_lines k n)
+    (λ s. length (queue_at k.clients n)) c.loop-ahead.ahead _ _ (c.loop-ahead.invariant p) (λ s st. omega (arith, most, least, many)))

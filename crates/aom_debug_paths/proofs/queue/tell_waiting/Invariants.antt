@@ -5,4 +5,5 @@ use Rattle.aom_debug_paths.proofs.Queues.{entry_lines}
 use Rattle.aom_debug_paths.proofs.queue.tell_waiting.Given as goal
 
 abbrev pub invariant-loop-ahead : goal.invariant-loop-ahead
-invariant-loop-ahead g l = (p : Image) → Tells (record { image = p; parts = l.parts }) (λ s. answers_text (gathered (entry_lines l.parts l.server) l.ahead)) (g.W.Sink.out l.initial.out) (g.W.Sink.out l.out)
+invariant-loop-ahead g l = (p : Image) → Tells (record { image = p; parts = l.parts })
+    (λ s. answers_text (gathered (entry_lines l.parts l.server) l.ahead)) (g.W.Sink.out l.initial.out) (g.W.Sink.out l.out)

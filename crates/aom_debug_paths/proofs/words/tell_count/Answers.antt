@@ -21,7 +21,8 @@ pub returns-in_err-tell_any-clause-err : goal.returns-in_err-tell_any-clause-err
 returns-in_err-tell_any-clause-err g c =
     let error = err_from_is_err_and c.from_residual.result c.from_residual.ensures.1 in
     let w = c.loop-word.word in
-    rw (error.1, error.2) (λ p. tells_part of_answer (record { image = p; parts = c.args.parts.now }) (told c.args.cell) (λ s. c.args.count) w _ _ _ (listed c.word_answer.result) _ _ (c.loop-word.invariant p)
+    rw (error.1, error.2) (λ p. tells_part of_answer (record { image = p; parts = c.args.parts.now })
+    (told c.args.cell) (λ s. c.args.count) w _ _ _ (listed c.word_answer.result) _ _ (c.loop-word.invariant p)
     (λ s st. ap listed (c.word_answer.ensures p s st)) (λ s st. c.loop-word-test.true) c.in_err-tell_any.ensures.err)
 
 pub loop-word-preserved : goal.loop-word-preserved

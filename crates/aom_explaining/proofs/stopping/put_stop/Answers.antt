@@ -21,7 +21,8 @@ pub returns-in-Some : goal.returns-in-Some
 returns-in-Some c =
     let stop = c.args.stop.now in
     let so : stop.why ≡ c.args.why = same_why stop.why c.args.why (eqb-true (why_number stop.why) (why_number c.args.why) (sym c.is_same_why.ensures ∙ c.if-is_same_why.true)) in
-    IfOk-weaker c.put_state.result _ _ (λ done put. told_there c.args.linked.now c.args.method c.args.place c.args.why c.args.out.now stop.sheet stop.place stop.why c.requires.stops c.in-Some.shape _ c.if-stop-place.false so c.in-Some.ensures put) c.put_state.ensures
+    IfOk-weaker c.put_state.result _ _ (λ done put. told_there c.args.linked.now c.args.method c.args.place c.args.why
+    c.args.out.now stop.sheet stop.place stop.why c.requires.stops c.in-Some.shape _ c.if-stop-place.false so c.in-Some.ensures put) c.put_state.ensures
 
 pub returns-in-None : goal.returns-in-None
 returns-in-None c =

@@ -24,4 +24,5 @@ returns-in-Ok c =
 pub returns-in-Err : goal.returns-in-Err
 returns-in-Err c =
     let there = has_instr c.args.linked.now c.args.method c.args.place c.method.result.now c.method.ensures (omega (arith, c.if-len-place.false, c.len.ensures)) in
-    ap not c.is_same_why.ensures ∙ rule_differs c.args.linked.now c.args.method c.args.place c.args.shape.now c.args.why (omega (arith, c.if-height-ge-MOST_ENTRIES.false, c.height.ensures)) (Err _) there c.in-Err.ensures
+    ap not c.is_same_why.ensures ∙ rule_differs c.args.linked.now c.args.method c.args.place c.args.shape.now c.args.why
+    (omega (arith, c.if-height-ge-MOST_ENTRIES.false, c.height.ensures)) (Err _) there c.in-Err.ensures

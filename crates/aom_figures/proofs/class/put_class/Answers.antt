@@ -18,4 +18,5 @@ returns c =
     let parent = parent_text c.args.class class.parent in
     let ended = then text _ _ (heading ++ color) line_end (then text _ _ heading color c.in_ok-put_class_heading.ensures colored) c.in_ok-words.ensures in
     let front = then text _ _ line parent ended c.in_ok-put_parent.ensures in
-    IfOk-weaker c.put_fields.result _ _ (λ r written. then text _ _ (line ++ parent) (fields_text c.args.class class.fields) front (written ∙ ap (λ fs. c.put_parent.new.out ++ fields_text c.args.class fs) c.as_slice.ensures)) c.put_fields.ensures
+    IfOk-weaker c.put_fields.result _ _ (λ r written. then text _ _ (line ++ parent) (fields_text c.args.class class.fields) front
+    (written ∙ ap (λ fs. c.put_parent.new.out ++ fields_text c.args.class fs) c.as_slice.ensures)) c.put_fields.ensures

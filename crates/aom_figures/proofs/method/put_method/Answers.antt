@@ -21,4 +21,5 @@ returns c =
     let ended = then text _ _ (heading ++ figures ++ color) line_end before c.in_ok-words.ensures in
     let over = over_text number c.args.method.now.over in
     let front = then text _ _ line over ended c.in_ok-put_over.ensures in
-    IfOk-weaker c.put_code.result _ _ (λ r written. then text _ _ (line ++ over) (code_text number c.args.method.now.code) front (written ∙ ap (λ is. c.put_over.new.out ++ code_text number is) c.as_slice.ensures)) c.put_code.ensures
+    IfOk-weaker c.put_code.result _ _ (λ r written. then text _ _ (line ++ over)
+    (code_text number c.args.method.now.code) front (written ∙ ap (λ is. c.put_over.new.out ++ code_text number is) c.as_slice.ensures)) c.put_code.ensures

@@ -12,8 +12,8 @@ loop-init c =
     begins c.args.linked.now c.args.figures.now.prices c.len-count.result c.main-at.result c.args.out.now c.main-at.ensures count
 
 pub loop-preserved : goal.loop-preserved
-loop-preserved c =
-    goes_on c.args.linked.now c.args.figures.now.prices _ c.loop.counter _ c.in-Some.edge _ _ _ c.loop-test.true (sym c.in-Some.is ∙ c.dearest_of.ensures) c.in_ok-put_bold-in-Some.ensures c.loop.invariant
+loop-preserved c = goes_on c.args.linked.now c.args.figures.now.prices _ c.loop.counter _ c.in-Some.edge _ _ _ c.loop-test.true
+    (sym c.in-Some.is ∙ c.dearest_of.ensures) c.in_ok-put_bold-in-Some.ensures c.loop.invariant
 
 pub returns : goal.returns
 returns c = over c.args.linked.now c.args.figures.now.prices _ _ _ _ _ (λ less. omega (arith, less, c.loop-test.false)) c.loop.invariant

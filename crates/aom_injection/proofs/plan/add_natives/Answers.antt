@@ -10,4 +10,5 @@ pub loop-native-preserved : goal.loop-native-preserved
 loop-native-preserved c =
     let n = c.loop-native.native in
     let end = c.min-count.result in
-    ap (λ (xs : List Victim). xs ++ map Native (below (n + 1) end)) c.in_ok-push.ensures.items ∙ push_on Native c.loop-native.victims.items _ n end (omega (arith, c.loop-native-test.true)) c.loop-native.invariant
+    ap (λ (xs : List Victim). xs ++ map Native (below (n + 1) end)) c.in_ok-push.ensures.items
+    ∙ push_on Native c.loop-native.victims.items _ n end (omega (arith, c.loop-native-test.true)) c.loop-native.invariant

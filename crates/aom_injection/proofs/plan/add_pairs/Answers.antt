@@ -14,7 +14,8 @@ loop-number-preserved c =
     let done = c.loop-number.pairs.items in
     let i = c.loop-number.invariant in
     let far = ap (λ (xs : List Injection). done ++ xs) (sym (pairs_step last n end (omega (arith, c.loop-number-test.true)))) ∙ i.far in
-    let on = grown_on done (pairs_with last n) (flat_map (pairs_with last) (below (n + 1) end)) _ c.add_pairs_with.new.pairs.items c.args.most c.in_ok-left.left (sym c.is_some.ensures ∙ c.if-is_some.false) c.in_ok-left.ensures far in
+    let on = grown_on done (pairs_with last n) (flat_map (pairs_with last) (below (n + 1) end)) _ c.add_pairs_with.new.pairs.items c.args.most c.in_ok-left.left
+    (sym c.is_some.ensures ∙ c.if-is_some.false) c.in_ok-left.ensures far in
     record { far = on.0; few = on.1 }
 
 pub returns-then-is_some : goal.returns-then-is_some
@@ -25,7 +26,8 @@ returns-then-is_some c =
     let done = c.loop-number.pairs.items in
     let i = c.loop-number.invariant in
     let far = ap (λ (xs : List Injection). done ++ xs) (sym (pairs_step last n end (omega (arith, c.loop-number-test.true)))) ∙ i.far in
-    grown_full done (pairs_with last n) (flat_map (pairs_with last) (below (n + 1) end)) _ c.add_pairs_with.new.pairs.items c.args.most c.in_ok-left.left (sym c.is_some.ensures ∙ c.if-is_some.true) c.in_ok-left.ensures far
+    grown_full done (pairs_with last n) (flat_map (pairs_with last) (below (n + 1) end)) _ c.add_pairs_with.new.pairs.items c.args.most c.in_ok-left.left
+    (sym c.is_some.ensures ∙ c.if-is_some.true) c.in_ok-left.ensures far
 
 pub returns : goal.returns
 returns c =

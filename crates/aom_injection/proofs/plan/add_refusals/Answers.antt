@@ -10,4 +10,5 @@ pub loop-number-preserved : goal.loop-number-preserved
 loop-number-preserved c =
     let n = c.loop-number.number in
     let end = c.min-last.result + 1 in
-    ap (λ (xs : List Injection). xs ++ map Refusal (below (n + 1) end)) c.in_ok-push.ensures.items ∙ push_on Refusal c.loop-number.injections.items _ n end (omega (arith, c.loop-number-test.true)) c.loop-number.invariant
+    ap (λ (xs : List Injection). xs ++ map Refusal (below (n + 1) end)) c.in_ok-push.ensures.items
+    ∙ push_on Refusal c.loop-number.injections.items _ n end (omega (arith, c.loop-number-test.true)) c.loop-number.invariant

@@ -7,7 +7,8 @@ use Rattle.aom_semantics.specs.Natives.{is_owed}
 use Rattle.aom_machine.specs.Serving.{serves_class}
 use Rattle.aom_machine.proofs.Served.{served_class, unserved_class}
 use Rattle.aom_machine.proofs.natives.is_engaged.Goals as goal
-use Rattle.aom_machine.proofs.natives.is_engaged.Goals.{else-not-is_pending-via-then-not-is_pending+else-not-is_open, else-not-is_pending-via-else-not-is_pending}
+use Rattle.aom_machine.proofs.natives.is_engaged.Goals.{else-not-is_pending-via-then-not-is_pending+else-not-is_open}
+use Rattle.aom_machine.proofs.natives.is_engaged.Goals.{else-not-is_pending-via-else-not-is_pending}
 
 pub returns-then-not-is_open : goal.returns-then-not-is_open
 returns-then-not-is_open c = λ asked queues stands.

@@ -15,8 +15,8 @@ loop-class-preserved c =
 pub returns-then-not-is_class_ordered : goal.returns-then-not-is_class_ordered
 returns-then-not-is_class_ordered c = (
   λ yes. absurd (false≢true yes),
-  λ each. absurd (false≢true (sym c.if-not-is_class_ordered.true
-      ∙ c.is_class_ordered.ensures.1 (each_at (ClassOrdered c.args.image.now) c.args.classes.now c.loop-class.class c.index-classes-class.result each c.loop-class-test.true c.index-classes-class.is))),
+  λ each. absurd (false≢true (sym c.if-not-is_class_ordered.true ∙ c.is_class_ordered.ensures.1 (each_at (ClassOrdered c.args.image.now)
+      c.args.classes.now c.loop-class.class c.index-classes-class.result each c.loop-class-test.true c.index-classes-class.is))),
 )
 
 pub returns : goal.returns

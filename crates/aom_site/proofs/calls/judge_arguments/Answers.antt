@@ -13,7 +13,8 @@ pub returns-in_err-judge_argument : goal.returns-in_err-judge_argument
 returns-in_err-judge_argument c =
     let p = err_from_is_err_and c.from_residual.result c.from_residual.ensures.1 in
     let fits : c.number-first.result + length c.args.arguments.now ≤ 16 = omega (arith, c.if-first-arguments.false, c.number-first.ensures.in_range) in
-    let failed = needs_failed c.args.linked.now c.args.shape.now c.args.arguments.now c.number-first.result c.loop-index.index c.index-arguments-index.result _ c.loop-index-test.true c.index-arguments-index.is (rw (← c.kind_at.ensures) (sym c.judge_argument.ensures ∙ c.in_err-judge_argument.was)) in
+    let failed = needs_failed c.args.linked.now c.args.shape.now c.args.arguments.now c.number-first.result c.loop-index.index c.index-arguments-index.result
+    _ c.loop-index-test.true c.index-arguments-index.is (rw (← c.kind_at.ensures) (sym c.judge_argument.ensures ∙ c.in_err-judge_argument.was)) in
     rw (p.1, p.2, ← c.number-first.ensures.value) (sym (rule_within c.args.linked.now c.args.shape.now c.args.arguments.now c.number-first.result fits ∙ c.loop-index.invariant ∙ failed))
 
 pub loop-index-init : goal.loop-index-init
@@ -22,10 +23,12 @@ loop-index-init c =
     ap (λ (k : ℕ). tested (each_argument c.args.linked.now c.args.shape.now c.args.arguments.now k)) none
 
 pub loop-index-preserved : goal.loop-index-preserved
-loop-index-preserved c =
-    c.loop-index.invariant ∙ needs_passed c.args.linked.now c.args.shape.now c.args.arguments.now c.number-first.result c.loop-index.index c.index-arguments-index.result _ c.loop-index-test.true c.index-arguments-index.is (rw (← c.kind_at.ensures) (sym c.judge_argument.ensures ∙ c.in_ok-judge_argument.was))
+loop-index-preserved c = c.loop-index.invariant
+    ∙ needs_passed c.args.linked.now c.args.shape.now c.args.arguments.now c.number-first.result c.loop-index.index c.index-arguments-index.result
+    _ c.loop-index-test.true c.index-arguments-index.is (rw (← c.kind_at.ensures) (sym c.judge_argument.ensures ∙ c.in_ok-judge_argument.was))
 
 pub returns : goal.returns
 returns c =
     let fits : c.number-first.result + length c.args.arguments.now ≤ 16 = omega (arith, c.if-first-arguments.false, c.number-first.ensures.in_range) in
-    rw (← c.number-first.ensures.value) (sym (rule_within c.args.linked.now c.args.shape.now c.args.arguments.now c.number-first.result fits ∙ c.loop-index.invariant ∙ needs_done c.args.linked.now c.args.shape.now c.args.arguments.now c.loop-index.index _ c.loop-index-test.false))
+    rw (← c.number-first.ensures.value) (sym (rule_within c.args.linked.now c.args.shape.now c.args.arguments.now c.number-first.result fits
+    ∙ c.loop-index.invariant ∙ needs_done c.args.linked.now c.args.shape.now c.args.arguments.now c.loop-index.index _ c.loop-index-test.false))

@@ -9,4 +9,5 @@ returns c =
     let m = c.args.method in
     let d = c.method-callee.result.now in
     let there = c.method-callee.ensures in
-    rw (class_there p m d there, role_there p m d there, before_there p m d there, ← c.resting-rested.ensures, ← c.is_construct.ensures) (c.only_if.ensures ∙ ap (only_if (not c.is_construct.result)) (c.contains.ensures tt))
+    rw (class_there p m d there, role_there p m d there, before_there p m d there, ← c.resting-rested.ensures, ← c.is_construct.ensures)
+    (c.only_if.ensures ∙ ap (only_if (not c.is_construct.result)) (c.contains.ensures tt))

@@ -22,7 +22,8 @@ returns-in-Destruct-clause-costs c =
     let set = is_set _ _ _ _ _ _ c.requires.method c.requires.costs.size c.requires.unset c.number.ensures.value c.set.ensures in
     record {
       size = set_size _ _ _ _ _ set;
-      called = called_now _ _ _ _ _ set (rw c.image.ensures at c.methods-formed.ensures.well_formed) _ _ _ _ c.image-2.ensures refl c.requires.costs.called c.raise_called.ensures.size c.raise_called.ensures.each;
+      called = called_now _ _ _ _ _ set (rw c.image.ensures at c.methods-formed.ensures.well_formed)
+          _ _ _ _ c.image-2.ensures refl c.requires.costs.called c.raise_called.ensures.size c.raise_called.ensures.each;
       cancelled = cancelled_still _ _ _ _ _ set _ c.method.ensures _ (λ other. destructs_not c.method.result.now other c.in-Destruct.is) c.requires.costs.cancelled;
       destroyed = c.raise_destroyed.ensures;
     }
@@ -32,7 +33,8 @@ returns-in-Cancel-clause-costs c =
     let set = is_set _ _ _ _ _ _ c.requires.method c.requires.costs.size c.requires.unset c.number.ensures.value c.set.ensures in
     record {
       size = set_size _ _ _ _ _ set;
-      called = called_now _ _ _ _ _ set (rw c.image.ensures at c.methods-formed.ensures.well_formed) _ _ _ _ c.image-2.ensures refl c.requires.costs.called c.raise_called.ensures.size c.raise_called.ensures.each;
+      called = called_now _ _ _ _ _ set (rw c.image.ensures at c.methods-formed.ensures.well_formed)
+          _ _ _ _ c.image-2.ensures refl c.requires.costs.called c.raise_called.ensures.size c.raise_called.ensures.each;
       cancelled = c.raise_cancel_costs.ensures;
       destroyed = destroyed_still _ _ _ _ _ set _ c.method.ensures _ (destructs_not c.method.result.now c.in-Cancel.is) c.requires.costs.destroyed;
     }
@@ -43,7 +45,8 @@ returns-in_default c =
     record {
       costs = record {
         size = set_size _ _ _ _ _ set;
-        called = called_now _ _ _ _ _ set (rw c.image.ensures at c.methods-formed.ensures.well_formed) _ _ _ _ c.image-2.ensures refl c.requires.costs.called c.raise_called.ensures.size c.raise_called.ensures.each;
+        called = called_now _ _ _ _ _ set (rw c.image.ensures at c.methods-formed.ensures.well_formed)
+            _ _ _ _ c.image-2.ensures refl c.requires.costs.called c.raise_called.ensures.size c.raise_called.ensures.each;
         cancelled = cancelled_still _ _ _ _ _ set _ c.method.ensures _ c.in_default.not-Cancel c.requires.costs.cancelled;
         destroyed = destroyed_still _ _ _ _ _ set _ c.method.ensures _ c.in_default.not-Destruct c.requires.costs.destroyed;
       };

@@ -37,8 +37,8 @@ pub returns-in-Err-clause-keeps : goal.returns-in-Err-clause-keeps
 returns-in-Err-clause-keeps g c = keeps_all c.args.self.now.mover c.requires.ready
 
 pub returns-in-Ok-Some-clause-answer : goal.returns-in-Ok-Some-clause-answer
-returns-in-Ok-Some-clause-answer g c =
-    subst (λ x. Heeds x c.args.self.now c.obey.new.self (record { before = g.W.Sink.out c.args.out.now; now = g.W.Sink.out c.obey.new.out; failed = g.W.Sink.failed c.obey.new.out }) c.obey.result) c.in-Ok-Some.ensures
+returns-in-Ok-Some-clause-answer g c = subst (λ x. Heeds x c.args.self.now c.obey.new.self (record
+    { before = g.W.Sink.out c.args.out.now; now = g.W.Sink.out c.obey.new.out; failed = g.W.Sink.failed c.obey.new.out }) c.obey.result) c.in-Ok-Some.ensures
     (rw c.in-Ok-Some.field-0-is c.obey.ensures.answer)
 
 pub returns-then-self-clause-answer : goal.returns-then-self-clause-answer

@@ -15,7 +15,8 @@ pub returns-in-Some-clause-agree : goal.returns-in-Some-clause-agree
 returns-in-Some-clause-agree g c = rw (marked_mover has_spot without_spot c.in-Some.spot c.args.self.now c.unset.new.self _ c.unset.result c.unset.ensures) c.requires.agree
 
 pub returns-in-Some-clause-keeps : goal.returns-in-Some-clause-keeps
-returns-in-Some-clause-keeps g c = rw (marked_mover has_spot without_spot c.in-Some.spot c.args.self.now c.unset.new.self _ c.unset.result c.unset.ensures) (keeps_all c.args.self.now.mover c.requires.ready)
+returns-in-Some-clause-keeps g c = rw (marked_mover has_spot without_spot c.in-Some.spot c.args.self.now c.unset.new.self _ c.unset.result c.unset.ensures)
+    (keeps_all c.args.self.now.mover c.requires.ready)
 
 pub returns-in-Some-clause-answer : goal.returns-in-Some-clause-answer
 returns-in-Some-clause-answer g c =

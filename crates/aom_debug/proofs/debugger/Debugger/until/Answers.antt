@@ -30,7 +30,9 @@ returns-in-Some-clause-keeps g c = c.go_by.ensures.keeps
 pub returns-in-Some-clause-answer : goal.returns-in-Some-clause-answer
 returns-in-Some-clause-answer g c =
     let named = rw (c.linked.ensures, c.accepted.ensures) at c.spot_named.ensures in
-    subst (λ o. GoesNamed o c.args.self.now c.go_by.new.self (record { before = g.W.Sink.out c.args.out.now; now = g.W.Sink.out c.go_by.new.out; failed = g.W.Sink.failed c.go_by.new.out }) c.go_by.result) (sym c.in-Some.is ∙ named) c.go_by.ensures.answer
+    subst (λ o. GoesNamed o c.args.self.now c.go_by.new.self
+    (record { before = g.W.Sink.out c.args.out.now; now = g.W.Sink.out c.go_by.new.out; failed = g.W.Sink.failed c.go_by.new.out }) c.go_by.result)
+    (sym c.in-Some.is ∙ named) c.go_by.ensures.answer
 
 pub returns-in-None-clause-agree : goal.returns-in-None-clause-agree
 returns-in-None-clause-agree g c = c.requires.agree

@@ -7,21 +7,21 @@ use Rattle.aom_debug_words.proofs.Marking.{none_has, none_kept, taken_has, taken
 use Rattle.aom_debug_words.proofs.breakpoints.Breakpoints.unset.Goals as goal
 
 pub returns-in-Some-clause-answer : goal.returns-in-Some-clause-answer
-returns-in-Some-clause-answer c =
-    let found : Some c.in-Some.index ≡ position (same_spot c.args.spot) c.args.self.now = c.in-Some.ensures.value ∙ ap (λ (xs : List Spot). position (same_spot c.args.spot) xs) (c.as_slice.ensures.value ∙ c.self.view_is) in
+returns-in-Some-clause-answer c = let found : Some c.in-Some.index ≡ position (same_spot c.args.spot) c.args.self.now =
+    c.in-Some.ensures.value ∙ ap (λ (xs : List Spot). position (same_spot c.args.spot) xs) (c.as_slice.ensures.value ∙ c.self.view_is) in
     sym (taken_has c.args.spot c.args.self.now c.in-Some.index (sym found))
 
 pub returns-in-Some-clause-spots : goal.returns-in-Some-clause-spots
-returns-in-Some-clause-spots c =
-    let found : Some c.in-Some.index ≡ position (same_spot c.args.spot) c.args.self.now = c.in-Some.ensures.value ∙ ap (λ (xs : List Spot). position (same_spot c.args.spot) xs) (c.as_slice.ensures.value ∙ c.self.view_is) in
+returns-in-Some-clause-spots c = let found : Some c.in-Some.index ≡ position (same_spot c.args.spot) c.args.self.now =
+    c.in-Some.ensures.value ∙ ap (λ (xs : List Spot). position (same_spot c.args.spot) xs) (c.as_slice.ensures.value ∙ c.self.view_is) in
     c.remove.ensures.items ∙ ap (λ (xs : List Spot). remove xs c.in-Some.index) c.self.view_is ∙ taken_is c.args.spot c.args.self.now c.in-Some.index (sym found)
 
 pub returns-in-None-clause-answer : goal.returns-in-None-clause-answer
-returns-in-None-clause-answer c =
-    let none : None ≡ position (same_spot c.args.spot) c.args.self.now = c.in-None.ensures.value ∙ ap (λ (xs : List Spot). position (same_spot c.args.spot) xs) (c.as_slice.ensures.value ∙ c.self.view_is) in
+returns-in-None-clause-answer c = let none : None ≡ position (same_spot c.args.spot) c.args.self.now =
+    c.in-None.ensures.value ∙ ap (λ (xs : List Spot). position (same_spot c.args.spot) xs) (c.as_slice.ensures.value ∙ c.self.view_is) in
     sym (none_has c.args.spot c.args.self.now (sym none))
 
 pub returns-in-None-clause-spots : goal.returns-in-None-clause-spots
-returns-in-None-clause-spots c =
-    let none : None ≡ position (same_spot c.args.spot) c.args.self.now = c.in-None.ensures.value ∙ ap (λ (xs : List Spot). position (same_spot c.args.spot) xs) (c.as_slice.ensures.value ∙ c.self.view_is) in
+returns-in-None-clause-spots c = let none : None ≡ position (same_spot c.args.spot) c.args.self.now =
+    c.in-None.ensures.value ∙ ap (λ (xs : List Spot). position (same_spot c.args.spot) xs) (c.as_slice.ensures.value ∙ c.self.view_is) in
     sym (none_kept c.args.spot c.args.self.now (none_has c.args.spot c.args.self.now (sym none)))

@@ -8,8 +8,8 @@ use Rattle.aom_natives.proofs.Ids.{takes-out}
 use Rattle.aom_natives.proofs.delay.DelayNative.cancel.Goals as goal
 
 pub unreachable-requires : goal.unreachable-requires
-unreachable-requires c =
-    let none : position (λ (e : Entry). c.args.id == e.id) c.args.self.now ≡ None = sym (ap (position (λ (e : Entry). c.args.id == e.id)) (c.as_slice.ensures.value ∙ c.self.view_is)) ∙ sym c.place_in.ensures ∙ c.in-None.is in
+unreachable-requires c = let none : position (λ (e : Entry). c.args.id == e.id) c.args.self.now ≡ None =
+    sym (ap (position (λ (e : Entry). c.args.id == e.id)) (c.as_slice.ensures.value ∙ c.self.view_is)) ∙ sym c.place_in.ensures ∙ c.in-None.is in
     owed-entry c.args.self.now c.args.id c.requires (find-none (λ (e : Entry). c.args.id == e.id) c.args.self.now none)
 
 -- the entry that is removed

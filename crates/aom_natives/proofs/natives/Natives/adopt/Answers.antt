@@ -12,7 +12,8 @@ loop-ids-preserved g c =
     let first : now.boxes.items ≡ c.remove-native.result ∷ c.remove-native.new.self.items =
     rw c.remove-native.ensures.items (front now.boxes.items c.remove-native.result (omega (arith, c.remove-native.ensures.len)) c.remove-native.ensures.value)
     in
-    let rooms : c.pop.new.self.items ++ c.in-Some.ids ∷ [] ≡ replicate (vec_len c.remove-native.new.self + 1) [] = sym popped ∙ now.invariant.rooms ∙ ap (λ n. replicate n []) (sym c.remove-native.ensures.len) in
+    let rooms : c.pop.new.self.items ++ c.in-Some.ids ∷ [] ≡ replicate (vec_len c.remove-native.new.self + 1) [] =
+    sym popped ∙ now.invariant.rooms ∙ ap (λ n. replicate n []) (sym c.remove-native.ensures.len) in
     let left = vec_len c.remove-native.new.self in
     let fresh : c.in-Some.ids ≡ [] = last-is [] c.in-Some.ids left c.pop.new.self.items rooms in
     let owe = subst (OweNothing (λ b. (goal.Native-dyn g (b.vtable, b.value)).owed b.value)) first now.invariant.owe in

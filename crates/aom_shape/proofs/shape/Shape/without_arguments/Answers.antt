@@ -9,8 +9,8 @@ loop-index-init c =
     ap (λ (k : ℕ). arguments_moved c.args.arguments.now k c.same-left.result) none
 
 pub loop-index-preserved : goal.loop-index-preserved
-loop-index-preserved c =
-    rw c.without_argument-left.ensures (c.loop-index.invariant ∙ moves_one c.args.arguments.now c.number-first.result c.loop-index.index c.index-arguments-index.result c.loop-index.left c.loop-index-test.true c.index-arguments-index.is)
+loop-index-preserved c = rw c.without_argument-left.ensures (c.loop-index.invariant ∙ moves_one c.args.arguments.now
+    c.number-first.result c.loop-index.index c.index-arguments-index.result c.loop-index.left c.loop-index-test.true c.index-arguments-index.is)
 
 pub returns : goal.returns
 returns c =

@@ -16,7 +16,8 @@ pub returns-in_err-judge_moved : goal.returns-in_err-judge_moved
 returns-in_err-judge_moved c =
     let p = err_from_is_err_and c.from_residual-in_err-judge_moved.result c.from_residual-in_err-judge_moved.ensures.1 in
     let there : method_at c.args.self.now.image c.args.call.now.method ≡ Some c.method-callee.result.now = rw (← c.self.view_is) c.method-callee.ensures in
-    rw (p.1, p.2) (sym ((call_decides c.args.self.now c.args.call.now c.method-callee.result.now there).rest_refused c.in_ok-moved.moved _ (sym c.given.ensures ∙ c.in_ok-moved.was) (sym c.judge_moved.ensures ∙ c.in_err-judge_moved.was)))
+    rw (p.1, p.2) (sym ((call_decides c.args.self.now c.args.call.now c.method-callee.result.now there).rest_refused c.in_ok-moved.moved _
+    (sym c.given.ensures ∙ c.in_ok-moved.was) (sym c.judge_moved.ensures ∙ c.in_err-judge_moved.was)))
 
 pub returns : goal.returns
 returns c =
@@ -25,6 +26,7 @@ returns c =
     let there : method_at site.image call.method ≡ Some c.method-callee.result.now = rw (← c.self.view_is) c.method-callee.ensures in
     let given = sym c.given.ensures ∙ c.in_ok-moved.was in
     let same = entries_kept site.image site.method site.shape call.target call.method call.first c.method-callee.result.now c.in_ok-moved.moved given in
-    let lasting : next_shape site.shape.entries c.while_called-lasting.result ≡ while_called call.target c.method-callee.result.now.class c.method-callee.result.now.after.0 c.in_ok-moved.moved = rw same c.while_called-lasting.ensures.value in
+    let lasting : next_shape site.shape.entries c.while_called-lasting.result ≡ while_called
+    call.target c.method-callee.result.now.class c.method-callee.result.now.after.0 c.in_ok-moved.moved = rw same c.while_called-lasting.ensures.value in
     rw (c.on.ensures site.shape.entries, c.brought.ensures site.shape.entries, lasting)
     (sym ((call_decides c.args.self.now c.args.call.now c.method-callee.result.now there).met c.in_ok-moved.moved _ given (sym c.judge_moved.ensures ∙ c.in_ok-judge_moved.was)))

@@ -15,11 +15,13 @@ pub returns-in_err-judge_all : goal.returns-in_err-judge_all
 returns-in_err-judge_all c =
     let p = err_from_is_err_and c.from_residual-in_err-judge_all.result c.from_residual-in_err-judge_all.ensures.1 in
     let site = c.args.self.now in
-    let left : tested (rule_left site.image site.method site.place site.shape c.args.a) ≡ c.judge_all.result = rw (← c.entries_done.ensures, ← c.result_moved-left.ensures, ← c.none_owns.ensures) (sym c.judge_all.ensures) in
+    let left : tested (rule_left site.image site.method site.place site.shape c.args.a) ≡ c.judge_all.result =
+    rw (← c.entries_done.ensures, ← c.result_moved-left.ensures, ← c.none_owns.ensures) (sym c.judge_all.ensures) in
     rw (p.1, p.2) (sym (left_refused site.image site.method site.place site.shape c.args.a _ _ (sym c.judge_result.ensures ∙ c.in_ok-judge_result.was) (left ∙ c.in_err-judge_all.was)))
 
 pub returns : goal.returns
 returns c =
     let site = c.args.self.now in
-    let left : tested (rule_left site.image site.method site.place site.shape c.args.a) ≡ c.judge_all.result = rw (← c.entries_done.ensures, ← c.result_moved-left.ensures, ← c.none_owns.ensures) (sym c.judge_all.ensures) in
+    let left : tested (rule_left site.image site.method site.place site.shape c.args.a) ≡ c.judge_all.result =
+    rw (← c.entries_done.ensures, ← c.result_moved-left.ensures, ← c.none_owns.ensures) (sym c.judge_all.ensures) in
     rw (returned site.image site.method site.place site.shape c.args.a _ _ (sym c.judge_result.ensures ∙ c.in_ok-judge_result.was) (left ∙ c.in_ok-judge_all.was), c.judge.ensures site.shape.entries, c.none.ensures site.shape.entries) (cc)
