@@ -27,7 +27,7 @@ use Rattle.aom_machine_state.specs.Places.{IsClosing, IsDestroying, going_here, 
 use Rattle.aom_machine_state.specs.Stands.{StandsFor}
 use Rattle.aom_machine_state.proofs.Cells.{class_told, is_an_object}
 use Rattle.aom_machine_state.proofs.Values.{same_length}
-use Rattle.aom_machine_state.proofs.Alike.{Alike, alike, both_close, both_end, both_go}
+use Rattle.aom_machine_state.proofs.Alike.{Alike, alike, both_close, both_end, both_go, both_run}
 use Rattle.aom_machine_instructions.specs.Going.{ending_here}
 use Rattle.aom_machine_instructions.proofs.Firsts.{ClosesOver, closing_found, found_session, its_session, no_session, session_lives}
 use Rattle.aom_machine_instructions.proofs.Running.{nothing_held, object_lives_at, object_there}
@@ -141,7 +141,9 @@ module _ (p : Image) (m : Parts) (s : State) (st : StandsFor (record { image = p
   runs_told runs = go (alike m.stack.tasks s.tasks st.agrees.tasks) runs
     where
       go : {ms : List Machine_task} {us : List Task} → Alike ms us → Runs ms → At (record { method = method_here ms; place = place_here ms }) ≡ next_in p s us
-      go x runs = grind arith
+      go (both_run f fr ms ts same below more) runs =
+          ap (λ (n : ℕ). At (record { method = n; place = f.place })) same.method ∙ ap (λ (n : ℕ). At (record { method = fr.method; place = n })) same.place
+      go _ runs = absurd runs
 
   pub goes_told : (number class : ℕ) → IsDestroying m.stack.tasks →
       number ≡ going_here m.stack.tasks → Lives m.cells (going_here m.stack.tasks) → class_at m.cells number ≡ Some class → Gone class ≡ next_in p s s.tasks
