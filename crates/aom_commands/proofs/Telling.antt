@@ -36,7 +36,7 @@ use Rattle.aom_commands.specs.declared.faults.Fault.TheVariants as faults
 use Rattle.aom_run.specs.declared.fault.BootFault.TheVariants as boots
 use Rattle.aom_commands.specs.Status.{of_script, of_script_kind, status_of}
 use Rattle.aom_commands.specs.Acceptable.{IsSpelled, IsAcceptable, Refuses, RefusesOrWants as RefusesImage}
-use Rattle.aom_commands.specs.Headline.{Sent, outside_of, IsSilent, Told, Represents, Accepts, AcceptedAnswers, AllRunWell, CheckAnswers, Ends, EndsAs}
+use Rattle.aom_commands.specs.Headline.{Sent, outside_of, IsSilent, Told, Shows, Accepts, AcceptedAnswers, AllRunWell, CheckAnswers, Ends, EndsAs}
 use Rattle.aom_commands.specs.Headline.{EndsOrFails, HasNatives, ImageWantsMemory, IsNoScript, IsOnly, IsRefused, RefusesBoot, RunAnswersBy, Runs, Shown}
 use Rattle.aom_commands.specs.Headline.{Tells, Transcribed}
 use Rattle.aom_machine.proofs.Affording.{affords}
@@ -110,7 +110,7 @@ module _ (reads : Line → List ℕ) (bytes text : List ℕ) (limit natives : �
   so ending out enough shown = record { runs = r; enough = enough; transcribed = shown; only = only ending out shown }
 
   ran : (out errors : Sent) (outcome : Outcome) (status : ExitStatus) → HasNatives r.image natives →
-      Represents reads r.image around outcome out → Ends outcome status errors → AcceptedAnswers reads bytes text limit natives out errors status
+      Shows reads r.image around outcome out → Ends outcome status errors → AcceptedAnswers reads bytes text limit natives out errors status
   ran out errors Stopped status enough shows ends = grind (arith, nat_tests, so)
   ran out errors WriteFault status enough shows ends = subst (AcceptedAnswers reads bytes text limit natives out errors) (sym ends.0) (output_fails r enough shows ends.1)
   ran out errors _ status enough shows ends = subst (AcceptedAnswers reads bytes text limit natives out errors) (sym ends.0) (_, tt, so _ out enough shows, ends.1)
@@ -118,7 +118,7 @@ module _ (reads : Line → List ℕ) (bytes text : List ℕ) (limit natives : �
 -- what a run of a machine sends is what its outcome shows
 pub shown_by : {X : Type 0} {B : X → Type 0} (reads : Line → List ℕ) (p : Image) (m new : Machine X B) (outside : Environment)
     (outcome : Outcome) (failed : Bool) (before now : Option (List ℕ)) → m.core.image ≡ p → Ran reads m outside outcome failed before now new
-    → Represents reads p outside outcome (record { before = before; now = now; failed = failed })
+    → Shows reads p outside outcome (record { before = before; now = now; failed = failed })
 shown_by reads p m new outside x failed before now image ran = grind arith
 
 module _ (reads : Line → List ℕ) (bytes text : List ℕ) (limit natives : ℕ) (p : Image) (script : Script)
@@ -127,7 +127,7 @@ module _ (reads : Line → List ℕ) (bytes text : List ℕ) (limit natives : �
   of_it = runs_of bytes text limit natives p script acceptable well spelled denotes
 
   -- a run of an accepted image under a script ended so
-  ran_of : (outcome : Outcome) (status : ExitStatus) → HasNatives p natives → Represents reads p (outside_of script limit natives) outcome out →
+  ran_of : (outcome : Outcome) (status : ExitStatus) → HasNatives p natives → Shows reads p (outside_of script limit natives) outcome out →
       Ends outcome status errors → AcceptedAnswers reads bytes text limit natives out errors status
   ran_of outcome status enough shows ends = ran reads bytes text limit natives of_it out errors outcome status enough shows ends
 
@@ -142,7 +142,7 @@ module _ (reads : Line → List ℕ) (bytes text : List ℕ) (limit natives : �
 
   -- a run that may not have been made
   pub ended_so : (found : Result Outcome Fault) (status : ExitStatus) →
-      IfOk found (λ _. HasNatives p natives) → IfOk found (λ outcome. Represents reads p (outside_of script limit natives) outcome out) → IfErr found
+      IfOk found (λ _. HasNatives p natives) → IfOk found (λ outcome. Shows reads p (outside_of script limit natives) outcome out) → IfErr found
       (λ fault. RefusesBoot p natives fault × IsSilent out) → EndsOrFails found status errors → AcceptedAnswers reads bytes text limit natives out errors status
   ended_so (Ok outcome) status enough shows refused ends = ran_of outcome status enough shows ends
   ended_so (Err fault) status enough shows refused told = unbooted fault status refused.0 refused.1 told

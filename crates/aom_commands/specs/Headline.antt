@@ -106,13 +106,13 @@ pub record Cut (reads : Line → List ℕ) (p : Image) (outside : Environment) (
   pub beginning : CutShort reads p outside sent.before sent.now
 
 -- what an outcome says of the transcript
-abbrev pub Represents : (Line → List ℕ) → Image → Environment → Outcome → Sent → Type 0
-Represents reads p outside outcomes.Stopped out = Transcribed reads p outside endings.Stopped out
-Represents reads p outside outcomes.Waiting out = Transcribed reads p outside endings.Waiting out
-Represents reads p outside (outcomes.MainLeft code) out = Transcribed reads p outside (endings.MainLeft code) out
-Represents reads p outside outcomes.Limit out = Transcribed reads p outside endings.Limit out
-Represents reads p outside (outcomes.Error answer) out = Transcribed reads p outside (endings.Error answer) out
-Represents reads p outside outcomes.WriteFault out = Cut reads p outside out
+abbrev pub Shows : (Line → List ℕ) → Image → Environment → Outcome → Sent → Type 0
+Shows reads p outside outcomes.Stopped out = Transcribed reads p outside endings.Stopped out
+Shows reads p outside outcomes.Waiting out = Transcribed reads p outside endings.Waiting out
+Shows reads p outside (outcomes.MainLeft code) out = Transcribed reads p outside (endings.MainLeft code) out
+Shows reads p outside outcomes.Limit out = Transcribed reads p outside endings.Limit out
+Shows reads p outside (outcomes.Error answer) out = Transcribed reads p outside (endings.Error answer) out
+Shows reads p outside outcomes.WriteFault out = Cut reads p outside out
 
 -- the status of a run, and what the errors say of it
 abbrev pub Ends : Outcome → ExitStatus → Sent → Type 0

@@ -6,7 +6,7 @@ ghost use Rattle.aom_run.specs.Calls.{natives_of};
 ghost use Rattle.aom_machine_state.specs.LineBuffer.{step_lines};
 ghost use Rattle.aom_run.specs.Naming.{named_by};
 ghost use Rattle.aom_script.specs.Script.{IsTimely};
-ghost use Rattle.aom_commands.specs.Headline.{AllRunWell, HasNatives, IsFreshOf, RefusesBoot, Represents, outside_of};
+ghost use Rattle.aom_commands.specs.Headline.{AllRunWell, HasNatives, IsFreshOf, RefusesBoot, Shows, outside_of};
 ghost use Rattle.aom_commands.specs.declared.faults.Fault.TheVariants.{Memory};
 
 use crate::Fault;
@@ -65,7 +65,7 @@ fn run_booted<W: Sink>(
     requires timely { IsTimely script.now.timed }
     requires agree { AllAgree (λ l. l.ids) (λ l. (⟦<dyn Native as Native>⟧ l.native.vtable).owed l.native.value) machine.old.natives.slots.items }
     requires fresh { IsFreshOf accepted.now machine.old }
-    ensures ok { IfOk result (λ outcome. Represents (named_by names.entry) accepted.now (outside_of script.now limit (natives_of machine.old)) outcome (record { before = W.out out.old; now = W.out out.new; failed = W.failed out.new })) }
+    ensures ok { IfOk result (λ outcome. Shows (named_by names.entry) accepted.now (outside_of script.now limit (natives_of machine.old)) outcome (record { before = W.out out.old; now = W.out out.new; failed = W.failed out.new })) }
     ensures err { IfErr result (λ fault. (fault ≡ Memory) × (W.out out.new ≡ W.out out.old)) }
 {
     let mut turn = turn_of(alloc, accepted, script)?;
@@ -85,7 +85,7 @@ pub fn run_accepted<W: Sink>(
     requires limit { (1 ≤ limit) × (limit ≤ 1000000000) }
     requires timely { IsTimely script.now.timed }
     requires owed { OweNothing (λ b. (⟦<dyn Native as Native>⟧ b.vtable).owed b.value) boxes.items }
-    ensures ok { IfOk result (λ outcome. Represents (named_by names.entry) accepted.now (outside_of script.now limit (length boxes.items)) outcome (record { before = W.out out.old; now = W.out out.new; failed = W.failed out.new })) }
+    ensures ok { IfOk result (λ outcome. Shows (named_by names.entry) accepted.now (outside_of script.now limit (length boxes.items)) outcome (record { before = W.out out.old; now = W.out out.new; failed = W.failed out.new })) }
     ensures enough { IfOk result (λ _. HasNatives accepted.now (length boxes.items)) }
     ensures err { IfErr result (λ fault. RefusesBoot accepted.now (length boxes.items) fault × (W.out out.new ≡ W.out out.old)) }
 {

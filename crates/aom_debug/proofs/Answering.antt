@@ -14,7 +14,7 @@ use Rattle.aom_debug.specs.Commands.{place_text}
 use Rattle.aom_debug_moves.specs.Sends.{Breaks, Machine, Sends}
 use Rattle.aom_debug_moves.specs.Courses.{Courses}
 use Rattle.aom_machine_state.specs.declared.progress.Progress.{Progress}
-use Rattle.aom_debug.specs.Debugging.{Answer, Cut, Declined, Goes, GivesUp, Looks, MayGo, Outgoing, Seen, SeenPart, Represents, has_ended}
+use Rattle.aom_debug.specs.Debugging.{Answer, Cut, Declined, Goes, GivesUp, Looks, MayGo, Outgoing, Seen, SeenPart, Shows, has_ended}
 use Rattle.aom_debug.proofs.Moving.{all_out, cut_out, part_out}
 use Rattle.aom_debug.specs.declared.debugger.Debugger.{Debugger}
 
@@ -22,9 +22,9 @@ module _ {X : Type 0} {B : X → Type 0} where
   -- where moves have led
   pub shown : (old new : Debugger X B) (out : Outgoing) (told result : Answer) → result ≡ told → IfOk told (λ _. new ≡ old) → IfErr told (λ _. new ≡ record old { has_failed = true })
       → IfOk told (λ _. Tells old.mover.machine.core (λ s. place_text old.names old.mover.machine.core.image s) out.before out.now)
-      → IfErr told (λ fault. TellsPart old.mover.machine.core (λ s. place_text old.names old.mover.machine.core.image s) fault out.failed out.before out.now) → Represents old new out result
-  shown old new out (Ok done) result is same changed tells part = subst (λ r. Represents old new out r) (sym is) (same, tells)
-  shown old new out (Err fault) result is same changed tells part = subst (λ r. Represents old new out r) (sym is) (changed, part)
+      → IfErr told (λ fault. TellsPart old.mover.machine.core (λ s. place_text old.names old.mover.machine.core.image s) fault out.failed out.before out.now) → Shows old new out result
+  shown old new out (Ok done) result is same changed tells part = subst (λ r. Shows old new out r) (sym is) (same, tells)
+  shown old new out (Err fault) result is same changed tells part = subst (λ r. Shows old new out r) (sym is) (changed, part)
 
   -- a course, and then where it has led; or it was cut
   module _ (leads : Debugger X B → Courses) (old mid new : Debugger X B) (may : MayGo old) (image : mid.mover.machine.core.image ≡ old.mover.machine.core.image)
@@ -34,7 +34,7 @@ module _ {X : Type 0} {B : X → Type 0} where
 
     gone : ((s : State) (lines : List Line) (u : State) →
         leads old old.mover.recent mid.mover.recent s lines u → Reaches old.mover.machine.core.image (outside_of old.mover) s lines u) → (result : Answer)
-        → Sends (leads old old.mover.recent mid.mover.recent) old.mover.machine before here mid.mover.machine → Represents mid new (record { before = here; now = now; failed = failed }) result
+        → Sends (leads old old.mover.recent mid.mover.recent) old.mover.machine before here mid.mover.machine → Shows mid new (record { before = here; now = now; failed = failed }) result
         → Goes leads old new (record { before = before; now = now; failed = failed }) result
     gone reaches (Ok done) sends shows =
         let same = shows.0 in
@@ -92,7 +92,7 @@ module _ {X : Type 0} {B : X → Type 0} where
         → (spots : mid.breakpoints ≡ old.breakpoints) → (names : mid.names ≡ old.names) → (well : mid.has_failed ≡ old.has_failed) → (went : Option Progress) (off : Bool) (result : Answer)
         → Went (leads old old.mover.recent mid.mover.recent) (Reaches old.mover.machine.core.image (outside_of old.mover)) old.mover before here off went mid.mover
         → IfNone went (GivesUp mid new (record { before = here; now = now; failed = failed }) result) → IfNone went (failed ≡ off)
-        → IfSome went (λ far. Represents mid new (record { before = here; now = now; failed = failed }) result)
+        → IfSome went (λ far. Shows mid new (record { before = here; now = now; failed = failed }) result)
         → Goes leads old new (record { before = before; now = now; failed = failed }) result
     answered reaches spots names well None off result x up same shows = gave_up leads old mid new may image spots names well before here now failed result (same ∙ x.0) x.1 up
     answered reaches spots names well (Some far) off result x up same shows = gone leads old mid new may image spots names well before here now failed reaches result x.0 shows

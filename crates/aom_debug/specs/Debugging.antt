@@ -78,9 +78,9 @@ module _ {X : Type 0} {B : X → Type 0} where
   GivesUp old new out answer = ⊥
 
   -- or where they lead is told
-  abbrev pub Represents : Debugger X B → Debugger X B → Outgoing → Answer → Type 0
-  Represents old new out (Ok done) = (new ≡ old) × Tells old.mover.machine.core (λ s. place_text old.names old.mover.machine.core.image s) out.before out.now
-  Represents old new out (Err fault) = (new ≡ record old { has_failed = true }) × TellsPart old.mover.machine.core (λ s. place_text old.names old.mover.machine.core.image s) fault out.failed out.before out.now
+  abbrev pub Shows : Debugger X B → Debugger X B → Outgoing → Answer → Type 0
+  Shows old new out (Ok done) = (new ≡ old) × Tells old.mover.machine.core (λ s. place_text old.names old.mover.machine.core.image s) out.before out.now
+  Shows old new out (Err fault) = (new ≡ record old { has_failed = true }) × TellsPart old.mover.machine.core (λ s. place_text old.names old.mover.machine.core.image s) fault out.failed out.before out.now
 
   -- so far
   abbrev pub goes_of : Course → Debugger X B → Courses

@@ -6,7 +6,7 @@ ghost use Rattle.aom_machine_state.specs.LineBuffer.{step_lines};
 ghost use Rattle.aom_script.specs.Script.{IsTimely};
 ghost use Rattle.aom_natives.specs.Slots.{AllAgree};
 ghost use Rattle.aom_debug_moves.specs.Movers.{IsReady, Keeps};
-ghost use Rattle.aom_debug.specs.Debugging.{GivesUp, Goes, Runs, Sets, SetsAt, Represents, Steps, Turns, goes_of, has_ended};
+ghost use Rattle.aom_debug.specs.Debugging.{GivesUp, Goes, Runs, Sets, SetsAt, Shows, Steps, Turns, goes_of, has_ended};
 
 use crate::marking::spot_named;
 use crate::showing::tell_place;
@@ -121,7 +121,7 @@ impl<'a> Debugger<'a> {
         ensures mover { self.new.mover ≡ self.old.mover }
         ensures none { IfNone went (GivesUp self.old self.new (record { before = W.out out.old; now = W.out out.new; failed = W.failed out.new }) result) }
         ensures failed { IfNone went (W.failed out.new ≡ W.failed out.old) }
-        ensures some { IfSome went (λ _. Represents self.old self.new (record { before = W.out out.old; now = W.out out.new; failed = W.failed out.new }) result) }
+        ensures some { IfSome went (λ _. Shows self.old self.new (record { before = W.out out.old; now = W.out out.new; failed = W.failed out.new }) result) }
     {
         match went {
             Some(_) => {

@@ -34,7 +34,7 @@ use Rattle.aom_debug_words.specs.declared.answer.Content.TheVariants as contents
 use Rattle.aom_debug_names.specs.Names.{Names}
 use Rattle.aom_debug_views.specs.Frames.{RegisterShows, ShowsFrame, content_by, frame_answers, frame_lines, kind_in, kinds_of, loop_answer, loop_in}
 use Rattle.aom_debug_views.specs.Frames.{owned_content, place_in, register_in, trap_by, trap_held, trap_in, trap_under}
-use Rattle.aom_debug_views.specs.Owners.{Represents, ShowsIf, is_frame, may_own, source_at}
+use Rattle.aom_debug_views.specs.Owners.{Shows, ShowsIf, is_frame, may_own, source_at}
 use Rattle.aom_debug_views.specs.Sights.{class_of}
 use Rattle.aom_debug_views.specs.Telling.{IsCut, Tells, TellsPart, answers_by, gathered, listed}
 use Rattle.aom_debug_words.specs.declared.fault.DebugFault.{DebugFault}
@@ -51,7 +51,7 @@ use Rattle.aom_debug_views.proofs.Words.{kind_there, word_shown}
 class_content : (cs : List Cell) (o : Option Object) (class : ℕ) → class_of o ≡ Some class → Some (contents.Own class) ≡ owned_content cs o
 class_content cs x class is = grind (arith, nat_tests, thing_is)
 
-module _ (p : Image) (m : Parts) (n : ℕ) (r : Place) (shows : Represents (record { image = p; parts = m }) n r) (s : State) (st : StandsFor (record { image = p; parts = m }) s) where
+module _ (p : Image) (m : Parts) (n : ℕ) (r : Place) (shows : Shows (record { image = p; parts = m }) n r) (s : State) (st : StandsFor (record { image = p; parts = m }) s) where
   pub null_content : n ≡ null → Some contents.Null ≡ owned_content s.cells (held s.cells r)
   null_content is = grind (arith, nat_tests, not_null p m st.typing s st.typed st.agrees r)
 
@@ -116,15 +116,15 @@ module _ (p : Image) (m : Parts) (kind : Kind) (n depth i : ℕ) (shows : Regist
   null_has is = grind (arith, nat_tests, shows_so Null is)
 
   own_has : (t : Thing) (a : Age) (content : Option Content) → kind ≡ Own t a →
-      (Represents (record { image = p; parts = m }) n (Register depth i) → content ≡ owned_content s.cells (held s.cells (Register depth i))) → Has content kind
+      (Shows (record { image = p; parts = m }) n (Register depth i) → content ≡ owned_content s.cells (held s.cells (Register depth i))) → Has content kind
   own_has t a content is told = subst (λ k. Has content k) (sym is) (told (shows_so (Own t a) is))
 
   maybe_has : (t : Thing) (a : Age) (content : Option Content) → kind ≡ Maybe t a →
-      (Represents (record { image = p; parts = m }) n (Register depth i) → content ≡ owned_content s.cells (held s.cells (Register depth i))) → Has content kind
+      (Shows (record { image = p; parts = m }) n (Register depth i) → content ≡ owned_content s.cells (held s.cells (Register depth i))) → Has content kind
   maybe_has t a content is told = subst (λ k. Has content k) (sym is) (told (shows_so (Maybe t a) is))
 
   pub owned_has : (content : Option Content) → ((t : Thing) × (a : Age) × (kind ≡ Own t a)) ⊎ ((t : Thing) × (a : Age) × (kind ≡ Maybe t a)) →
-      (Represents (record { image = p; parts = m }) n (Register depth i) → content ≡ owned_content s.cells (held s.cells (Register depth i))) → Has content kind
+      (Shows (record { image = p; parts = m }) n (Register depth i) → content ≡ owned_content s.cells (held s.cells (Register depth i))) → Has content kind
   owned_has content x told = grind (arith, nat_tests, own_has, maybe_has)
 
 -- ---- lines of a frame that stands there

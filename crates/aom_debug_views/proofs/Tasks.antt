@@ -18,14 +18,14 @@ use Rattle.aom_semantics.specs.State.{Frame, Run, State, Task}
 use Rattle.aom_machine_state.specs.declared.parts.Parts.{Parts}
 use Rattle.aom_frames.specs.Items.{entry_in}
 use Rattle.aom_machine_state.specs.Agrees.{SameFrame, SameTask, SameTasks, number, word_in, word_of}
-use Rattle.aom_machine_state.specs.Agrees.{Represents as Machine_shows}
+use Rattle.aom_machine_state.specs.Agrees.{Represents}
 use Rattle.aom_machine_state.specs.Places.{going_in, going_of, register_in, value}
 use Rattle.aom_machine_state.specs.Stands.{Machine, StandsFor}
 use Rattle.aom_machine_state.proofs.Alike.{by_tasks}
 use Rattle.aom_machine_state.proofs.Values.{same_length}
 use Rattle.aom_machine_instructions.proofs.Running.{not_null}
 use Rattle.aom_debug_views.proofs.Over.{BothOver, one_over, read_over, read_there}
-use Rattle.aom_debug_views.specs.Owners.{Represents, ShowsNone, frame_over, goings_in, is_frame, is_going}
+use Rattle.aom_debug_views.specs.Owners.{Shows, ShowsNone, frame_over, goings_in, is_frame, is_going}
 
 -- ---- lists
 
@@ -134,17 +134,17 @@ module _ (p : Image) (m : Parts) where
   pub register_value : (k i : ℕ) (f : Machine_frame) → over tasks k ≡ Some (Runs_frame f) → value m (Register k i) ≡ slice_index_or f.registers i null
   register_value k i f there = register_there tasks k i ∙ ap (λ o. register_over o i) there
 
-  pub going_shows : (k : ℕ) → Represents M (going_in tasks k) (Going k)
+  pub going_shows : (k : ℕ) → Shows M (going_in tasks k) (Going k)
   going_shows k = record { each = λ s st. st.agrees.values (Going k) }
 
-  pub entry_shows : (k : ℕ) → Represents M (entry_in m.entries.items k) (Entry k)
+  pub entry_shows : (k : ℕ) → Shows M (entry_in m.entries.items k) (Entry k)
   entry_shows k = record { each = λ s st. st.agrees.values (Entry k) }
 
-  pub root_shows : Represents M m.root (Elsewhere Root)
+  pub root_shows : Shows M m.root (Elsewhere Root)
   root_shows = record { each = λ s st. st.agrees.values (Elsewhere Root) }
 
   -- and so is the message that is served
-  pub service_shows : Represents M m.served (Elsewhere In_service)
+  pub service_shows : Shows M m.served (Elsewhere In_service)
   service_shows = record { each = λ s st. st.agrees.values (Elsewhere In_service) }
 
   -- what is no frame owns nothing in registers
@@ -155,7 +155,7 @@ module _ (p : Image) (m : Parts) where
       number_of s st =
           let both = no_frame (over tasks k) (over s.tasks k) i (same_over s st k) (sym none) in
           let word = word_there s.tasks k i ∙ both.1 in
-          sym (register_there tasks k i ∙ both.0) ∙ subst (λ w. Machine_shows (value m (Register k i)) w (held s.cells (Register k i))) word (st.agrees.values (Register k i))
+          sym (register_there tasks k i ∙ both.0) ∙ subst (λ w. Represents (value m (Register k i)) w (held s.cells (Register k i))) word (st.agrees.values (Register k i))
 
       by_null : (s : State) → StandsFor M s → (o : Option Object) → held s.cells (Register k i) ≡ o → null ≡ number (held s.cells (Register k i)) → o ≡ None
       by_null s st x holds is = grind (arith, not_null p m st.typing s st.typed st.agrees (Register k i))

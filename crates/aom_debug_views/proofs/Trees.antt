@@ -36,7 +36,7 @@ use Rattle.aom_machine_state.proofs.Serving.{taken_sent}
 use Rattle.aom_run.specs.Runs.{after}
 use Rattle.aom_debug_words.specs.declared.fault.DebugFault.{DebugFault}
 use Rattle.aom_debug_views.specs.Sights.{class_in, class_of}
-use Rattle.aom_debug_views.specs.Owners.{Branch, By_field, By_session, In_register, Outer, Owned, Represents, ShowsNone, Way, branch_text}
+use Rattle.aom_debug_views.specs.Owners.{Branch, By_field, By_session, In_register, Outer, Owned, Shows, ShowsNone, Way, branch_text}
 use Rattle.aom_debug_views.specs.Owners.{frame_registers, further, generations, grown, message_text, outer_text, owned_line, owners_text, tree}
 use Rattle.aom_debug_views.specs.Owners.{way_text, source_at, source_by, source_in, source_of}
 use Rattle.aom_debug_views.specs.Telling.{IsCut, Tells, TellsPart, gathered}
@@ -114,15 +114,15 @@ module _ (p : Image) (m : Parts) where
 
   -- a cell's number is that of a place that holds an object of that name and class
   pub found : (n class : ℕ) (r : Place) (s : State) → StandsFor M s →
-      Represents M n r → class_at m.cells n ≡ Some class → (o : Object) × (held s.cells r ≡ Some o) × (o.thing ≡ An_object_of class) × (o.name ≡ n)
+      Shows M n r → class_at m.cells n ≡ Some class → (o : Object) × (held s.cells r ≡ Some o) × (o.thing ≡ An_object_of class) × (o.name ≡ n)
   found n class r s st shows told = grind (arith, class_held p m s st r n (shows.each s st))
 
   -- a field of a cell
-  pub field_shows : (n f k : ℕ) → k ≡ field_at m.cells n f → Represents M k (Field n f)
+  pub field_shows : (n f k : ℕ) → k ≡ field_at m.cells n f → Shows M k (Field n f)
   field_shows n f k is = record { each = λ s st. is ∙ st.agrees.values (Field n f) }
 
   -- and the session of a client with it
-  pub session_shows : (n c k : ℕ) → k ≡ session_with n (client_at m.clients c) → Represents M k (Elsewhere (Session n c))
+  pub session_shows : (n c k : ℕ) → k ≡ session_with n (client_at m.clients c) → Shows M k (Elsewhere (Session n c))
   session_shows n c k is = record { each = λ s st. is ∙ st.agrees.values (Elsewhere (Session n c)) }
 
   -- what hangs from the fields of the cell of that number, and from its sessions
@@ -139,7 +139,7 @@ module _ (p : Image) (m : Parts) where
   under n depth w s = gathered (below n depth w s) 8 ++ flat_map (beyond n depth w s) (seats_of n s)
 
   -- what hangs from a place is the line of what it holds, and then that
-  tree_found : (ns : Names) (n class depth : ℕ) (w : Way) (r : Place) (t : List ℕ) (s : State) → StandsFor M s → Represents M n r → class_at m.cells n
+  tree_found : (ns : Names) (n class depth : ℕ) (w : Way) (r : Place) (t : List ℕ) (s : State) → StandsFor M s → Shows M n r → class_at m.cells n
       ≡ Some class → t ≡ way_text w → owners_text ns (tree s.cells (suc depth) w (held s.cells r)) ≡ ended (t ++ codes " " ++ class_by ns class)
       ++ (flat_map (owned_line ns) (gathered (below n depth w s) 8) ++ flat_map (owned_line ns) (flat_map (beyond n depth w s) (seats_of n s)))
   tree_found ns n class depth w r t s st shows told is = grind (arith, found n class r s st shows told, flat_map-append)
@@ -151,7 +151,7 @@ module _ (p : Image) (m : Parts) where
   at_place n source is = grind (arith, nat_tests, ltb-false n 4096)
 
   -- so a number that no cell has, and of which it is told who hears, is that of a place that holds a message of that name
-  pub message_found : (n : ℕ) (source : Source) (r : Place) (s : State) → StandsFor M s → Represents M n r → class_at m.cells n ≡ None →
+  pub message_found : (n : ℕ) (source : Source) (r : Place) (s : State) → StandsFor M s → Shows M n r → class_at m.cells n ≡ None →
       source_at m n ≡ Some source → (o : Object) × (held s.cells r ≡ Some o) × (o.thing ≡ Message) × (source_in (service_of s.cells o.name) ≡ Some source)
   message_found n source r s st shows none is = go (held s.cells r) refl (shows.each s st) (sym (class_held p m s st r n (shows.each s st)) ∙ none)
     where
@@ -183,12 +183,12 @@ module _ (p : Image) (m : Parts) where
           )
 
   tree_message : (ns : Names) (n : ℕ) (source : Source) (depth : ℕ) (w : Way) (r : Place) (t : List ℕ) (s : State) →
-      StandsFor M s → Represents M n r → class_at m.cells n ≡ None → source_at m n ≡ Some source → t ≡ way_text w →
+      StandsFor M s → Shows M n r → class_at m.cells n ≡ None → source_at m n ≡ Some source → t ≡ way_text w →
       owners_text ns (tree s.cells (suc depth) w (held s.cells r)) ≡ ended (t ++ codes " " ++ hearer_by ns source)
   tree_message ns n source depth w r t s st shows none told is = grind (arith, message_found n source r s st shows none told, append-nil)
 
   -- a number that neither has is that of a place that holds nothing
-  pub none_sends : (n : ℕ) (r : Place) → (Lives m.cells n → ⊥) → source_at m n ≡ None → Represents M n r → ShowsNone M r
+  pub none_sends : (n : ℕ) (r : Place) → (Lives m.cells n → ⊥) → source_at m n ≡ None → Shows M n r → ShowsNone M r
   none_sends n r none unsent shows = record { each = λ s st. go s st (held s.cells r) refl (shows.each s st) }
     where
       placed : (s : State) → StandsFor M s → (o : Object) → named s.cells o.name ≡ Some o → o.thing ≡ Message → n ≡ o.name → ⊥
@@ -201,11 +201,11 @@ module _ (p : Image) (m : Parts) where
 
   -- the line of a message is all that hangs there
   pub message_told : (ns : Names) (n : ℕ) (source : Source) (depth d : ℕ) (w : Way) (r : Place) (t : List ℕ) →
-      Represents M n r → class_at m.cells n ≡ None → source_at m n ≡ Some source → t ≡ way_text w → d ≡ suc depth → (before now : Option (List ℕ)) →
+      Shows M n r → class_at m.cells n ≡ None → source_at m n ≡ Some source → t ≡ way_text w → d ≡ suc depth → (before now : Option (List ℕ)) →
       now ≡ after before (ended (t ++ codes " " ++ hearer_by ns source)) → Tells M (λ s. owners_text ns (tree s.cells d w (held s.cells r))) before now
   message_told ns n source depth d w r t shows none sent is deep before now put = search (arith, nat_tests, tree_message ns n source depth w r t)
 
-  pub message_unsent : (ns : Names) (n : ℕ) (source : Source) (depth d : ℕ) (w : Way) (r : Place) (t : List ℕ) → Represents M n r → class_at m.cells n ≡ None →
+  pub message_unsent : (ns : Names) (n : ℕ) (source : Source) (depth d : ℕ) (w : Way) (r : Place) (t : List ℕ) → Shows M n r → class_at m.cells n ≡ None →
       source_at m n ≡ Some source → t ≡ way_text w → d ≡ suc depth → (before now : Option (List ℕ)) (fault : DebugFault) (failed : Bool) →
       IsCut (ended (t ++ codes " " ++ hearer_by ns source)) fault failed before now → TellsPart M (λ s. owners_text ns (tree s.cells d w (held s.cells r))) fault failed before now
   message_unsent ns n source depth d w r t shows none sent is deep before now fault failed cut =
@@ -213,7 +213,7 @@ module _ (p : Image) (m : Parts) where
 
   -- where no cell has the number, a message's line is all that hangs there, if there is one
   module _ (ns : Names) (n depth d : ℕ) (w : Way) (r : Place)
-      (t : List ℕ) (shows : Represents M n r) (none : Lives m.cells n → ⊥) (is : t ≡ way_text w) (deep : d ≡ suc depth) (before now : Option (List ℕ)) where
+      (t : List ℕ) (shows : Shows M n r) (none : Lives m.cells n → ⊥) (is : t ≡ way_text w) (deep : d ≡ suc depth) (before now : Option (List ℕ)) where
     classless : class_at m.cells n ≡ None
     classless = grind (arith, nat_tests)
 
@@ -234,7 +234,7 @@ module _ (p : Image) (m : Parts) where
         go (Some source) sent cut = message_unsent ns n source depth d w r t shows classless sent is deep before now fault failed cut
 
   -- all that hangs from an object is out, or a beginning of it, by the line, by what hangs from the fields, and by what hangs from the sessions
-  module _ (ns : Names) (n class depth d : ℕ) (w : Way) (r : Place) (t : List ℕ) (shows : Represents M n r) (told : class_at m.cells n ≡ Some class) (is : t ≡ way_text w) (deep : d ≡ suc depth) where
+  module _ (ns : Names) (n class depth d : ℕ) (w : Way) (r : Place) (t : List ℕ) (shows : Shows M n r) (told : class_at m.cells n ≡ Some class) (is : t ≡ way_text w) (deep : d ≡ suc depth) where
     abbrev line_text : List ℕ
     line_text = ended (t ++ codes " " ++ class_by ns class)
 

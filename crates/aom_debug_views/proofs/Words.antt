@@ -37,7 +37,7 @@ use Rattle.aom_semantics.proofs.Maps.{at-put_at}
 use Rattle.aom_typings.specs.Shapes.{Shapes}
 use Rattle.aom_typings.specs.Strongest.{IsMethodStrongest, IsShapeAt, IsStrongest}
 use Rattle.aom_machine_state.specs.declared.parts.Parts.{Parts}
-use Rattle.aom_machine_state.specs.Agrees.{Represents as Machine_shows, SameFrame}
+use Rattle.aom_machine_state.specs.Agrees.{Represents, SameFrame}
 use Rattle.aom_machine_state.specs.Places.{value}
 use Rattle.aom_machine_state.specs.Stands.{Machine, StandsFor}
 use Rattle.aom_machine_state.specs.Waits.{AllWait, KindSays, Waits, waiting_by, while_waiting}
@@ -120,7 +120,7 @@ under_words p t cs (Dispatched d ∷ above) fr below w = under_words p t cs abov
 word_said : (p : Image) (k : Kind) (w : Option ℤ) (o : Option Object) → k ≡ Word → KindSays p k w o → IsSome w
 word_said p k w o is says = (subst (λ x. KindSays p x w o) is says).0
 
-word_of_number : (n : ℕ) (w : Option ℤ) (o : Option Object) → IsSome w → Machine_shows n w o → w ≡ Some (cast_signed w32 n)
+word_of_number : (n : ℕ) (w : Option ℤ) (o : Option Object) → IsSome w → Represents n w o → w ≡ Some (cast_signed w32 n)
 word_of_number n x o some shows = grind arith
 
 module _ (p : Image) (m : Parts) where
@@ -156,7 +156,7 @@ module _ (p : Image) (m : Parts) where
           let parts = parted s.tasks k (Run fr) there in
           let some = has_word s st k i fr kind.0 typed (kind.2 i ∙ is) parts.0 parts.1 parts.2 in
           let word_here = word_there s.tasks k i ∙ ap (λ o. word_over o i) there in
-          let shows = subst (λ w. Machine_shows (value m (Register k i)) w (held s.cells (Register k i))) word_here (st.agrees.values (Register k i)) in
+          let shows = subst (λ w. Represents (value m (Register k i)) w (held s.cells (Register k i))) word_here (st.agrees.values (Register k i)) in
           word_of_number _ (word fr i) (held s.cells (Register k i)) some (grind (arith, register_value p m k i f held_there))
         where
           by_frame : Option Task → Type 0

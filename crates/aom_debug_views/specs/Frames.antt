@@ -22,7 +22,7 @@ use Rattle.aom_debug_words.specs.declared.answer.Answer.TheVariants.{Frame as A_
 use Rattle.aom_debug_words.specs.declared.answer.Source.{Source}
 use Rattle.aom_debug_words.specs.declared.answer.Content.{Content}
 use Rattle.aom_debug_words.specs.declared.answer.Content.TheVariants as contents
-use Rattle.aom_debug_views.specs.Owners.{Represents, ShowsNone, source_in}
+use Rattle.aom_debug_views.specs.Owners.{Shows, ShowsNone, source_in}
 use Rattle.aom_debug_views.specs.Telling.{gathered, listed}
 
 -- ---- registers
@@ -123,8 +123,8 @@ abbrev pub RegisterShows : Machine → Kind → ℕ → ℕ → ℕ → Type 0
 RegisterShows m Unset n depth i = Unit {0}
 RegisterShows m Word n depth i = ShowsWord m n depth i
 RegisterShows m Null n depth i = ShowsNone m (Register depth i)
-RegisterShows m (Own t a) n depth i = Represents m n (Register depth i)
-RegisterShows m (Maybe t a) n depth i = Represents m n (Register depth i)
+RegisterShows m (Own t a) n depth i = Shows m n (Register depth i)
+RegisterShows m (Maybe t a) n depth i = Shows m n (Register depth i)
 
 -- the frame stands at that depth, and its registers are so by its abstract state
 pub record ShowsFrame (m : Machine) (sh : Shape) (f : Machine_frame) (depth : ℕ) : Type 0 where

@@ -154,7 +154,7 @@ abbrev pub source_at : Parts → ℕ → Option Source
 source_at m n = cond (nat_lt n 4096) None (cond (nat_lt n 5120) (source_of (class_at m.tokens (n - 4096)) (place_at m.clients (n - 4096))) None)
 
 -- the number of what a place owns, and null where it owns nothing
-pub record Represents (m : Machine) (n : ℕ) (r : Place) : Type 0 where
+pub record Shows (m : Machine) (n : ℕ) (r : Place) : Type 0 where
   pub each : (s : State) → StandsFor m s → n ≡ number (held s.cells r)
 
 -- a place owns nothing
@@ -163,7 +163,7 @@ pub record ShowsNone (m : Machine) (r : Place) : Type 0 where
 
 -- a register has a number, or else it owns nothing
 abbrev pub ShowsIf : Bool → Machine → ℕ → Place → Type 0
-ShowsIf true m n r = Represents m n r
+ShowsIf true m n r = Shows m n r
 ShowsIf false m n r = ShowsNone m r
 
 -- whether something of that kind may own an object

@@ -14,7 +14,7 @@ ghost use Rattle.aom_semantics.specs.Places.{Place, Register, held};
 ghost use Rattle.aom_semantics.specs.State.{Frame as FrameRecord, Run, State, word};
 ghost use Rattle.aom_debug_words.specs.declared.answer.Content.TheVariants.{Message, Word};
 ghost use Rattle.aom_debug_views.specs.Frames.{RegisterShows, ShowsFrame, content_by, frame_answers, frame_lines, frames_answers, loop_answer, loops_in, owned_content, register_in, registers_in, place_in, trap_held, trap_in, trap_under};
-ghost use Rattle.aom_debug_views.specs.Owners.{Represents, source_at};
+ghost use Rattle.aom_debug_views.specs.Owners.{Shows, source_at};
 ghost use Rattle.aom_debug_views.specs.Telling.{Tells, TellsPart, answers_by, listed};
 
 use crate::cleanup::class_of;
@@ -45,7 +45,7 @@ fn message_content(parts: &Parts, number: u32) -> Option<Content>
 /// What has that number, or null.
 fn owned_content(parts: &Parts, number: u32) -> Option<Content>
     requires { (p : Image) × Stands (record { image = p; parts = parts.now }) }
-    ensures { (p : Image) (r : Place) → Represents (record { image = p; parts = parts.now }) number r → (s : State) → StandsFor (record { image = p; parts = parts.now }) s → result ≡ owned_content s.cells (held s.cells r) }
+    ensures { (p : Image) (r : Place) → Shows (record { image = p; parts = parts.now }) number r → (s : State) → StandsFor (record { image = p; parts = parts.now }) s → result ≡ owned_content s.cells (held s.cells r) }
 {
     if number == NULL {
         return Some(Content::Null);

@@ -11,7 +11,7 @@ ghost use Rattle.aom_shape.specs.Kinds.{register as kind_in};
 ghost use Rattle.aom_semantics.specs.Places.{Register as In_register_of};
 ghost use Rattle.aom_semantics.specs.State.{State};
 ghost use Rattle.aom_debug_views.specs.Holdings.{HasNumber, HoldsSo, IsOwner, place_of};
-ghost use Rattle.aom_debug_views.specs.Owners.{Represents, may_own};
+ghost use Rattle.aom_debug_views.specs.Owners.{Shows, may_own};
 
 use crate::cleanup::class_of;
 use crate::owners::{frame_at, going_number, item_number, may_own};
@@ -70,7 +70,7 @@ fn register_in(shape: &Shape<'_>, frame: &Frame, register: Register) -> u32
 fn register_number(parts: &Parts, checked: &Checked, depth: usize, register: Register) -> u32
     requires stands { Stands (record { image = checked.now; parts = parts.now }) }
     requires agrees { AgreesInAll (record { image = checked.now; parts = parts.now }) }
-    ensures { Represents (record { image = checked.now; parts = parts.now }) result (In_register_of depth register) }
+    ensures { Shows (record { image = checked.now; parts = parts.now }) result (In_register_of depth register) }
 {
     let Some(frame) = frame_at(parts, depth) else {
         return NULL;
@@ -107,7 +107,7 @@ fn number_at(parts: &Parts, accepted: &Accepted, owner: Owner) -> u32
     requires stands { Stands (record { image = accepted.now; parts = parts.now }) }
     requires agrees { AgreesInAll (record { image = accepted.now; parts = parts.now }) }
     requires owner { IsOwner owner }
-    ensures { Represents (record { image = accepted.now; parts = parts.now }) result (place_of owner) }
+    ensures { Shows (record { image = accepted.now; parts = parts.now }) result (place_of owner) }
 {
     match owner {
         Owner::Root => parts.root,

@@ -11,7 +11,7 @@ ghost use Rattle.aom_semantics.specs.Places.{Place as PlaceOf, held};
 ghost use Rattle.aom_transcript.specs.Text.{ended};
 ghost use Rattle.aom_debug_names.specs.Names.{class_by};
 ghost use Rattle.aom_debug_names.specs.Answers.{hearer_by};
-ghost use Rattle.aom_debug_views.specs.Owners.{Outer, Represents, Way as WayRecord, grown, message_text, outer_text, owners_text, sender_of, source_at, tree, way_text};
+ghost use Rattle.aom_debug_views.specs.Owners.{Outer, Shows, Way as WayRecord, grown, message_text, outer_text, owners_text, sender_of, source_at, tree, way_text};
 ghost use Rattle.aom_debug_views.specs.Telling.{IsCut, Tells, TellsPart};
 
 use crate::sending::send;
@@ -174,8 +174,8 @@ fn tell_tree<W: Sink>(
     requires room { length way.old + 5 * depth + 40 ≤ 1536 }
     requires stands { (p : Image) × Stands (record { image = p; parts = parts.now }) }
     ensures same { IfOk result (λ _. way.new ≡ way.old) }
-    ensures ok { IfOk result (λ _. (p : Image) (w : WayRecord) (r : PlaceOf) → way.old ≡ way_text w → Represents (record { image = p; parts = parts.now }) number r → Tells (record { image = p; parts = parts.now }) (λ s. owners_text names.now (tree s.cells depth w (held s.cells r))) (W.out out.old) (W.out out.new)) }
-    ensures err { IfErr result (λ fault. (p : Image) (w : WayRecord) (r : PlaceOf) → way.old ≡ way_text w → Represents (record { image = p; parts = parts.now }) number r → TellsPart (record { image = p; parts = parts.now }) (λ s. owners_text names.now (tree s.cells depth w (held s.cells r))) fault (W.failed out.new) (W.out out.old) (W.out out.new)) }
+    ensures ok { IfOk result (λ _. (p : Image) (w : WayRecord) (r : PlaceOf) → way.old ≡ way_text w → Shows (record { image = p; parts = parts.now }) number r → Tells (record { image = p; parts = parts.now }) (λ s. owners_text names.now (tree s.cells depth w (held s.cells r))) (W.out out.old) (W.out out.new)) }
+    ensures err { IfErr result (λ fault. (p : Image) (w : WayRecord) (r : PlaceOf) → way.old ≡ way_text w → Shows (record { image = p; parts = parts.now }) number r → TellsPart (record { image = p; parts = parts.now }) (λ s. owners_text names.now (tree s.cells depth w (held s.cells r))) fault (W.failed out.new) (W.out out.old) (W.out out.new)) }
 {
     if depth == 0 {
         return Ok(());
@@ -225,8 +225,8 @@ pub(crate) fn tell_place<W: Sink>(
 ) -> Result<(), DebugFault>
     requires short { length way ≤ 48 }
     requires stands { (p : Image) × Stands (record { image = p; parts = parts.now }) }
-    ensures ok { IfOk result (λ _. (p : Image) (outer : Outer) (r : PlaceOf) → way ≡ outer_text outer → Represents (record { image = p; parts = parts.now }) number r → Tells (record { image = p; parts = parts.now }) (λ s. owners_text names.now (grown s.cells outer r)) (W.out out.old) (W.out out.new)) }
-    ensures err { IfErr result (λ fault. (p : Image) (outer : Outer) (r : PlaceOf) → way ≡ outer_text outer → Represents (record { image = p; parts = parts.now }) number r → TellsPart (record { image = p; parts = parts.now }) (λ s. owners_text names.now (grown s.cells outer r)) fault (W.failed out.new) (W.out out.old) (W.out out.new)) }
+    ensures ok { IfOk result (λ _. (p : Image) (outer : Outer) (r : PlaceOf) → way ≡ outer_text outer → Shows (record { image = p; parts = parts.now }) number r → Tells (record { image = p; parts = parts.now }) (λ s. owners_text names.now (grown s.cells outer r)) (W.out out.old) (W.out out.new)) }
+    ensures err { IfErr result (λ fault. (p : Image) (outer : Outer) (r : PlaceOf) → way ≡ outer_text outer → Shows (record { image = p; parts = parts.now }) number r → TellsPart (record { image = p; parts = parts.now }) (λ s. owners_text names.now (grown s.cells outer r)) fault (W.failed out.new) (W.out out.old) (W.out out.new)) }
 {
     tell_tree(parts, &mut way, number, GENERATIONS, names, out)
 }

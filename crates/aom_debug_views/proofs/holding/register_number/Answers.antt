@@ -1,7 +1,7 @@
 -- A frame's registers are shown by its strongest abstract state, and what is no frame has none.
 use Rattle.std.proofs.Common.{subst, sym}
 use Rattle.aom_semantics.specs.Places.{Register}
-use Rattle.aom_debug_views.specs.Owners.{Represents}
+use Rattle.aom_debug_views.specs.Owners.{Shows}
 use Rattle.aom_debug_views.proofs.Numbers.{shown_if, shows_null}
 use Rattle.aom_debug_views.proofs.Registers.{frame_method, frame_shown, is_reached}
 use Rattle.aom_debug_views.proofs.Tasks.{frame_stands, no_registers}
@@ -24,7 +24,7 @@ returns-in-Some-shape c =
     let p = c.args.checked.now in
     let m = c.args.parts.now in
     let all = frame_shown p m c.requires.agrees c.args.depth _ _ (frame_stands p m c.args.depth c.in-Some.frame c.in-Some.ensures) c.in-Some-shape.ensures in
-    subst (λ n. Represents (record { image = p; parts = m }) n (Register c.args.depth c.args.register)) (sym c.register_in.ensures)
+    subst (λ n. Shows (record { image = p; parts = m }) n (Register c.args.depth c.args.register)) (sym c.register_in.ensures)
     (shown_if _ (record { image = p; parts = m }) _ (Register c.args.depth c.args.register) (all.each c.args.register))
 
 pub returns-in-None : goal.returns-in-None

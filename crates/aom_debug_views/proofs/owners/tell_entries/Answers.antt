@@ -8,7 +8,7 @@ use Rattle.aom_semantics.specs.State.{State}
 use Rattle.aom_machine_state.specs.declared.parts.Parts.{Parts}
 use Rattle.aom_machine_state.specs.Stands.{StandsFor}
 use Rattle.aom_debug_names.specs.Names.{Names}
-use Rattle.aom_debug_views.specs.Owners.{In_entry, Owned, Represents, grown, is_entry, owned_line, owners_text}
+use Rattle.aom_debug_views.specs.Owners.{In_entry, Owned, Shows, grown, is_entry, owned_line, owners_text}
 use Rattle.aom_debug_views.specs.Sights.{counted}
 use Rattle.aom_debug_views.proofs.Counting.{counted_next}
 use Rattle.aom_debug_views.proofs.Showing.{as_many_items}
@@ -32,7 +32,7 @@ returns-in_err-tell_place-clause-err g c =
     let k = c.loop-height.height in
     rw (error.1, error.2) (λ p.
     let cut = c.in_err-tell_place.ensures.err p (In_entry c.loop-height.entries) (Entry k) c.entry.ensures.text
-    (subst (λ n. Represents (record { image = p; parts = m }) n (Entry k)) (sym c.item_number.ensures) (entry_shows p m k)) in
+    (subst (λ n. Shows (record { image = p; parts = m }) n (Entry k)) (sym c.item_number.ensures) (entry_shows p m k)) in
     part_further (owned_line c.args.names.now) (record { image = p; parts = m }) hangs (λ s. length s.items) k _ _ _ _ _ (c.loop-height.invariant.out p)
     (λ s st. let many = as_many_items p m s st in omega (arith, c.loop-height-test.true, c.len-height-end.ensures.value, many))
     (part_same (record { image = p; parts = m }) _ (λ s. owners_text c.args.names.now (hangs s k)) (numbered c.args.names.now p m c.loop-height.entries k c.loop-height.invariant.count) _ _ _ _ cut))
@@ -46,7 +46,7 @@ loop-height-preserved g c =
       few = omega (arith, few, c.entries_at-entries.ensures.few);
       count = λ p s st. counted_next (λ j. is_entry (over s.items j)) k _ _ (c.loop-height.invariant.count p s st) (c.entries_at-entries.ensures.value p s st);
       out = λ p. let told = c.in_ok-tell_place.ensures.ok p (In_entry c.loop-height.entries) (Entry k) c.entry.ensures.text
-          (subst (λ n. Represents (record { image = p; parts = m }) n (Entry k)) (sym c.item_number.ensures) (entry_shows p m k)) in
+          (subst (λ n. Shows (record { image = p; parts = m }) n (Entry k)) (sym c.item_number.ensures) (entry_shows p m k)) in
           tells_further (owned_line c.args.names.now)
           (record { image = p; parts = m }) hangs k _ _ _ (c.loop-height.invariant.out p) (tells_same (record { image = p; parts = m }) _
           (λ s. owners_text c.args.names.now (hangs s k)) (numbered c.args.names.now p m c.loop-height.entries k c.loop-height.invariant.count) _ _ told);

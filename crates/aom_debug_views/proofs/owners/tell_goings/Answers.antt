@@ -8,7 +8,7 @@ use Rattle.aom_semantics.specs.State.{State}
 use Rattle.aom_machine_state.specs.declared.parts.Parts.{Parts}
 use Rattle.aom_machine_state.specs.Stands.{StandsFor}
 use Rattle.aom_debug_names.specs.Names.{Names}
-use Rattle.aom_debug_views.specs.Owners.{In_going, Owned, Represents, grown, is_going, owned_line, owners_text}
+use Rattle.aom_debug_views.specs.Owners.{In_going, Owned, Shows, grown, is_going, owned_line, owners_text}
 use Rattle.aom_debug_views.specs.Sights.{counted}
 use Rattle.aom_debug_views.proofs.Counting.{counted_next}
 use Rattle.aom_debug_views.proofs.Tasks.{as_many_tasks, going_shows}
@@ -31,7 +31,7 @@ returns-in_err-tell_place-clause-err g c =
     let k = c.loop-depth.depth in
     rw (error.1, error.2) (λ p.
     let cut = c.in_err-tell_place.ensures.err p (In_going c.loop-depth.goings) (Going k) c.going.ensures.text
-    (subst (λ n. Represents (record { image = p; parts = m }) n (Going k)) (sym c.going_number.ensures) (going_shows p m k)) in
+    (subst (λ n. Shows (record { image = p; parts = m }) n (Going k)) (sym c.going_number.ensures) (going_shows p m k)) in
     part_further (owned_line c.args.names.now) (record { image = p; parts = m }) hangs (λ s. length s.tasks) k _ _ _ _ _
     (c.loop-depth.invariant.out p) (λ s st. let many = as_many_tasks p m s st in omega (arith, c.loop-depth-test.true, c.len-depth-end.ensures, many))
     (part_same (record { image = p; parts = m }) _ (λ s. owners_text c.args.names.now (hangs s k)) (numbered c.args.names.now p m c.loop-depth.goings k c.loop-depth.invariant.count) _ _ _ _ cut))
@@ -45,7 +45,7 @@ loop-depth-preserved g c =
       few = omega (arith, few, c.goings_at-goings.ensures.few);
       count = λ p s st. counted_next (λ j. is_going (over s.tasks j)) k _ _ (c.loop-depth.invariant.count p s st) (c.goings_at-goings.ensures.value p s st);
       out = λ p. let told = c.in_ok-tell_place.ensures.ok p (In_going c.loop-depth.goings) (Going k) c.going.ensures.text
-          (subst (λ n. Represents (record { image = p; parts = m }) n (Going k)) (sym c.going_number.ensures) (going_shows p m k)) in
+          (subst (λ n. Shows (record { image = p; parts = m }) n (Going k)) (sym c.going_number.ensures) (going_shows p m k)) in
           tells_further (owned_line c.args.names.now)
           (record { image = p; parts = m }) hangs k _ _ _ (c.loop-depth.invariant.out p) (tells_same (record { image = p; parts = m }) _
           (λ s. owners_text c.args.names.now (hangs s k)) (numbered c.args.names.now p m c.loop-depth.goings k c.loop-depth.invariant.count) _ _ told);

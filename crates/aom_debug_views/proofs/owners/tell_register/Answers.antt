@@ -3,12 +3,12 @@ use Rattle.std.proofs.Common.{◌≡◌, ◌∙◌, ℕ, Bool, false, subst, sym
 use Rattle.std.proofs.lemmas.Result.{IfErr-weaker, IfOk-weaker}
 use Rattle.aom_semantics.specs.Places.{Place, Register}
 use Rattle.aom_machine_state.specs.Stands.{Machine}
-use Rattle.aom_debug_views.specs.Owners.{In_register, Represents, ShowsIf, ShowsNone}
+use Rattle.aom_debug_views.specs.Owners.{In_register, Shows, ShowsIf, ShowsNone}
 use Rattle.aom_debug_views.proofs.Trees.{grown_untold}
 use Rattle.aom_debug_views.proofs.owners.tell_register.Goals as goal
 
-shown : (may answer : Bool) (m : Machine) (n k : ℕ) (r : Place) → answer ≡ may → answer ≡ true → k ≡ n → ShowsIf may m n r → Represents m k r
-shown may answer m n k r is may_so same shows = subst (λ i. Represents m i r) (sym same) (subst (λ b. ShowsIf b m n r) (sym is ∙ may_so) shows)
+shown : (may answer : Bool) (m : Machine) (n k : ℕ) (r : Place) → answer ≡ may → answer ≡ true → k ≡ n → ShowsIf may m n r → Shows m k r
+shown may answer m n k r is may_so same shows = subst (λ i. Shows m i r) (sym same) (subst (λ b. ShowsIf b m n r) (sym is ∙ may_so) shows)
 
 unshown : (may answer : Bool) (m : Machine) (n : ℕ) (r : Place) → answer ≡ may → answer ≡ false → ShowsIf may m n r → ShowsNone m r
 unshown may answer m n r is none shows = subst (λ b. ShowsIf b m n r) (sym is ∙ none) shows

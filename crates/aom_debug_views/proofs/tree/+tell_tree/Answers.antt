@@ -9,7 +9,7 @@ use Rattle.aom_clients.proofs.Looking.{after-in, first-in, from, from-first, fro
 use Rattle.aom_clients.specs.Clients.{client_after, sessions_at}
 use Rattle.aom_clients.specs.Lists.{IsIn, IsOnce}
 use Rattle.aom_semantics.specs.Places.{Elsewhere, Field, Session}
-use Rattle.aom_debug_views.specs.Owners.{By_field, By_session, Represents, branch_text, further, owned_line}
+use Rattle.aom_debug_views.specs.Owners.{By_field, By_session, Shows, branch_text, further, owned_line}
 use Rattle.aom_debug_views.proofs.Telling.{none_sent, part_further, tells_all, tells_further}
 use Rattle.aom_debug_views.proofs.Trees.{below, field_shows, fields_unsent, line_unsent, seat_cut, seat_told, seats_told, session_shows, sessions_unsent}
 use Rattle.aom_debug_views.proofs.Trees.{tree_told, uncelled_cut, uncelled_told, way_further}
@@ -45,7 +45,7 @@ returns-in_err-tell_owned-clause-err g t c =
     let m = c.args.parts.now in
     let deep = deeper c.args.depth c.if-depth-eq0.false in
     rw (error.1, error.2) (λ p w r is shows.
-    line_unsent p m c.args.names.now c.in-Some.id c.class.result (c.args.depth - 1) c.args.depth w r c.args.way.now (subst (λ k. Represents
+    line_unsent p m c.args.names.now c.in-Some.id c.class.result (c.args.depth - 1) c.args.depth w r c.args.way.now (subst (λ k. Shows
     (record { image = p; parts = m }) k r) (sym c.in-Some.ensures.value) shows) c.class.ensures is deep _ _ _ _ c.in_err-tell_owned.ensures.err)
 
 pub returns-in_err-tell_tree-clause-err : goal.returns-in_err-tell_tree-clause-err
@@ -59,7 +59,7 @@ returns-in_err-tell_tree-clause-err g t c =
     let begun = c.tell_owned.ensures.same ∙ is in
     let here = way_further w (By_field at) c.loop-field.way c.enter.new.way (c.loop-field.invariant.same ∙ begun) c.enter.ensures.text in
     let cut = c.in_err-tell_tree.ensures.err p (further w (By_field at)) (Field id at) here (field_shows p m id at c.field.result c.field.ensures) in
-    fields_unsent p m c.args.names.now id c.class.result (c.args.depth - 1) c.args.depth w r c.args.way.now (subst (λ k. Represents
+    fields_unsent p m c.args.names.now id c.class.result (c.args.depth - 1) c.args.depth w r c.args.way.now (subst (λ k. Shows
     (record { image = p; parts = m }) k r) (sym c.in-Some.ensures.value) shows) c.class.ensures is deep _ _ _ _ _ c.in_ok-tell_owned.ensures.ok
     (part_further (owned_line c.args.names.now) (record { image = p; parts = m })
     (below p m id (c.args.depth - 1) w) (λ s. 8) at _ _ _ _ _ (c.loop-field.invariant.out p w begun) (λ s st. c.loop-field-test.true) cut))
@@ -114,7 +114,7 @@ returns-in_err-tell_tree-2-clause-err g t c =
     let here = way_further w (By_session client) c.loop-next.way c.enter_session.new.way (i.same ∙ at_seats) c.enter_session.ensures.text in
     let cut = c.in_err-tell_tree-2.ensures.err p (further w (By_session client)) (Elsewhere (Session id client)) here (session_shows p m id client c.session_number.result c.session_number.ensures) in
     sessions_unsent p m c.args.names.now id c.class.result (c.args.depth - 1) c.args.depth w r c.args.way.now (subst
-    (λ k. Represents (record { image = p; parts = m }) k r) (sym c.in-Some.ensures.value) shows) c.class.ensures is deep _ _ _ c.in_ok-tell_owned.ensures.ok
+    (λ k. Shows (record { image = p; parts = m }) k r) (sym c.in-Some.ensures.value) shows) c.class.ensures is deep _ _ _ c.in_ok-tell_owned.ensures.ok
     (tells_all (owned_line c.args.names.now) (record { image = p; parts = m })
     (below p m id (c.args.depth - 1) w) (λ s. 8) c.loop-field.field _ _ (c.loop-field.invariant.out p w begun) (λ s st. omega (arith, most, least))) _ _ _
     (seat_cut p m c.args.names.now id _ w i.so_far.0 client _ (λ s st. all ∙ st.agrees.services.clients.sessions id) _ _ _ _ _ (i.so_far.2 p w at_seats) cut))
@@ -168,7 +168,7 @@ returns-clause-ok g t c =
     λ p w r is shows.
     let begun = c.tell_owned.ensures.same ∙ is in
     tree_told p m c.args.names.now id c.class.result (c.args.depth - 1) c.args.depth w r c.args.way.now (subst
-    (λ k. Represents (record { image = p; parts = m }) k r) (sym c.in-Some.ensures.value) shows) c.class.ensures is deep _ _ _ c.in_ok-tell_owned.ensures.ok
+    (λ k. Shows (record { image = p; parts = m }) k r) (sym c.in-Some.ensures.value) shows) c.class.ensures is deep _ _ _ c.in_ok-tell_owned.ensures.ok
     (tells_all (owned_line c.args.names.now) (record { image = p; parts = m })
     (below p m id (c.args.depth - 1) w) (λ s. 8) c.loop-field.field _ _ (c.loop-field.invariant.out p w begun) (λ s st. omega (arith, most, least))) _
     (seats_told p m c.args.names.now id (c.args.depth - 1) w i.so_far.0 all _ _ (i.so_far.2 p w (c.loop-field.invariant.same ∙ begun)))
