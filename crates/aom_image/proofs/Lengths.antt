@@ -7,4 +7,6 @@ use Rattle.aom_image.specs.WellFormed.{HeaderFits, ClassesFit, MethodsFit, Famil
 pub length_decides : (i : Image) → HeaderFits (length i.classes) i.header → ClassesFit i.header.version i.header.natives i.classes → MethodsFit i.header.version (length i.classes) i.methods
     → FamiliesFit i.header.version i.classes i.methods → (n : ℕ) → n ≡ spelled_size i.header.version (length i.classes) i.methods → IsTrue (leb n 1048576) ↔ WellFormed i
 length_decides i header classes methods families n is =
-    (λ short. let le : n ≤ 1048576 = leb-true n 1048576 short in record { header = header; classes = classes; methods = methods; families = families; size = omega arith }, λ w. le-leb n 1048576 (omega (arith, w.size)))
+    let fits : IsTrue (leb n 1048576) → WellFormed i = λ short.
+    record { header = header; classes = classes; methods = methods; families = families; size = omega (arith, leb-true n 1048576 short) } in
+    (fits, λ w. le-leb n 1048576 (omega (arith, w.size)))

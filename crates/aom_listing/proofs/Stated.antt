@@ -215,8 +215,9 @@ heading_is_stated place method before after =
 
 method_is_stated : (place : ℕ) (method : Method) → method.before.0 < 64 → method.after.0 < 64 → AreStated (method_statements place method)
 method_is_stated place method before after =
-    let code : AreStated (placed (instr_words method.code) 0 method.code) = code_is_stated method.code 0 method.code in
-    (heading_is_stated place method before after, stated_append (placed (instr_words method.code) 0 method.code) (end_words ∷ []) code (record { some = refl; words = (keyword_is_word k.End, tt) }, tt))
+    let words = placed (instr_words method.code) 0 method.code in
+    let code : AreStated words = code_is_stated method.code 0 method.code in
+    (heading_is_stated place method before after, stated_append words (end_words ∷ []) code (record { some = refl; words = (keyword_is_word k.End, tt) }, tt))
 
 methods_are_stated : (version : Version) (classes methods place : ℕ) (ms : List Method) →
     All (MethodFits version classes methods) ms → AreStated (flat_map (λ statements. statements) (placed method_statements place ms))

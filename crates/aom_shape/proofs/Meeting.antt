@@ -74,7 +74,9 @@ pub met_more_fillings : (a b m : List Filling) (i : ℕ) (e : Filling) → MetFi
 met_more_fillings a b m i e h within la lb = record {
   size = length-set m i (meet_filling (slice_index_or a i e) (slice_index_or b i e)) ∙ h.size;
   each = λ k below. elim (eqb_tells k i) [
-    | inl w ↦ rw (w.1, at_set_here Perhaps m i (meet_filling (slice_index_or a i e) (slice_index_or b i e)) (omega (arith, h.size)), at_within Perhaps e a i (omega arith), at_within Perhaps e b i (omega arith))
+    | inl w ↦
+        let here = at_set_here Perhaps m i (meet_filling (slice_index_or a i e) (slice_index_or b i e)) (omega (arith, h.size)) in
+        rw (w.1, here, at_within Perhaps e a i (omega arith), at_within Perhaps e b i (omega arith))
     | inr w ↦ rw (at_set_other Perhaps m i k (meet_filling (slice_index_or a i e) (slice_index_or b i e)) w.1) (h.each k (omega (arith, w.1)))
   ];
 }
@@ -120,8 +122,10 @@ met a b m la lb fa fb registers fields first second states delivered other =
     let kinds = met_everywhere a.registers b.registers m.registers la lb registers in
     let fillings = fillings_everywhere a.fields b.fields m.fields fa fb fields in
     record {
-      first = record { registers = λ i. (kinds i).first; fields = λ i. rw (fillings i) (filling_first (field a i) (field b i)); entries = first; states = rw states (has_first a.states b.states); delivery = delivered };
-      second = record { registers = λ i. (kinds i).second; fields = λ i. rw (fillings i) (filling_second (field a i) (field b i)); entries = second; states = rw states (has_second a.states b.states); delivery = other };
+      first = let has = has_first a.states b.states in
+          record { registers = λ i. (kinds i).first; fields = λ i. rw (fillings i) (filling_first (field a i) (field b i)); entries = first; states = rw states has; delivery = delivered };
+      second = let has = has_second a.states b.states in
+          record { registers = λ i. (kinds i).second; fields = λ i. rw (fillings i) (filling_second (field a i) (field b i)); entries = second; states = rw states has; delivery = other };
       strongest = λ n h k. record {
         registers = λ i. (kinds i).strongest (register n i) (h.registers i) (k.registers i);
         fields = λ i. rw (fillings i) (filling_strongest (field a i) (field b i) (field n i) (h.fields i) (k.fields i));

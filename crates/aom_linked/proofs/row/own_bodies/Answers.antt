@@ -29,4 +29,5 @@ returns c =
     let methods = c.args.image.now.methods in
     let same = c.as_slice-method-items.ensures ∙ c.methods.ensures.value in
     let past : length methods ≤ c.loop-index.index = omega (arith, rw same at c.loop-index-test.false) in
-    record { size = c.loop-index.invariant.size; each = λ k o at. c.loop-index.invariant.each k o at ∙ ap (position (replaces c.args.image.now k c.args.named)) (take_all c.loop-index.index methods past) }
+    let all = take_all c.loop-index.index methods past in
+    record { size = c.loop-index.invariant.size; each = λ k o at. c.loop-index.invariant.each k o at ∙ ap (position (replaces c.args.image.now k c.args.named)) all }
