@@ -7,28 +7,27 @@ use Rattle.std.specs.Prelude.{bit_and, bit_or}
 use Rattle.aom_image.specs.Image.{Image}
 use Rattle.aom_image.specs.Views.{arguments_of, gives_of, has, leaves, method_class, method_role}
 use Rattle.aom_instructions.specs.declared.instr.Instr.{Instr}
-use Rattle.aom_instructions.specs.declared.instr.Instr.TheVariants.{Const, Copy, Move, Add, Sub, Mul, And, Or, Xor, JumpEqual, JumpLess, JumpNull, JumpEmpty}
-use Rattle.aom_instructions.specs.declared.instr.Instr.TheVariants.{Print, Load, Store, Take, Put, New, NewOrLeave, Delete, Push, PushOperation, Pop, Call}
-use Rattle.aom_instructions.specs.declared.instr.Instr.TheVariants.{Trap, TakeMessage, Reply, Return, Leave, LeaveIf, Enlist, Issue, SetActive, Cancel, Abort}
-use Rattle.aom_instructions.specs.declared.instr.Instr.TheVariants.{Status, Connect, Ask, Close, Hand}
+use Rattle.aom_instructions.specs.declared.instr.Instr.TheVariants.{Return}
 use Rattle.aom_instructions.specs.declared.instr.Target.{Target}
 use Rattle.aom_instructions.specs.declared.instr.Target.TheVariants.{This, Register, Field, Entry as On_entry}
 use Rattle.aom_image.specs.declared.method.Argument.{Argument}
 use Rattle.aom_image.specs.declared.method.Argument.TheVariants.{Word as A_word_argument, Own as An_own_argument}
 use Rattle.aom_image.specs.declared.method.Gives.{Gives}
 use Rattle.aom_image.specs.declared.method.Gives.TheVariants.{Nothing, Word as A_word, Own as An_own, Maybe as A_maybe, Left}
+use Rattle.aom_image.specs.declared.method.Thing.{Thing}
 use Rattle.aom_image.specs.declared.method.Thing.TheVariants.{Message}
 use Rattle.aom_roles.specs.Tests.{AllTrue, only_if}
 use Rattle.aom_roles.specs.Roles.{is_cancel, is_construct, is_service}
-use Rattle.aom_roles.specs.States.{active, active_states, cancel_done, cancel_open, idle, issued, server_states, unlisted}
+use Rattle.aom_roles.specs.States.{active, cancel_done, idle, issued, server_states}
 use Rattle.aom_rules.specs.Requests.{flow_in, flow_narrowed, may_begin, once_cancelled, resting, unissued}
 use Rattle.aom_site.specs.Site.{leave_point}
-use Rattle.aom_site.specs.Calls.{constructs_owned, empty_by, is_destructor, is_target, age_need, awaits, brought, caught, worked_on, while_called}
+use Rattle.aom_site.specs.Calls.{rule_call, rule_trap, constructs_owned, empty_by, is_destructor, is_target, age_need, awaits, brought, caught, worked_on, while_called}
 use Rattle.aom_site.specs.Calls.{argument_needs, each_argument, rule_target, rule_arguments, rule_moved, rule_trapped, fields_done, rule_ended, rule_left}
 use Rattle.aom_site.specs.Calls.{rule_result, result_moved, lasting}
 use Rattle.aom_shape.specs.Entries.{without_top, with_entry, without_entry}
 use Rattle.aom_shape.specs.Arguments.{after_of, argument_moved, arguments_moved}
 use Rattle.aom_rules.specs.Cleanup.{owns_object, entry_of, top_kind}
+use Rattle.aom_shape.specs.Kinds.{is_word, is_unowning, may_be_destroyed, is_own_for, is_ready_kind, may_be_declared, is_empty}
 use Rattle.aom_shape.specs.Kinds.{register, field, set_register, set_field, filled, filling_of, is_fresh_kind, is_here, is_object_or_null, none_owns, readied}
 use Rattle.aom_rules.specs.Laws.{AllFollow, Follows}
 use Rattle.aom_shape.specs.Needs.{Flow, Need}
@@ -199,7 +198,7 @@ entering_more p m a b target m' first x y h more n =
     grind (arith, all_true_rest, all_true_first, all_true_both, called_on_more p m a b target m', arguments_more p a b)
 
 call_more : (p : Image) (m pc : ℕ) (a b : Shape) (target : Target) (m' first c : ℕ) →
-    SaysNoMore a b → AllTrue (rule_needs p m pc a (Call target m' first c)) → AllTrue (rule_needs p m pc b (Call target m' first c))
+    SaysNoMore a b → AllTrue (rule_call p m pc a target m' first c) → AllTrue (rule_call p m pc b target m' first c)
 call_more p m pc a b target m' first c h n =
     let moved = λ (s : Shape). arguments_moved (arguments_of p m') first s in
     entering_more p m a b target m' first (rule_moved p m (moved a) target m' c)
@@ -235,7 +234,7 @@ trapped_more : (p : Image) (m pc : ℕ) (x y a b : Shape) (target : Target) (m' 
 trapped_more p m pc x y a b target m' c h n = (begins_more p m' target a.states b.states h.states n.0, grind (arith, nat_tests, awaits_more, unowning_more))
 
 trap_more : (p : Image) (m pc : ℕ) (a b : Shape) (target : Target) (m' first c : ℕ) →
-    SaysNoMore a b → AllTrue (rule_needs p m pc a (Trap target m' first c)) → AllTrue (rule_needs p m pc b (Trap target m' first c))
+    SaysNoMore a b → AllTrue (rule_trap p m pc a target m' first c) → AllTrue (rule_trap p m pc b target m' first c)
 trap_more p m pc a b target m' first c h n =
     let moved = λ (s : Shape). arguments_moved (arguments_of p m') first s in (
       n.0,
@@ -280,62 +279,63 @@ ended_more p m pc a b h n =
       ),
     )
 
+-- what a need asks of a register, of a field, of the request's states or of the message, the second state meets too
+module _ (p : Image) (m pc : ℕ) (a b : Shape) (h : SaysNoMore a b) where
+  word_in : (r : ℕ) → is_word (register a r) ≡ true → is_word (register b r) ≡ true
+  word_in r = word_more (register a r) (register b r) (h.registers r)
+
+  unowning_in : (r : ℕ) → is_unowning (register a r) ≡ true → is_unowning (register b r) ≡ true
+  unowning_in r = unowning_more (register a r) (register b r) (h.registers r)
+
+  object_or_null_in : (r : ℕ) → is_object_or_null (register a r) ≡ true → is_object_or_null (register b r) ≡ true
+  object_or_null_in r = object_or_null_more (register a r) (register b r) (h.registers r)
+
+  destroyed_in : (r : ℕ) → may_be_destroyed (register a r) ≡ true → may_be_destroyed (register b r) ≡ true
+  destroyed_in r = destroyed_more (register a r) (register b r) (h.registers r)
+
+  owns_in : (r : ℕ) → owns_object (register a r) ≡ true → owns_object (register b r) ≡ true
+  owns_in r = owns_more (register a r) (register b r) (h.registers r)
+
+  own_in : (t : Thing) (r : ℕ) → is_own_for p t (register a r) ≡ true → is_own_for p t (register b r) ≡ true
+  own_in t r = own_more p t (register a r) (register b r) (h.registers r)
+
+  ready_in : (r : ℕ) → is_ready_kind (register a r) ≡ true → is_ready_kind (register b r) ≡ true
+  ready_in r = ready_more (register a r) (register b r) (h.registers r)
+
+  declared_in : (o : Option Thing) (r : ℕ) → may_be_declared p o (register a r) ≡ true → may_be_declared p o (register b r) ≡ true
+  declared_in o r = declared_more p o (register a r) (register b r) (h.registers r)
+
+  empty_in : (f : ℕ) → is_empty (field a f) ≡ true → is_empty (field b f) ≡ true
+  empty_in f = empty_more (field a f) (field b f) (h.fields f)
+
+  some_in : (x : ℕ) → has x a.states ≡ true → has x b.states ≡ true
+  some_in x n = has_along x a.states b.states n h.states
+
+  none_in : (x : ℕ) → not (has a.states x) ≡ true → not (has b.states x) ≡ true
+  none_in x = has_not_more a.states b.states x h.states
+
+  leave_in : AllTrue (leave_point p m pc a a) → AllTrue (leave_point p m pc b b)
+  leave_in = leave_more p m pc a b a b h
+
+  -- once the object of a register is pushed
+  pushed_in : (r : ℕ) → AllTrue (leave_point p m pc a (set_register a r Null)) → AllTrue (leave_point p m pc b (set_register b r Null))
+  pushed_in r = leave_more p m pc a b (set_register a r Null) (set_register b r Null) (register_more a b r Null Null h alike)
+
+  call_in : (target : Target) (m' first c : ℕ) → AllTrue (rule_call p m pc a target m' first c) → AllTrue (rule_call p m pc b target m' first c)
+  call_in target m' first c = call_more p m pc a b target m' first c h
+
+  trap_in : (target : Target) (m' first c : ℕ) → AllTrue (rule_trap p m pc a target m' first c) → AllTrue (rule_trap p m pc b target m' first c)
+  trap_in target m' first c = trap_more p m pc a b target m' first c h
+
+  needs_in : (i : Instr) → AllTrue (rule_needs p m pc a i) → AllTrue (rule_needs p m pc b i)
+  needs_in (Return r) n = grind (arith, all_true_rest, result_more p m pc a b, left_more p m pc a b r h, ended_more p m pc a b h)
+  needs_in _ n = first_of (
+    search (call_in, trap_in, word_in, unowning_in, some_in, none_in, object_or_null_in, destroyed_in, owns_in, own_in, ready_in, declared_in, empty_in, leave_in, pushed_in, here_more a b h),
+    grind (arith, n, unowning_in, h.entries),
+  )
+
 pub needs_more : (p : Image) (m pc : ℕ) (a b : Shape) (i : Instr) → SaysNoMore a b → AllTrue (rule_needs p m pc a i) → AllTrue (rule_needs p m pc b i)
-needs_more p m pc a b (Const r w) h n = (unowning_more (register a r) (register b r) (h.registers r) n.0, tt)
-needs_more p m pc a b (Copy r s) h n = copy_more pc a b r s h n
-needs_more p m pc a b (Add r s t) h n = combine_more pc a b r s t h n
-needs_more p m pc a b (Sub r s t) h n = combine_more pc a b r s t h n
-needs_more p m pc a b (Mul r s t) h n = combine_more pc a b r s t h n
-needs_more p m pc a b (And r s t) h n = combine_more pc a b r s t h n
-needs_more p m pc a b (Or r s t) h n = combine_more pc a b r s t h n
-needs_more p m pc a b (Xor r s t) h n = combine_more pc a b r s t h n
-needs_more p m pc a b (JumpEqual r s to) h n = compare_more pc a b r s h n
-needs_more p m pc a b (JumpLess r s to) h n = compare_more pc a b r s h n
-needs_more p m pc a b (Load r w) h n = (n.0, (unowning_more (register a r) (register b r) (h.registers r) n.1.0, tt))
-needs_more p m pc a b (Store w s) h n = (n.0, (word_more (register a s) (register b s) (h.registers s) n.1.0, tt))
-needs_more p m pc a b (JumpEmpty f to) h n = n
-needs_more p m pc a b (JumpNull r to) h n = (object_or_null_more (register a r) (register b r) (h.registers r) n.0, tt)
-needs_more p m pc a b (Print r) h n = (word_more (register a r) (register b r) (h.registers r) n.0, tt)
-needs_more p m pc a b (Move r s) h n = search (arith, nat_tests, object_or_null_more, h.registers s, unowning_more, h.registers r)
-needs_more p m pc a b (Take r f) h n = (n.0, (unowning_more (register a r) (register b r) (h.registers r) n.1.0, tt))
-needs_more p m pc a b (Put f s) h n = search (arith, nat_tests, declared_more p, h.registers s, ready_more, empty_more, h.fields f)
-needs_more p m pc a b (New r c) h n = (unowning_more (register a r) (register b r) (h.registers r) n.0, n.1)
-needs_more p m pc a b (Delete r) h n = (destroyed_more (register a r) (register b r) (h.registers r) n.0, tt)
-needs_more p m pc a b (Call target m' first c) h n = call_more p m pc a b target m' first c h n
-needs_more p m pc a b (Trap target m' first c) h n = trap_more p m pc a b target m' first c h n
-needs_more p m pc a b (NewOrLeave r c) h n = (unowning_more (register a r) (register b r) (h.registers r) n.0, (n.1.0, leave_more p m pc a b a b h n.1.1))
-needs_more p m pc a b (Push r) h n = (
-  owns_more (register a r) (register b r) (h.registers r) n.0,
-  leave_more p m pc a b (set_register a r Null) (set_register b r Null) (register_more a b r Null Null h alike) n.1,
-)
-needs_more p m pc a b (PushOperation r m') h n = (word_more (register a r) (register b r) (h.registers r) n.0, leave_more p m pc a b a b h n.1)
-needs_more p m pc a b (Pop r) h n = (unowning_more (register a r) (register b r) (h.registers r) n.0, rw (← h.entries) n.1)
-needs_more p m pc a b (Leave r) h n = (word_more (register a r) (register b r) (h.registers r) n.0, leave_more p m pc a b a b h n.1)
-needs_more p m pc a b (LeaveIf r) h n = (word_more (register a r) (register b r) (h.registers r) n.0, leave_more p m pc a b a b h n.1)
-needs_more p m pc a b (Return r) h n = grind (arith, all_true_rest, result_more p m pc a b, left_more p m pc a b r h, ended_more p m pc a b h)
-needs_more p m pc a b (Enlist priority) h n = (n.0, (has_along unlisted a.states b.states n.1.0 h.states, tt))
-needs_more p m pc a b (Issue r s) h n = (
-  word_more (register a r) (register b r) (h.registers r) n.0,
-  (
-    word_more (register a s) (register b s) (h.registers s) n.1.0,
-    (n.1.1.0, (has_not_more a.states b.states unlisted h.states n.1.1.1.0, (has_along idle a.states b.states n.1.1.1.1.0 h.states, tt))),
-  ),
-)
-needs_more p m pc a b SetActive h n = (n.0, (has_along issued a.states b.states n.1.0 h.states, tt))
-needs_more p m pc a b Cancel h n = (n.0, (has_along active_states a.states b.states n.1.0 h.states, tt))
-needs_more p m pc a b Abort h n = (n.0, (has_along (bit_or cancel_open cancel_done) a.states b.states n.1.0 h.states, tt))
-needs_more p m pc a b (Status r) h n = (n.0, (unowning_more (register a r) (register b r) (h.registers r) n.1.0, tt))
-needs_more p m pc a b (Connect r) h n = (n.0, (unowning_more (register a r) (register b r) (h.registers r) n.1.0, tt))
-needs_more p m pc a b (Ask r s t) h n = search (arith, nat_tests, word_more, h.registers s, h.registers t, unowning_more, h.registers r)
-needs_more p m pc a b Close h n = (n.0, (has_along server_states a.states b.states n.1.0 h.states, tt))
-needs_more p m pc a b (TakeMessage r) h n = (unowning_more (register a r) (register b r) (h.registers r) n.0, (n.1.0, (here_more a b h n.1.1.0, tt)))
-needs_more p m pc a b (Hand r) h n = (
-  unowning_more (register a r) (register b r) (h.registers r) n.0,
-  (n.1.0, (has_not_more a.states b.states unlisted h.states n.1.1.0, (has_along idle a.states b.states n.1.1.1.0 h.states, tt))),
-)
-needs_more p m pc a b (Reply r s) h n = search (arith, nat_tests, own_more p Message, h.registers r, word_more, h.registers s)
--- of the entries or of the method alone, or of nothing
-needs_more p m pc a b _ h n = grind (arith, n, h.entries)
+needs_more p m pc a b i h n = needs_in p m pc a b h i n
 
 same_jump : (p : Image) (m pc : ℕ) (a b : Shape) (r to : ℕ) → SaysNoMore a b → (k : Kind) → AllFollow (flow_jump_null p m pc a k r to) (flow_jump_null p m pc b k r to)
 same_jump p m pc a b r to h Null = (inl (refl, h), tt)

@@ -1,7 +1,6 @@
 -- The need that fails is the first that is not met.
 use Rattle.std.proofs.Common.{ap, sym, ◌∙◌}
-use Rattle.aom_instructions.specs.declared.instr.Instr.TheVariants.{Leave}
-use Rattle.aom_rules.specs.Rules.{flows, rule_needs}
+use Rattle.aom_rules.specs.Cleanup.{rule_leave}
 use Rattle.aom_shape.proofs.Judging.{all_failed}
 use Rattle.aom_site.specs.Site.{Site}
 use Rattle.aom_rules.proofs.cleanup.rule_leave.Goals as goal
@@ -11,5 +10,5 @@ returns-in-Err c =
     let site = c.args.site.now in
     let there = ap (λ (s : Site). s.shape) c.site.view_is in
     let failed = rw (c.needs_word.ensures, there) at (sym c.judge_leave.ensures ∙ c.in-Err.is) in
-    let needs = rule_needs site.image site.method site.place site.shape (Leave c.args.a) in
-    sym (all_failed needs (flows site.image site.method site.place site.shape (Leave c.args.a)) c.in-Err.why failed)
+    let needs = rule_leave site.image site.method site.place site.shape c.args.a in
+    sym (all_failed needs _ c.in-Err.why failed)

@@ -1,7 +1,6 @@
 -- The need that fails is the first that is not met.
 use Rattle.std.proofs.Common.{ap, sym, ◌∙◌}
-use Rattle.aom_instructions.specs.declared.instr.Instr.TheVariants.{Push}
-use Rattle.aom_rules.specs.Rules.{flows, rule_needs}
+use Rattle.aom_rules.specs.Cleanup.{rule_push}
 use Rattle.aom_shape.proofs.Judging.{all_failed}
 use Rattle.aom_site.specs.Site.{Site}
 use Rattle.aom_rules.proofs.cleanup.rule_push.Goals as goal
@@ -11,5 +10,5 @@ returns-in-Err c =
     let site = c.args.site.now in
     let there = ap (λ (s : Site). s.shape) c.site.view_is in
     let failed = rw (c.owns_object.ensures, c.register-2.ensures, c.with_register-moved.ensures, there) at (sym c.judge_leave.ensures ∙ c.in-Err.is) in
-    let needs = rule_needs site.image site.method site.place site.shape (Push c.args.a) in
-    sym (all_failed needs (flows site.image site.method site.place site.shape (Push c.args.a)) c.in-Err.why failed)
+    let needs = rule_push site.image site.method site.place site.shape c.args.a in
+    sym (all_failed needs _ c.in-Err.why failed)
