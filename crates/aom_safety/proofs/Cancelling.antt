@@ -11,6 +11,7 @@ use Rattle.aom_image.specs.declared.class.ClassKind.{ClassKind}
 use Rattle.aom_image.specs.declared.method.Role.TheVariants.{Cancel as Cancel_role}
 use Rattle.aom_image.specs.declared.method.Thing.{Thing}
 use Rattle.aom_image.specs.declared.method.Thing.TheVariants.{Object as An_object_of}
+use Rattle.aom_instructions.specs.declared.instr.Instr.{Instr}
 use Rattle.aom_instructions.specs.declared.instr.Instr.TheVariants.{Cancel}
 use Rattle.aom_roles.specs.Kinds.{is_active_kind}
 use Rattle.aom_roles.specs.Roles.{is_service, is_cancel}
@@ -413,3 +414,8 @@ module _ (p : Image) (t : Typing) (wired : IsWired p) (typed : IsTyped p t) (c :
       go true (Some m) a e = begun_well p t wired typed c s fr sh ls at_hand n.0 leads.0 m a e
       go true None a e = absurd (has_one e)
       go false _ a e = stays p t wired typed c s fr sh ls at_hand n.0 leads.0 within a
+
+  -- the instruction of this file by its law
+  abbrev pub of_cancel : (i : Instr) → Option (Law p t c s fr sh ls at_hand i)
+  of_cancel Cancel = Some law_cancel
+  of_cancel _ = None

@@ -14,7 +14,7 @@ use Rattle.aom_safety.proofs.ClientsTurn.{tasks_begun, on_none}
 use Rattle.aom_semantics.specs.Cleanup.{to_trap, top_place}
 use Rattle.aom_semantics.specs.Effects.{Calls, Cancels, Destroys, Destroys_last, Effect, Goes_on, Leaves, Requested, Returns, Same as Unchanged, Sets_trap}
 use Rattle.aom_semantics.specs.Effects.{applied, asking_with, cancels_if, deals, deletes, effect, hands_unless, jumps_unless, makes_unless, round}
-use Rattle.aom_semantics.specs.Enlisted.{Asking, aborted, cancelling, completed_at_once, home_kind, issued_of, on_request, own_request, waits}
+use Rattle.aom_semantics.specs.Enlisted.{Asking, aborted, cancelling, completed_at_once, first_request, home_kind, issued_of, on_request, own_request, waits}
 use Rattle.aom_semantics.specs.Tokens.{busy, is_crowded}
 use Rattle.aom_safety.specs.Kept.{ClientsFit, TasksKept}
 use Rattle.aom_semantics.specs.Places.{Cell, Going, Object, Request, named}
@@ -73,17 +73,39 @@ module _ (p : Image) (c : Choice) (fr : Frame) (ts : List Task) (s : State) (fre
   fine_hands true a = fine_requests (completed_at_once busy) (λ r k e. absurd (none-some k e))
   fine_hands false a = free
 
+  fine_waits : IsSteady fr s (Requested (on_request waits (own_request s.cells fr.home)))
+  fine_waits = fine_requests waits (λ r k e. e)
+
+  fine_aborted : IsSteady fr s (Requested (on_request aborted (own_request s.cells fr.home)))
+  fine_aborted = fine_requests aborted (λ r k e. absurd (none-some k e))
+
+  fine_issued : (a : ℕ) →
+      IsSteady fr s (Requested (on_request (issued_of (home_kind p fr.home) (asking_with p c fr ts s) (read fr ts s a)) (own_request s.cells fr.home)))
+  fine_issued a = fine_requests (issued_of (home_kind p fr.home) (asking_with p c fr ts s) (read fr ts s a))
+      (fewer_issued (home_kind p fr.home) (asking_with p c fr ts s) (read fr ts s a))
+
+  fine_enlisted : (priority : ℤ) → IsSteady fr s (Requested (Some (first_request s.cells priority)))
+  fine_enlisted priority = (λ e. cc, λ k e. absurd (none-some k e))
+
   pub fine_effect : (i : Instr) → IsUsual i → Fine fr s (effect p c fr ts s i)
   fine_effect (instrs.Reply a b) usual = absurd usual
   fine_effect (instrs.Return a) usual = absurd usual
-  fine_effect (instrs.Hand a) usual = fine_hands (is_crowded p s.cells) a
-  fine_effect (instrs.Enlist priority) usual = (λ e. cc, λ k e. absurd (none-some k e))
-  fine_effect (instrs.Issue a b) usual = fine_requests (issued_of (home_kind p fr.home) (asking_with p c fr ts s) (read fr ts s a))
-      (fewer_issued (home_kind p fr.home) (asking_with p c fr ts s) (read fr ts s a))
-  fine_effect instrs.SetActive usual = fine_requests waits (λ r k e. e)
-  fine_effect instrs.Abort usual = fine_requests aborted (λ r k e. absurd (none-some k e))
-  -- by the form of its effect
-  fine_effect _ usual = search (free, fine_cond, fine_unless, fine_round, fine_makes, fine_deletes, fine_deals, fine_cancels)
+  -- the others by the form of their effects
+  fine_effect _ usual = search (
+    free,
+    fine_waits,
+    fine_aborted,
+    fine_issued,
+    fine_enlisted,
+    fine_hands (is_crowded p s.cells),
+    fine_cond,
+    fine_unless,
+    fine_round,
+    fine_makes,
+    fine_deletes,
+    fine_deals,
+    fine_cancels,
+  )
 
 -- ---- the effects
 

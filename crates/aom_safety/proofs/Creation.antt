@@ -5,6 +5,7 @@ use Rattle.std.proofs.Common.{refl, subst, sym, true, ℕ, ℤ, ◌==◌, ◌∙
 use Rattle.std.proofs.lemmas.Bool.{eqb-true, ne_eqb}
 use Rattle.std.specs.Prelude.{is_none}
 use Rattle.aom_image.specs.Image.{Image}
+use Rattle.aom_instructions.specs.declared.instr.Instr.{Instr}
 use Rattle.aom_instructions.specs.declared.instr.Instr.TheVariants.{New}
 use Rattle.aom_image.specs.declared.method.Thing.{Thing}
 use Rattle.aom_image.specs.declared.method.Thing.TheVariants.{Object as An_object_of}
@@ -223,3 +224,8 @@ module _ (p : Image) (t : Typing) (c : Choice) (s : State) (fr : Frame) (sh : Sh
       go : (b : Bool) → WellTyped p t (applied p fr (tasks_of ls) s (sets fr a None (makes_unless b c.name x a)))
       go true = well p t c s fr sh ls at_hand _ fr' (set_register sh a k) refl at_hand.items at_hand.undos (settle p t _ fr' (set_register sh a k) ls refuses leads.0)
       go false = made_well a x k free unused (λ h age. (stands_itself p (An_object_of x), age)) refl leads.0
+
+  -- the instruction of this file by its law
+  abbrev pub of_creation : IsUnused → (i : Instr) → Option (Law p t c s fr sh ls at_hand i)
+  of_creation unused (New a x) = Some (law_new a x unused)
+  of_creation unused _ = None

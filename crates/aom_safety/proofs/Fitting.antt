@@ -1,17 +1,14 @@
 -- Each instruction may have its effect, and the registers that the effect names are among those of a method.
 use Rattle.std.proofs.lemmas.Bool.Decides.{nat_tests}
-use Rattle.std.proofs.Common.{Bool, List, None, Option, Some, [], ap, cond, inl, length, refl, sym, true, ℕ, ℤ, negsuc, arith, ◌-◌, ◌∙◌, ◌∷◌, ◌≡◌, ◌≤◌}
+use Rattle.std.proofs.Common.{Bool, List, Option, Some, [], ap, cond, inl, length, refl, sym, true, ℕ, ℤ, negsuc, arith, ◌-◌, ◌∙◌, ◌∷◌, ◌≡◌, ◌≤◌}
 use Rattle.std.proofs.lemmas.Bool.{leb-true}
-use Rattle.std.specs.Ordering.{int_eq}
-use Rattle.std.specs.Prelude.{int_lt, is_some}
+use Rattle.std.specs.Prelude.{is_some}
 use Rattle.aom_image.specs.Image.{Image}
 use Rattle.aom_instructions.specs.Operands.{IsRegister}
 use Rattle.aom_image.specs.Views.{arguments_of}
 use Rattle.aom_instructions.specs.Fits.{InstrFits}
 use Rattle.aom_instructions.specs.declared.instr.Instr.{Instr}
-use Rattle.aom_instructions.specs.declared.instr.Instr.TheVariants.{Hand, TakeMessage, Call, Cancel, Delete, Jump, JumpActive, JumpAdded, JumpEmpty}
-use Rattle.aom_instructions.specs.declared.instr.Instr.TheVariants.{JumpEqual, JumpLess, JumpNull, Leave, LeaveIf, Loop, Move, New, NewOrLeave, Next}
-use Rattle.aom_instructions.specs.declared.instr.Instr.TheVariants.{Pop, PopDelete, PopOperation, Push, PushOperation, Return, Take, Trap}
+use Rattle.aom_instructions.specs.declared.instr.Instr.TheVariants.{Call, Cancel, Loop, Next, Pop, PopDelete, PopOperation, Push, PushOperation, Return, Trap}
 use Rattle.aom_instructions.specs.declared.instr.Target.{Target}
 use Rattle.aom_instructions.specs.declared.limits.Limits.{Limits}
 use Rattle.aom_roles.specs.Tests.{AllTrue}
@@ -22,15 +19,14 @@ use Rattle.aom_semantics.specs.Calls.{below_top, needs_entering}
 use Rattle.aom_semantics.specs.Cleanup.{has_trap, leave_needs, no_memory, top_is_whole, top_place, tops_entry, tops_operation}
 use Rattle.aom_semantics.specs.Effects.{Calls, Cancels, Carried, Destroys, Destroys_last, Effect, Goes_on, In_register}
 use Rattle.aom_semantics.specs.Effects.{Leaves, Handed, Made, Operates, Popped, Pushed, Pushed_operation, Same, Sets_trap, Spot, Update, cancels_if}
-use Rattle.aom_semantics.specs.Effects.{deals, deletes, effect, hands_unless, jumps_if, jumps_unless, makes_unless, round, sets}
-use Rattle.aom_semantics.specs.Enlisted.{cancel_method, in_phase, is_active, is_busy, own_request}
+use Rattle.aom_semantics.specs.Effects.{deals, effect, jumps_if, jumps_unless, round}
+use Rattle.aom_semantics.specs.Enlisted.{cancel_method, in_phase, is_active, own_request}
 use Rattle.aom_safety.specs.Leaves.{LeavesWith}
 use Rattle.aom_semantics.specs.Moves.{needs}
-use Rattle.aom_semantics.specs.Places.{Cell, Object, Request, held}
-use Rattle.aom_semantics.specs.State.{An_operation, Choice, Frame, Item, Need, Run, State, Task, counter, field_place, word}
+use Rattle.aom_semantics.specs.Places.{Cell, Object, held}
+use Rattle.aom_semantics.specs.State.{An_operation, Choice, Frame, Item, Need, Run, State, Task, counter}
 use Rattle.aom_safety.specs.Steps.{Fits, IsStraight}
-use Rattle.aom_semantics.specs.Tokens.{is_crowded}
-use Rattle.aom_semantics.specs.Words.{here, read, word_or_zero}
+use Rattle.aom_semantics.specs.Words.{read, word_or_zero}
 
 -- the word that a register has
 read_word : (o : Option ℤ) → is_some o ≡ true → o ≡ Some (word_or_zero o)
@@ -75,18 +71,6 @@ module _ (p : Image) (c : Choice) (fr : Frame) (ts : List Task) (s : State) wher
   loops : (n depth to : ℕ) → counter fr depth - 1 ≡ n → May (Next depth to) (round n depth to)
   loops x depth to e = grind arith
 
-  making : (refused : Bool) (a x : ℕ) → May (New a x) (sets fr a None (makes_unless refused c.name x a))
-  unfolding loop_in
-  making x a y = grind arith
-
-  handing : (crowded : Bool) (a : ℕ) (own : Option Request) → May (Hand a) (sets fr a None (hands_unless crowded c.name a own))
-  unfolding loop_in
-  handing x a own = grind arith
-
-  deleting : (o : Option Object) (a : ℕ) → held s.cells (here fr ts s a) ≡ o → May (Delete a) (deletes fr o a)
-  unfolding loop_in
-  deleting x a e = grind arith
-
   either : (i : Instr) (b : Bool) (code : ℤ) (off : Update) (on : Effect) → (b ≡ true → May i (Leaves code off)) → May i on → May i (cond b (Leaves code off) on)
   either i x code off on y z = grind arith
 
@@ -108,35 +92,17 @@ module _ (p : Image) (c : Choice) (fr : Frame) (ts : List Task) (s : State) wher
 
   pub fits : (i : Instr) → AllTrue (needs p c fr ts s i) → May i (effect p c fr ts s i)
   unfolding jump_of loop_in
-  fits (Jump to) n = (refl, λ l f. tt)
-  fits (JumpEqual a b to) n = branches (JumpEqual a b to) (int_eq (read fr ts s a) (read fr ts s b)) to refl refl
-  fits (JumpLess a b to) n = branches (JumpLess a b to) (int_lt (read fr ts s a) (read fr ts s b)) to refl refl
-  fits (JumpNull a to) n = jumps (JumpNull a to) (held s.cells (here fr ts s a)) to refl refl
-  fits (JumpEmpty f to) n = jumps (JumpEmpty f to) (held s.cells (field_place fr.home f)) to refl refl
   fits (Loop depth rounds) n = (inl refl, λ l f. tt)
   fits (Next depth to) n = loops (counter fr depth - 1) depth to refl
-  fits (Move a b) n = ((refl, tt), λ l f. f.operands.a)
-  fits (Take a field) n = ((refl, tt), λ l f. f.operands.a)
-  fits (TakeMessage a) n = ((refl, tt), λ l f. f.operands.a)
-  fits (New a x) n = making c.refused a x
-  fits (Hand a) n = handing (is_crowded p s.cells) a (own_request s.cells fr.home)
-  fits (Delete a) n = deleting (held s.cells (here fr ts s a)) a refl
   fits (Call target m first x) n = ((x, refl), λ l f. few_arguments target m first _ n)
   fits (Trap target m first x) n = ((x, refl), λ l f. few_arguments target m first _ n)
-  fits (NewOrLeave a x) n = grind (arith, nat_tests, either, may_leave)
-  fits (Push a) n = grind (arith, nat_tests, either)
-  fits (PushOperation a m) n = grind (arith, nat_tests, either)
   fits (Pop a) n = ((refl, (refl, grind arith)), λ l f. f.operands.a)
   fits PopOperation n = let o = operation_on_top s.items n.1.0 in ((refl, (refl, o.0, o.1, o.2)), λ l f. tt)
   fits PopDelete n = dealing s.items (held s.cells (top_place s.items)) refl refl n.0 n.1.0
-  fits (Leave a) n = ((n.1.0, read_word (word fr a) n.0, tt), λ l f. tt)
-  fits (LeaveIf a) n = grind (arith, nat_tests, either, may_leave, read_word)
-  fits (JumpActive to) n = branches (JumpActive to) (in_phase is_busy (own_request s.cells fr.home)) to refl refl
-  fits (JumpAdded to) n = branches (JumpAdded to) (is_some (own_request s.cells fr.home)) to refl refl
   fits Cancel n = cancels_by (in_phase is_active (own_request s.cells fr.home)) (cancel_method p fr) refl
   fits (Return a) n = ((refl, refl), λ l f. tt)
-  -- the others go on
-  fits _ n = ((refl, tt), λ l f. tt)
+  -- the others go on, jump or leave, whatever a test of theirs decides
+  fits _ n = first_of (grind arith, grind (arith, nat_tests, either, may_leave, read_word))
 
   -- what a leave of an instruction pushes before it
   abbrev pub off_of : Instr → Update

@@ -3,12 +3,12 @@ use Rattle.std.proofs.Common.{arith, List, None, Some, [], cond, refl, subst, sy
 use Rattle.aom_image.specs.Image.{Image}
 use Rattle.aom_image.specs.Views.{instr_at}
 use Rattle.aom_instructions.specs.declared.instr.Instr.{Instr}
-use Rattle.aom_instructions.specs.declared.instr.Instr.TheVariants.{Cancel, Delete, New, Return, Stop}
+use Rattle.aom_instructions.specs.declared.instr.Instr.TheVariants.{Return, Stop}
 use Rattle.aom_shape.specs.Shape.{Shape}
 use Rattle.aom_rules.specs.Typing.{IsTyped, Typing}
 use Rattle.aom_safety.proofs.CallLaws.{of_calls}
-use Rattle.aom_safety.proofs.Creation.{law_new}
-use Rattle.aom_safety.proofs.Destroying.{law_delete}
+use Rattle.aom_safety.proofs.Creation.{of_creation}
+use Rattle.aom_safety.proofs.Destroying.{of_destruction}
 use Rattle.aom_safety.proofs.Destructors.{law_destructor}
 use Rattle.aom_safety.proofs.Closing.{dispatch_keeps}
 use Rattle.aom_safety.proofs.Entries.{of_entries}
@@ -31,7 +31,7 @@ use Rattle.aom_semantics.specs.State.{Closing, Of_server, Serves, Of_main, Of_ob
 use Rattle.aom_semantics.specs.State.{Dispatch, Dispatched, Frame, IsStuck, Need, Run, State, Task, Trapped, Unwind, guarded, next}
 use Rattle.aom_safety.specs.WellTyped.{Caught, Good, Keeps, Now, Returns, WellTyped}
 use Rattle.aom_safety.proofs.Layers.{closing_layer, dispatch_layer, going_layer, leave_layer, mark_layer, method_layer}
-use Rattle.aom_safety.proofs.Cancelling.{law_cancel}
+use Rattle.aom_safety.proofs.Cancelling.{of_cancel}
 use Rattle.aom_safety.proofs.Serving.{of_natives}
 use Rattle.aom_safety.proofs.Accepting.{law_return_accepted}
 use Rattle.aom_safety.proofs.Emptying.{closing_keeps}
@@ -52,12 +52,9 @@ module _ (p : Image) (t : Typing) (wired : IsWired p) (typed : IsTyped p t)
         (settle p t s.cells (next fr) sh ls (stepped p t s.cells fr sh ls (fitted p t s.cells fr sh ls at_hand.good)) leads.0),
   )
 
-  -- those with a file of their own
+  -- those of this file
   abbrev of_others : (i : Instr) → ((a : ℕ) → Law p t c s fr sh ls at_hand (Return a)) → Option (Law p t c s fr sh ls at_hand i)
-  of_others (New a x) back = Some (law_new p t c s fr sh ls at_hand a x unused)
-  of_others (Delete a) back = Some (law_delete p t c s fr sh ls at_hand wired typed a)
   of_others (Return a) back = Some (back a)
-  of_others Cancel back = Some (law_cancel p t wired typed c s fr sh ls at_hand)
   of_others Stop back = Some law_stop
   of_others _ back = None
 
@@ -76,6 +73,9 @@ module _ (p : Image) (t : Typing) (wired : IsWired p) (typed : IsTyped p t)
       ∷ of_natives p t (main_of_none p wired) c s fr sh ls at_hand i
       ∷ of_messages p t c s fr sh ls at_hand i
       ∷ of_tokens p t (main_of_none p wired) c s fr sh ls at_hand unused i
+      ∷ of_creation p t c s fr sh ls at_hand unused i
+      ∷ of_destruction p t c s fr sh ls at_hand wired typed i
+      ∷ of_cancel p t wired typed c s fr sh ls at_hand i
       ∷ of_others i back
       ∷ []
 
