@@ -8,7 +8,7 @@ use Rattle.aom_instructions.specs.Operands.{IsRegister}
 use Rattle.aom_image.specs.Views.{arguments_of}
 use Rattle.aom_instructions.specs.Fits.{InstrFits}
 use Rattle.aom_instructions.specs.declared.instr.Instr.{Instr}
-use Rattle.aom_instructions.specs.declared.instr.Instr.TheVariants.{Call, Cancel, Loop, Next, Pop, PopDelete, PopOperation, Push, PushOperation, Return, Trap}
+use Rattle.aom_instructions.specs.declared.instr.Instr.TheVariants.{Loop, Push, PushOperation}
 use Rattle.aom_instructions.specs.declared.instr.Target.{Target}
 use Rattle.aom_instructions.specs.declared.limits.Limits.{Limits}
 use Rattle.aom_roles.specs.Tests.{AllTrue}
@@ -16,15 +16,14 @@ use Rattle.aom_classes.specs.Jumps.{jump_of}
 use Rattle.aom_classes.specs.Loops.{loop_in}
 use Rattle.aom_safety.proofs.Finishing.{all_parts}
 use Rattle.aom_semantics.specs.Calls.{below_top, needs_entering}
-use Rattle.aom_semantics.specs.Cleanup.{has_trap, leave_needs, no_memory, top_is_whole, top_place, tops_entry, tops_operation}
+use Rattle.aom_semantics.specs.Cleanup.{has_trap, leave_needs, no_memory, tops_operation}
 use Rattle.aom_semantics.specs.Effects.{Calls, Cancels, Carried, Destroys, Destroys_last, Effect, Goes_on, In_register}
-use Rattle.aom_semantics.specs.Effects.{Leaves, Handed, Made, Operates, Popped, Pushed, Pushed_operation, Same, Sets_trap, Spot, Update, cancels_if}
-use Rattle.aom_semantics.specs.Effects.{deals, effect, jumps_if, jumps_unless, round}
-use Rattle.aom_semantics.specs.Enlisted.{cancel_method, in_phase, is_active, own_request}
+use Rattle.aom_semantics.specs.Effects.{Leaves, Handed, Made, Operates, Popped, Pushed, Pushed_operation, Same, Sets_trap, Spot, Update}
+use Rattle.aom_semantics.specs.Effects.{effect}
 use Rattle.aom_safety.specs.Leaves.{LeavesWith}
 use Rattle.aom_semantics.specs.Moves.{needs}
-use Rattle.aom_semantics.specs.Places.{Cell, Object, held}
-use Rattle.aom_semantics.specs.State.{An_operation, Choice, Frame, Item, Need, Run, State, Task, counter}
+use Rattle.aom_semantics.specs.Places.{Cell}
+use Rattle.aom_semantics.specs.State.{An_operation, Choice, Frame, Item, Need, Run, State, Task}
 use Rattle.aom_safety.specs.Steps.{Fits, IsStraight}
 use Rattle.aom_semantics.specs.Words.{read, word_or_zero}
 
@@ -62,15 +61,6 @@ module _ (p : Image) (c : Choice) (fr : Frame) (ts : List Task) (s : State) wher
   abbrev May : Instr → Effect → Type 0
   May i e = Fits p c fr ts s i e × ((l : Limits) → InstrFits l i → EffectFits p e)
 
-  branches : (i : Instr) (b : Bool) (to : ℕ) → jump_of i ≡ Some to → IsStraight i → May i (jumps_if fr b to)
-  branches i x to jump straight = grind arith
-
-  jumps : (i : Instr) (o : Option Object) (to : ℕ) → jump_of i ≡ Some to → IsStraight i → May i (jumps_unless fr o to)
-  jumps i x to jump straight = grind arith
-
-  loops : (n depth to : ℕ) → counter fr depth - 1 ≡ n → May (Next depth to) (round n depth to)
-  loops x depth to e = grind arith
-
   either : (i : Instr) (b : Bool) (code : ℤ) (off : Update) (on : Effect) → (b ≡ true → May i (Leaves code off)) → May i on → May i (cond b (Leaves code off) on)
   either i x code off on y z = grind arith
 
@@ -78,31 +68,19 @@ module _ (p : Image) (c : Choice) (fr : Frame) (ts : List Task) (s : State) wher
   may_leave : (b : Bool) (cs : List Cell) → AllTrue (cond b (leave_needs cs (Run fr ∷ ts)) []) → b ≡ true → has_trap ts ≡ true
   may_leave x cs n e = grind arith
 
-  dealing : (items : List Item) (o : Option Object) →
-      s.items ≡ items → held s.cells (top_place items) ≡ o → tops_entry items ≡ true → top_is_whole s.cells items ≡ true → May PopDelete (deals fr items o)
-  dealing x o at e there whole = grind arith
-
   -- the arguments lie within the registers of the caller, and so of the method called
   few_arguments : (target : Target) (m first : ℕ) (more : List Need) → AllTrue (needs_entering p fr ts s target m first more) → length (arguments_of p m) ≤ 16
   few_arguments target m first more n = grind (arith, nat_tests, all_parts, leb-true)
 
-  cancels_by : (b : Bool) (m : Option ℕ) → cancel_method p fr ≡ m → May Cancel (cancels_if fr b m)
-  unfolding loop_in
-  cancels_by x m e = grind arith
-
   pub fits : (i : Instr) → AllTrue (needs p c fr ts s i) → May i (effect p c fr ts s i)
   unfolding jump_of loop_in
   fits (Loop depth rounds) n = (inl refl, λ l f. tt)
-  fits (Next depth to) n = loops (counter fr depth - 1) depth to refl
-  fits (Call target m first x) n = ((x, refl), λ l f. few_arguments target m first _ n)
-  fits (Trap target m first x) n = ((x, refl), λ l f. few_arguments target m first _ n)
-  fits (Pop a) n = ((refl, (refl, grind arith)), λ l f. f.operands.a)
-  fits PopOperation n = let o = operation_on_top s.items n.1.0 in ((refl, (refl, o.0, o.1, o.2)), λ l f. tt)
-  fits PopDelete n = dealing s.items (held s.cells (top_place s.items)) refl refl n.0 n.1.0
-  fits Cancel n = cancels_by (in_phase is_active (own_request s.cells fr.home)) (cancel_method p fr) refl
-  fits (Return a) n = ((refl, refl), λ l f. tt)
   -- the others go on, jump or leave, whatever a test of theirs decides
-  fits _ n = first_of (grind arith, grind (arith, nat_tests, either, may_leave, read_word))
+  fits _ n = first_of (
+    grind arith,
+    grind (arith, nat_tests, either, may_leave, read_word),
+    grind (arith, nat_tests, operation_on_top, few_arguments),
+  )
 
   -- what a leave of an instruction pushes before it
   abbrev pub off_of : Instr → Update
