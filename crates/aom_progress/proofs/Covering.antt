@@ -3,22 +3,22 @@ use Rattle.std.proofs.lemmas.Bool.Decides.{nat_tests}
 use Rattle.std.proofs.lemmas.Option.{slice_get_within}
 use Rattle.std.proofs.Common.{inr, inl, ◌≡◌, ◌≤◌, ◌+◌, ◌-◌, ℕ, ℤ, suc, Bool, true, false, cond, List}
 use Rattle.std.proofs.Common.{[], ◌∷◌, ◌++◌, ◌==◌, Option, Some, None, refl, ap, arith}
-use Rattle.std.specs.Ordering.{int_eq}
-use Rattle.std.specs.Prelude.{bit_and, int_lt, is_some}
+use Rattle.std.specs.Prelude.{bit_and, is_some}
 use Rattle.aom_image.specs.Image.{Image}
 use Rattle.aom_instructions.specs.declared.instr.Instr.{Instr}
-use Rattle.aom_instructions.specs.declared.instr.Instr.TheVariants.{Call, Cancel, Hand, JumpActive, JumpAdded, JumpEmpty, JumpEqual}
-use Rattle.aom_instructions.specs.declared.instr.Instr.TheVariants.{JumpLess, JumpNull, Leave, Loop, New, Next, Return, Trap}
+use Rattle.aom_instructions.specs.declared.instr.Instr.TheVariants.{Loop, Next}
 use Rattle.aom_image.specs.Views.{method_at, method_class, method_role}
 use Rattle.aom_image.specs.declared.method.Role.TheVariants.{Main}
 use Rattle.aom_image.specs.declared.method.Thing.{Thing}
 use Rattle.aom_roles.specs.Tests.{AllTrue}
 use Rattle.aom_classes.specs.Loops.{loop_in, next_in}
-use Rattle.aom_shape.specs.Kinds.{filled, is_object_or_null, register}
+use Rattle.aom_roles.specs.Things.{field_thing, holder_of}
+use Rattle.aom_shape.specs.Kinds.{field, filled, is_object_or_null, register}
 use Rattle.aom_typings.proofs.Mosts.{run_has}
 use Rattle.aom_typings.proofs.Paid.{call_paid, cancel_paid}
 use Rattle.aom_classes.specs.Overriding.{body_of}
 use Rattle.aom_families.proofs.Running.{body_runs, overrides_there}
+use Rattle.aom_roles.specs.Kinds.{is_active_kind, is_listed_kind}
 use Rattle.aom_roles.specs.States.{unlisted}
 use Rattle.aom_shape.specs.Needs.{Flow}
 use Rattle.aom_rules.specs.Objects.{flow_jump_empty, flow_jump_null}
@@ -35,10 +35,10 @@ use Rattle.aom_safety.specs.Claims.{Layer, tasks_of}
 use Rattle.aom_semantics.specs.Effects.{Calls, Cancels, Destroys, Destroys_last, Effect, Goes_on, Jumps, Leaves, Operates, Pushed, Pushed_operation}
 use Rattle.aom_semantics.specs.Effects.{Returns, Sets_trap, Update, cancels_if, deals, deletes, effect, jumps_if, jumps_unless, round}
 use Rattle.aom_semantics.specs.Enlisted.{cancel_method, in_phase, is_active, is_busy, own_request}
-use Rattle.aom_semantics.specs.Places.{Object, seen}
-use Rattle.aom_semantics.specs.State.{Choice, Frame, Item, State, Task, counter}
+use Rattle.aom_semantics.specs.Places.{Object, held, seen}
+use Rattle.aom_semantics.specs.State.{Choice, Frame, Item, State, Task, counter, field_place}
 use Rattle.aom_safety.specs.WellTyped.{Fits}
-use Rattle.aom_semantics.specs.Words.{here, read}
+use Rattle.aom_semantics.specs.Words.{here}
 use Rattle.aom_typings.specs.Prices.{AllPaid, IsPriced, Prices, Stands, call_price, cancel_price, kind_price, own, price}
 use Rattle.aom_safety.proofs.Callees.{cancel_family}
 use Rattle.aom_safety.proofs.Housing.{houses_field}
@@ -142,29 +142,40 @@ module _ (p : Image) (t : Typing) (c : Prices) (main_none : (m : ℕ) → method
   some : (i : Instr) → StandsHere i → own p fr.method c sh i ≤ c.from fr.method fr.place
   some i it = priced.ends fr.method fr.place sh i it
 
-  pub covers : (i : Instr) → StandsHere i → AllTrue (rule_needs p fr.method fr.place sh i) → Covers p c fr sh (effect p ch fr ts s i)
-  unfolding loop_in next_in
-  covers (JumpEqual a b to) it rule = let f = paid (JumpEqual a b to) it refl refl in branches p c fr sh (int_eq (read fr ts s a) (read fr ts s b)) to f.0 f.1.0
-  covers (JumpLess a b to) it rule = let f = paid (JumpLess a b to) it refl refl in branches p c fr sh (int_lt (read fr ts s a) (read fr ts s b)) to f.0 f.1.0
-  covers (JumpNull a to) it rule = grind (arith, nat_tests, on_null a to, paid (JumpNull a to) it, kind_fits p t ch s fr sh ls at_hand a)
-  covers (JumpEmpty f to) it rule =
-      grind (arith, nat_tests, some, houses_field p, on_empty f to, paid (JumpEmpty f to) it, field_fits p t ch s fr sh ls at_hand f rule.0)
-  covers (JumpActive to) it rule =
-      let listed = active_listed (own_kind p fr.method) rule.0 in
+  -- a jump by whether its request is active, or is there
+  on_busy : (to : ℕ) → is_active_kind (own_kind p fr.method) ≡ true →
+      AllPaid c fr.method 1 (c.from fr.method fr.place) (flow_narrowed sh (suc fr.place) inactive ++ flow_narrowed sh to outstanding) →
+      Covers p c fr sh (jumps_if fr (in_phase is_busy (own_request s.cells fr.home)) to)
+  on_busy to active pays =
+      let r = own_request s.cells fr.home in
+      let left = some_left p t main_none ch s fr sh ls at_hand (active_listed (own_kind p fr.method) active) in
+      on_states outstanding inactive to (in_phase is_busy r) (λ e. left outstanding (busy_in r e)) (λ e. left inactive (free_in r e)) pays
+
+  on_listed : (to : ℕ) → is_listed_kind (own_kind p fr.method) ≡ true →
+      AllPaid c fr.method 1 (c.from fr.method fr.place) (flow_narrowed sh (suc fr.place) unlisted ++ flow_narrowed sh to enlisted) →
+      Covers p c fr sh (jumps_if fr (is_some (own_request s.cells fr.home)) to)
+  on_listed to listed pays =
       let r = own_request s.cells fr.home in
       let left = some_left p t main_none ch s fr sh ls at_hand listed in
-      on_states outstanding inactive to (in_phase is_busy r) (λ e. left outstanding (busy_in r e)) (λ e. left inactive (free_in r e)) (paid (JumpActive to) it refl refl)
-  covers (JumpAdded to) it rule =
-      let r = own_request s.cells fr.home in
-      let left = some_left p t main_none ch s fr sh ls at_hand rule.0 in
-      on_states enlisted unlisted to (is_some r) (λ e. left enlisted (listed_in r e)) (λ e. left unlisted (unlisted_in r e)) (paid (JumpAdded to) it refl refl)
+      on_states enlisted unlisted to (is_some r) (λ e. left enlisted (listed_in r e)) (λ e. left unlisted (unlisted_in r e)) pays
+
+  -- a jump by what a field has
+  on_field : (f to : ℕ) → is_some (field_thing p (holder_of p fr.method) f) ≡ true →
+      AllPaid c fr.method 1 (c.from fr.method fr.place) (flow_jump_empty p fr.method fr.place sh (field sh f) f to) →
+      Covers p c fr sh (jumps_unless fr (held s.cells (field_place fr.home f)) to)
+  on_field f to some pays = grind (arith, nat_tests, houses_field p, on_empty f to, field_fits p t ch s fr sh ls at_hand f some)
+
+  cancelled : 1 + cancel_price p c (method_class p fr.method) + c.from fr.method (suc fr.place) ≤ c.from fr.method fr.place →
+      Covers p c fr sh (cancels_if fr (in_phase is_active (own_request s.cells fr.home)) (cancel_method p fr))
+  cancelled = on_cancel (in_phase is_active (own_request s.cells fr.home)) (cancel_method p fr) refl
+
+  pub covers : (i : Instr) → StandsHere i → AllTrue (rule_needs p fr.method fr.place sh i) → Covers p c fr sh (effect p ch fr ts s i)
+  unfolding loop_in next_in
   covers (Loop depth rounds) it rule = tt
   covers (Next depth to) it rule = rounding p c fr sh (counter fr depth - 1) depth to
-  covers (New a x) it rule = grind (arith, nat_tests, paid (New a x) it)
-  covers (Call target k first x) it rule = (paid (Call target k first x) it refl refl).0
-  covers (Trap target k first x) it rule = (paid (Trap target k first x) it refl refl).0
-  covers (Hand a) it rule = grind (arith, nat_tests, paid (Hand a) it)
-  covers Cancel it rule = on_cancel (in_phase is_active (own_request s.cells fr.home)) (cancel_method p fr) refl (paid Cancel it refl refl).0
-  covers (Leave a) it rule = some (Leave a) it
-  covers (Return a) it rule = some (Return a) it
-  covers i it rule = grind (arith, nat_tests, paid i it, either p c fr sh, some i it, deleting p c fr sh, dealing p c fr sh)
+  covers i it rule = first_of (
+    grind (arith, nat_tests, paid i it, either p c fr sh, some i it, deleting p c fr sh, dealing p c fr sh, branches p c fr sh),
+    grind (arith, nat_tests, paid i it, on_busy, on_listed, cancelled),
+    grind (arith, nat_tests, paid i it, on_null, kind_fits p t ch s fr sh ls at_hand),
+    grind (arith, nat_tests, paid i it, on_field),
+  )
