@@ -1,13 +1,10 @@
 -- What an instruction needs and does it needs and does under other names too: its effect is the same under these names, and so is what each effect does.
 use Rattle.std.proofs.lemmas.Bool.Decides.{nat_tests}
-use Rattle.std.proofs.Common.{arith, Bool, List, None, Option, [], ap, cond, length, refl, ℕ, ℤ, ◌-◌, ◌∙◌, ◌∷◌, ◌≡◌}
-use Rattle.std.specs.Prelude.{is_some, option_map}
+use Rattle.std.proofs.Common.{arith, Bool, List, Option, [], ap, cond, length, refl, ℕ, ℤ, ◌∙◌, ◌∷◌, ◌≡◌}
+use Rattle.std.specs.Prelude.{option_map}
 use Rattle.aom_image.specs.Image.{Image}
 use Rattle.aom_instructions.specs.declared.instr.Instr.{Instr}
-use Rattle.aom_instructions.specs.declared.instr.Instr.TheVariants.{Abort, Add, And, Call, Cancel, Const, Copy, Delete, Enlist, Issue, JumpActive}
-use Rattle.aom_instructions.specs.declared.instr.Instr.TheVariants.{JumpAdded, JumpEmpty, JumpNull, Load, Move, Mul, New, NewOrLeave, Next, Or}
-use Rattle.aom_instructions.specs.declared.instr.Instr.TheVariants.{Pop, Push, PushOperation, Put, Return, SetActive, Status, Connect, Ask, Close}
-use Rattle.aom_instructions.specs.declared.instr.Instr.TheVariants.{Store, Sub, Take, TakeMessage, Trap, Reply, Xor, Hand}
+use Rattle.aom_instructions.specs.declared.instr.Instr.TheVariants.{Loop}
 use Rattle.aom_instructions.specs.declared.instr.Target.{Target}
 use Rattle.aom_instructions.specs.declared.instr.Target.TheVariants.{Entry as On_entry, Field as On_field, Register as On_register, This}
 use Rattle.aom_image.specs.declared.method.Gives.{Gives}
@@ -19,13 +16,13 @@ use Rattle.aom_classes.specs.Roles.{destructor_of}
 use Rattle.aom_semantics.specs.Destruction.{begun, begun_by, destructed, line_on}
 use Rattle.aom_semantics.specs.Effects.{Calls, Cancels, Carried, Destroys, Destroys_last, Effect, Goes_on, Leaves, Made, Popped}
 use Rattle.aom_semantics.specs.Effects.{Pushed, Requested, Returns, Sets_trap, Spot, Update, Written, applied}
-use Rattle.aom_semantics.specs.Effects.{cancels_if, cells_after, deals, effect, items_after, jumps_if, jumps_unless}
-use Rattle.aom_semantics.specs.Effects.{round, sets, spot_place, writes, Replied, Sessioned, Handed}
-use Rattle.aom_semantics.specs.Enlisted.{cancel_method, ended_cells, in_phase, is_active, is_busy, own_request, rerequested}
+use Rattle.aom_semantics.specs.Effects.{cancels_if, cells_after, deals, deletes, effect, hands_unless, items_after, jumps_if, jumps_unless, makes_unless}
+use Rattle.aom_semantics.specs.Effects.{round, spot_place, Replied, Sessioned, Handed}
+use Rattle.aom_semantics.specs.Enlisted.{cancel_method, ended_cells, in_phase, is_active, own_request, rerequested}
 use Rattle.aom_semantics.specs.Moves.{does, needs}
 use Rattle.aom_semantics.specs.Places.{Cell, Entry, Object, Place, Register, Request, held, moved}
-use Rattle.aom_semantics.specs.State.{An_object, Choice, Dispatch, Frame, Home, Item, Run, State, Task, Trapped, counter, home_view}
-use Rattle.aom_semantics.specs.Words.{stored}
+use Rattle.aom_semantics.specs.State.{An_object, Choice, Dispatch, Frame, Home, Item, Run, State, Task, Trapped, home_view}
+use Rattle.aom_semantics.specs.Words.{loaded, stored}
 use Rattle.aom_determinism.proofs.NamedCells.{held_renamed, messages_kept, moved_renamed, order_kept, redeemed_renamed, set_request_renamed}
 use Rattle.aom_determinism.proofs.NamedCells.{set_word_field_renamed, tasks_counted, timer_kept, token_kept, word_field_kept, in_session_kept}
 use Rattle.aom_determinism.proofs.NamedCells.{set_session_renamed, cond_applied, without_renamed}
@@ -260,67 +257,68 @@ module _ (names : ℕ → ℕ) (one_to_one : IsOneToOne names) (p : Image) (c : 
   dealt_alike : deals fr' s.items (held s'.cells (top_place s.items)) ≡ renamed_effect names (deals fr s.items (held s.cells (top_place s.items)))
   dealt_alike = grind (arith, nat_tests, held_renamed names one_to_one s.cells)
 
+  -- what a word of a field says, what a request or a token is made as, and what a delete does
+  loaded_kept : (w : ℕ) → loaded s'.cells fr'.home w ≡ loaded s.cells fr.home w
+  loaded_kept w = grind (arith, nat_tests, word_field_kept)
+
+  made_renamed : (b : Bool) (x a : ℕ) → makes_unless b (names c.name) x a ≡ renamed_update names (makes_unless b c.name x a)
+  made_renamed x y a = grind arith
+
+  handed_renamed : (b : Bool) (a : ℕ) (own : Option Request) → hands_unless b (names c.name) a own ≡ renamed_update names (hands_unless b c.name a own)
+  handed_renamed x a own = grind arith
+
+  deletes_renamed : (o : Option Object) (a : ℕ) → deletes fr' (option_map (renamed_object names) o) a ≡ renamed_effect names (deletes fr o a)
+  deletes_renamed x a = grind arith
+
   effect_renamed : (i : Instr) → effect p c' fr' ts' s' i ≡ renamed_effect names (effect p c fr ts s i)
-  effect_renamed (JumpNull a to) = grind (arith, nat_tests, register_renamed names one_to_one s.cells ts a, jumps_renamed)
-  effect_renamed (JumpEmpty f to) = grind (arith, nat_tests, held_field names one_to_one s.cells fr.home f, jumps_renamed)
-  effect_renamed (Next depth to) = round_renamed (counter fr depth - 1) depth to
-  effect_renamed (Load a w) = ap (writes fr a) (grind (arith, nat_tests, word_field_kept))
-  effect_renamed (New a x) = ap (sets fr a None) (grind arith)
-  effect_renamed (Delete a) = grind (arith, nat_tests, register_renamed names one_to_one s.cells ts a)
-  effect_renamed (JumpActive to) = branch_renamed (in_phase is_busy) to
-  effect_renamed (JumpAdded to) = branch_renamed is_some to
-  effect_renamed (Enlist priority) = rw (order_kept names s.cells)
-  effect_renamed (Hand a) = grind (arith, nat_tests, messages_kept names s.cells, own_request_kept names one_to_one s.cells fr.home)
-  effect_renamed (Issue a b) = rw (kind_kept names p fr.home, timer_kept names s.cells, own_session_kept names one_to_one s.cells fr.home, own_request_kept names one_to_one s.cells fr.home)
-  effect_renamed SetActive = rw (own_request_kept names one_to_one s.cells fr.home)
-  effect_renamed Cancel = cancel_renamed
-  effect_renamed Abort = rw (own_request_kept names one_to_one s.cells fr.home)
-  effect_renamed (Status a) = rw (own_request_kept names one_to_one s.cells fr.home)
-  effect_renamed (Connect a) = rw (kind_kept names p fr.home, own_session_kept names one_to_one s.cells fr.home)
-  effect_renamed (Ask a b x) = rw (kind_kept names p fr.home, own_session_kept names one_to_one s.cells fr.home)
-  effect_renamed _ = first_of (cc, search (either_renamed), search (dealt_alike))
+  effect_renamed (Loop depth rounds) = refl
+  effect_renamed _ = first_of (
+    simp (
+      register_renamed names one_to_one s.cells ts,
+      held_field names one_to_one s.cells fr.home,
+      jumps_renamed,
+      deletes_renamed,
+      made_renamed,
+      handed_renamed,
+      loaded_kept,
+      messages_kept names s.cells,
+      order_kept names s.cells,
+      timer_kept names s.cells,
+      kind_kept names p fr.home,
+      own_session_kept names one_to_one s.cells fr.home,
+      own_request_kept names one_to_one s.cells fr.home,
+    ),
+    cc,
+    search (round_renamed, either_renamed, cancel_renamed, dealt_alike),
+    grind (arith, nat_tests, own_request_kept names one_to_one s.cells fr.home, either_renamed),
+  )
 
   -- ---- what an instruction needs
 
   pub needs_kept : (i : Instr) → needs p c' fr' ts' s' i ≡ needs p c fr ts s i
-  needs_kept (Const a w) = rw (free_at names one_to_one s.cells ts a)
-  needs_kept (Copy a b) = rw (free_at names one_to_one s.cells ts a)
-  needs_kept (Add a b x) = rw (free_at names one_to_one s.cells ts a)
-  needs_kept (Sub a b x) = rw (free_at names one_to_one s.cells ts a)
-  needs_kept (Mul a b x) = rw (free_at names one_to_one s.cells ts a)
-  needs_kept (And a b x) = rw (free_at names one_to_one s.cells ts a)
-  needs_kept (Or a b x) = rw (free_at names one_to_one s.cells ts a)
-  needs_kept (Xor a b x) = rw (free_at names one_to_one s.cells ts a)
-  needs_kept (JumpEmpty f to) = refl
-  needs_kept (Load a w) = rw (free_at names one_to_one s.cells ts a)
-  needs_kept (Store w b) = refl
-  needs_kept (Move a b) = rw (free_at names one_to_one s.cells ts a)
-  needs_kept (Take a f) = rw (free_at names one_to_one s.cells ts a)
-  needs_kept (Put f b) = put_kept names one_to_one p c fr ts s f b
-  needs_kept (New a x) = rw (free_at names one_to_one s.cells ts a)
-  needs_kept (Delete a) = rw (message_at names one_to_one s.cells ts a)
-  needs_kept (Call target m first a) = call_kept names one_to_one p c fr ts s target m first a
-  needs_kept (Trap target m first a) = under_trap_kept names one_to_one p c fr ts s target m first a
-  needs_kept (NewOrLeave a x) = rw (free_at names one_to_one s.cells ts a, refusal_kept names one_to_one p c fr ts s s.cells)
-  needs_kept (Push a) = push_kept names one_to_one p c fr ts s a
-  needs_kept (PushOperation a m) = rw (refusal_kept names one_to_one p c fr ts s s.cells, trap_kept names ts)
-  needs_kept (Pop a) = rw (free_at names one_to_one s.cells ts a)
-  needs_kept (JumpActive to) = rw (kind_kept names p fr.home)
-  needs_kept (JumpAdded to) = rw (kind_kept names p fr.home)
-  needs_kept (Enlist priority) = rw (kind_kept names p fr.home, own_request_kept names one_to_one s.cells fr.home)
-  needs_kept (Issue a b) = rw (kind_kept names p fr.home, own_request_kept names one_to_one s.cells fr.home)
-  needs_kept SetActive = rw (kind_kept names p fr.home, own_request_kept names one_to_one s.cells fr.home)
-  needs_kept Cancel = rw (kind_kept names p fr.home, own_request_kept names one_to_one s.cells fr.home)
-  needs_kept Abort = rw (kind_kept names p fr.home, own_request_kept names one_to_one s.cells fr.home)
-  needs_kept (Status a) = rw (kind_kept names p fr.home, free_at names one_to_one s.cells ts a)
-  needs_kept (Connect a) = rw (kind_kept names p fr.home, free_at names one_to_one s.cells ts a)
-  needs_kept (Ask a b x) = rw (kind_kept names p fr.home, free_at names one_to_one s.cells ts a)
-  needs_kept Close = rw (kind_kept names p fr.home, own_request_kept names one_to_one s.cells fr.home)
-  needs_kept (TakeMessage a) = take_message_kept names one_to_one p c fr ts s a
-  needs_kept (Reply a b) = reply_kept names one_to_one p c fr ts s a b
-  needs_kept (Hand a) = rw (free_at names one_to_one s.cells ts a, kind_kept names p fr.home, own_request_kept names one_to_one s.cells fr.home)
-  needs_kept (Return a) = return_kept names one_to_one p c fr ts s a
-  needs_kept _ = first_of (cc, rw (leave_kept names s.cells (Run fr ∷ ts)), rw (whole_kept names one_to_one s.cells s.items))
+  needs_kept (Loop depth rounds) = refl
+  needs_kept _ = first_of (
+    simp (
+      free_at names one_to_one s.cells ts,
+      message_at names one_to_one s.cells ts,
+      kind_kept names p fr.home,
+      own_request_kept names one_to_one s.cells fr.home,
+      refusal_kept names one_to_one p c fr ts s s.cells,
+      leave_kept names s.cells (Run fr ∷ ts),
+      whole_kept names one_to_one s.cells s.items,
+    ),
+    rw (refusal_kept names one_to_one p c fr ts s s.cells, trap_kept names ts),
+    search (
+      put_kept names one_to_one p c fr ts s,
+      push_kept names one_to_one p c fr ts s,
+      call_kept names one_to_one p c fr ts s,
+      under_trap_kept names one_to_one p c fr ts s,
+      return_kept names one_to_one p c fr ts s,
+      take_message_kept names one_to_one p c fr ts s,
+      reply_kept names one_to_one p c fr ts s,
+    ),
+    cc,
+  )
 
   pub does_renamed : (i : Instr) → does p c' fr' ts' s' i ≡ renamed names (does p c fr ts s i)
   does_renamed i = ap (applied p fr' ts' s') (effect_renamed i) ∙ applied_renamed (effect p c fr ts s i)

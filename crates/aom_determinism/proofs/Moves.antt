@@ -11,7 +11,7 @@ use Rattle.std.specs.Prelude.{not}
 use Rattle.aom_image.specs.Image.{Image}
 use Rattle.aom_image.specs.Views.{gives_of, instr_at}
 use Rattle.aom_instructions.specs.declared.instr.Instr.{Instr}
-use Rattle.aom_instructions.specs.declared.instr.Instr.TheVariants.{Cancel, Enlist, Reply, Return, SetActive, Hand}
+use Rattle.aom_instructions.specs.declared.instr.Instr.TheVariants.{Cancel, Reply, Return}
 use Rattle.aom_determinism.proofs.Calls.{IsAlive, Told, abort_told, alive_in, at_it, found, ask_told, asked_same, close_told, connect_told, ended_same}
 use Rattle.aom_determinism.proofs.Calls.{issue_told, sessions_after, sessions_along, taken_off, told_along, told_before, told_none, still}
 use Rattle.aom_determinism.proofs.Cells.{Unchanged, meets_gone, owes_gone, served_none, unchanged_along, unchanged_itself}
@@ -137,8 +137,6 @@ module _ (p : Image) (t : Typing) (c : Choice) (fr : Frame) (ts : List Task) (s 
   )
 
   silently : (i : Instr) → exchange i ≡ Nothing → AllTrue (needs p c fr ts (counted p s) i) → Tells Nothing i
-  silently (Enlist priority) none met = silent (Enlist priority) (grind (arith, nat_tests, asked_same p c.answer s fr.home, none_owed))
-  silently SetActive none met = silent SetActive (grind (arith, nat_tests, asked_same p c.answer s fr.home, waits_owed))
   silently Cancel none met = silent Cancel (cancels (in_phase is_active (own_request s.cells fr.home)) refl (cancel_method p fr))
   silently (Return a) none met = silent (Return a) (returns a met)
   silently (Reply a b) none met =
@@ -148,9 +146,12 @@ module _ (p : Image) (t : Typing) (c : Choice) (fr : Frame) (ts : List Task) (s 
       silent (Reply a b) (unchanged_along p s.cells cs _ (unchanged_redeemed p t s.cells ls good order code)
       (unchanged_completed p t cs ls (redeemed_good p t order code s.cells ls good) (here fr ts (counted p s) a)
       (λ x there. is_message a x (sym ((redeemed_by_alike order code s.cells).held_so (here fr ts (counted p s) a)) ∙ there) met.1.1.0)))
-  silently (Hand a) none met = silent (Hand a) (hands (is_crowded p s.cells) a met.1.0)
-  -- the others leave all as it is, whatever a test of theirs decides
-  silently i none met = grind (arith, nat_tests, aside i, round_aside, deletes_aside, deals_aside, makes_aside, refused_aside, leaves_aside)
+  silently i none met = first_of (
+    -- most leave all as it is, whatever a test of theirs decides
+    grind (arith, nat_tests, aside i, round_aside, deletes_aside, deals_aside, makes_aside, refused_aside, leaves_aside),
+    -- and some change a request that no native owes an answer
+    grind (arith, nat_tests, silent i, asked_same p c.answer s fr.home, none_owed, waits_owed, hands (is_crowded p s.cells)),
+  )
 
   tells : (i : Instr) → AllTrue (needs p c fr ts (counted p s) i) → Tells (exchange i) i
   tells = by_exchange (λ i x. AllTrue (needs p c fr ts (counted p s) i) → Tells x i) (λ a met. connect_told p c.answer s fr ts holds fr.home alive)
