@@ -1,5 +1,5 @@
 pub mod Altering
 pub mod Maps
+pub mod NeedsFail
 pub mod Owning
-pub mod Biting
 pub mod Running

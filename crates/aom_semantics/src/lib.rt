@@ -3,7 +3,7 @@
 //! What a run does is defined here apart from the code that runs: states with a map of owners, what each instruction
 //! needs and does, destruction, turns, runs, and what it means that each cell and message has one owner. Nothing in
 //! this crate runs. Each of its functions has an empty body and says by its contract what closed cases come to: that
-//! each need bites, and what small programs write.
+//! each need can fail, and what small programs write.
 #![tactic(auto)]
 
 mod laws;

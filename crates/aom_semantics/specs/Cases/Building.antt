@@ -208,8 +208,8 @@ is_stuck_by (k ∷ ks) (Goes s) = false
 is_stuck_by (k ∷ ks) (IsStuck kind) = same_kind k kind
 
 -- just those needs are not met, and the machine is stuck by the first of them
-abbrev pub bites : Case → Bool
-bites c =
+abbrev pub comes_out : Case → Bool
+comes_out c =
     same_kinds (unmet (needs (image_of c) (choice_of c) (frame_at c) c.below (begins c) c.instr)) c.unmet
     && is_stuck_by c.unmet (step (image_of c) (choice_of c) (begins c))
 
@@ -219,5 +219,5 @@ missed n [] = []
 missed n (b ∷ bs) = cond b (missed (n + 1) bs) (n ∷ missed (n + 1) bs)
 
 -- each case of a table comes out so
-abbrev pub AllBite : List Case → Type 0
-AllBite cases = missed 0 (map bites cases) ≡ []
+abbrev pub AllComeOut : List Case → Type 0
+AllComeOut cases = missed 0 (map comes_out cases) ≡ []

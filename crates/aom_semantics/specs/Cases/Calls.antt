@@ -13,7 +13,7 @@ use Rattle.aom_image.specs.declared.method.Role.TheVariants.{Construct}
 use Rattle.aom_image.specs.declared.method.Thing.TheVariants.{Message}
 use Rattle.aom_semantics.specs.Places.{Entry, Field}
 use Rattle.aom_semantics.specs.State.{AtRoot, An_object, An_operation, A_mark, PopUnder, Orphan, NullOrDead, WrongKind}
-use Rattle.aom_semantics.specs.Cases.Building.{child, leaf, pair, seven, a_method, a_cell, mine, inside, Case, fails, AllBite}
+use Rattle.aom_semantics.specs.Cases.Building.{child, leaf, pair, seven, a_method, a_cell, mine, inside, Case, fails, AllComeOut}
 
 -- a call or a trap: the target, the method called, the first argument's register and the result's
 abbrev pub Calling : Type 0
@@ -146,16 +146,16 @@ code_cases =
     ∷ record (fails (Call This 1 2 4) []) { called = static [] A_word; cells = a_cell 1 leaf (mine 5) ∷ [] }
     ∷ []
 
--- each need of a call, or of a trap, bites
-pub record CallBites (call : Calling) : Type 0 where
-  pub this : AllBite (this_cases call)
-  pub registers : AllBite (register_cases call)
-  pub fields : AllBite (on_field_cases call)
-  pub entries : AllBite (entry_cases call)
-  pub arguments : AllBite (argument_cases call)
-  pub results : AllBite (result_cases call)
+-- each need of a call, or of a trap, can fail
+pub record CallingNeedsFail (call : Calling) : Type 0 where
+  pub this : AllComeOut (this_cases call)
+  pub registers : AllComeOut (register_cases call)
+  pub fields : AllComeOut (on_field_cases call)
+  pub entries : AllComeOut (entry_cases call)
+  pub arguments : AllComeOut (argument_cases call)
+  pub results : AllComeOut (result_cases call)
 
 pub record CallNeedsFail : Type 0 where
-  pub calls : CallBites Call
-  pub traps : CallBites Trap
-  pub codes : AllBite code_cases
+  pub calls : CallingNeedsFail Call
+  pub traps : CallingNeedsFail Trap
+  pub codes : AllComeOut code_cases

@@ -4,7 +4,7 @@ use Rattle.aom_instructions.specs.declared.instr.Instr.TheVariants.{NewOrLeave, 
 use Rattle.aom_image.specs.declared.method.Thing.TheVariants.{Message}
 use Rattle.aom_semantics.specs.Places.{Register, Entry}
 use Rattle.aom_semantics.specs.State.{Static, frame_of, Task, Run, Trapped, Destroy, Unwind, Dispatched, Of_main, An_object, An_operation, A_mark, PopUnder, PushNoTrap, LeaveNoTrap, Orphan, NullOrDead, WrongKind}
-use Rattle.aom_semantics.specs.Cases.Building.{leaf, seven, a_cell, at_bottom, mine, Case, fails, AllBite}
+use Rattle.aom_semantics.specs.Cases.Building.{leaf, seven, a_cell, at_bottom, mine, Case, fails, AllComeOut}
 
 -- one more method over the trap
 abbrev pub under_caller : List Task
@@ -95,13 +95,13 @@ pop_cases =
     ∷ record (fails PopDelete (NullOrDead ∷ [])) { items = An_object ∷ A_mark ∷ [] }
     ∷ []
 
--- each need of an instruction on the cleanup stack, and of a leave, bites
+-- each need of an instruction on the cleanup stack, and of a leave, can fail
 pub record CleanupNeedsFail : Type 0 where
-  pub leaves : AllBite leave_cases
-  pub leave : AllBite (leaving_cases (record (fails (Leave 0) []) { words = seven ∷ [] }))
-  pub leave_if : AllBite (leaving_cases (record (fails (LeaveIf 0) []) { words = Some (negsuc 3) ∷ [] }))
-  pub news : AllBite new_cases
-  pub refused_new : AllBite (leaving_cases (record (fails (NewOrLeave 0 0) []) { refused = true }))
-  pub pushes : AllBite push_cases
-  pub operations : AllBite push_operation_cases
-  pub pops : AllBite pop_cases
+  pub leaves : AllComeOut leave_cases
+  pub leave : AllComeOut (leaving_cases (record (fails (Leave 0) []) { words = seven ∷ [] }))
+  pub leave_if : AllComeOut (leaving_cases (record (fails (LeaveIf 0) []) { words = Some (negsuc 3) ∷ [] }))
+  pub news : AllComeOut new_cases
+  pub refused_new : AllComeOut (leaving_cases (record (fails (NewOrLeave 0 0) []) { refused = true }))
+  pub pushes : AllComeOut push_cases
+  pub operations : AllComeOut push_operation_cases
+  pub pops : AllComeOut pop_cases

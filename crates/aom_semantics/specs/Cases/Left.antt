@@ -8,7 +8,7 @@ use Rattle.aom_image.specs.declared.method.Thing.TheVariants.{Message}
 use Rattle.aom_instructions.specs.declared.instr.Instr.TheVariants.{Abort, PopDelete, Return, Stop}
 use Rattle.aom_semantics.specs.Cases.Building.{Case, a_cell, a_method, at_bottom, begins, choice_of, fails, handing, image_of, inside, leaf, pair, small_image, state_of}
 use Rattle.aom_semantics.specs.Cases.Events.{cells_left}
-use Rattle.aom_semantics.specs.Cases.Moves.{an_image}
+use Rattle.aom_semantics.specs.Cases.Moves.{an_image, moved_on}
 use Rattle.aom_semantics.specs.Cases.Servers.{a_message, a_server, asked, seat}
 use Rattle.aom_semantics.specs.Cases.Tokens.{a_token, handing_cell, hand_case, reply_case, waiting_cell}
 use Rattle.aom_semantics.specs.Moves.{step}
@@ -43,10 +43,6 @@ sender_of c = c.service.sender
 -- the method of each task that is at hand then, none for what is no method, and the cells with their owners
 abbrev pub Leaves : Outcome → List (Option ℕ) → List (ℕ × Place) → Type 0
 Leaves after methods owners = (map method_at_hand (tasks_left after) ≡ methods) × (map owned_so (cells_left after) ≡ owners)
-
--- after one move of small methods
-abbrev pub moved_on : Image → State → Outcome
-moved_on p s = step p (record { name = 99; refused = false; answer = pos 0 }) s
 
 abbrev pub after : Case → Outcome
 after c = step (image_of c) (choice_of c) (begins c)

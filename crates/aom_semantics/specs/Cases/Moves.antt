@@ -5,7 +5,7 @@ use Rattle.aom_instructions.specs.declared.instr.Instr.TheVariants.{Stop}
 use Rattle.aom_image.specs.declared.method.Gives.TheVariants.{Nothing}
 use Rattle.aom_image.specs.declared.method.Thing.TheVariants.{Message}
 use Rattle.aom_semantics.specs.Places.{Cell, Entry, Field, Going, Phase, Idle, Issued, Active, Cancelling, Aborted}
-use Rattle.aom_semantics.specs.State.{Static, frame_of, Task, Run, Trapped, Destroy, Unwind, Dispatched, Of_main, An_object, An_operation, A_mark, State, Stuck, Unbalanced, ActiveDestroyed, MessageLost, Orphan, NullOrDead, WrongKind}
+use Rattle.aom_semantics.specs.State.{Static, frame_of, Task, Run, Trapped, Destroy, Unwind, Dispatched, Of_main, An_object, An_operation, A_mark, Outcome, State, Stuck, Unbalanced, ActiveDestroyed, MessageLost, Orphan, NullOrDead, WrongKind}
 use Rattle.aom_semantics.specs.Moves.{step}
 use Rattle.aom_semantics.specs.Cases.Building.{leaf, pair, waiter, a_method, a_cell, at_bottom, small_image, state_of, is_stuck_by, missed}
 
@@ -21,8 +21,12 @@ at kinds state = record { kinds = kinds; state = state }
 abbrev pub an_image : Image
 an_image = small_image (a_method None [] Nothing (Stop ∷ [])) (a_method None [] Nothing (Stop ∷ []))
 
+-- after one move of small methods
+abbrev pub moved_on : Image → State → Outcome
+moved_on p s = step p (record { name = 99; refused = false; answer = pos 0 }) s
+
 abbrev pub turns : Turning → Bool
-turns c = is_stuck_by c.kinds (step an_image (record { name = 99; refused = false; answer = pos 0 }) c.state)
+turns c = is_stuck_by c.kinds (moved_on an_image c.state)
 
 abbrev pub AllTurn : List Turning → Type 0
 AllTurn cases = missed 0 (map turns cases) ≡ []
@@ -110,7 +114,7 @@ standing_cases =
     ∷ at (WrongKind ∷ []) (state_of (Run (frame_of 2 Static 1) ∷ at_bottom) [] (A_mark ∷ []))
     ∷ []
 
--- each need of a move bites
+-- each need of a move can fail
 pub record MoveNeedsFail : Type 0 where
   pub going : AllTurn going_cases
   pub unwinding : AllTurn unwinding_cases

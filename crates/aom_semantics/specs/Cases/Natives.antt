@@ -8,7 +8,7 @@ use Rattle.aom_semantics.specs.Moves.{IsOpen, step}
 use Rattle.aom_semantics.specs.Places.{Cell, Phase, Idle, Issued, Active, Cancelling, Aborted, Elsewhere, Root, in_session, requested}
 use Rattle.aom_semantics.specs.World.{AnswersWell, Polls}
 use Rattle.aom_semantics.specs.State.{FitsWord, Outcome, Goes, IsStuck, Run, State, Stuck, ClosedWhileOutstanding, Orphan, Task, WrongKind, word}
-use Rattle.aom_semantics.specs.Cases.Building.{AllBite, Case, a_cell, begins, fails, image_of, inside, leaf, mine, served, seven, waiter}
+use Rattle.aom_semantics.specs.Cases.Building.{AllComeOut, Case, a_cell, begins, fails, image_of, inside, leaf, mine, served, seven, waiter}
 use Rattle.aom_semantics.specs.Cases.Requests.{elsewhere_cases}
 
 -- ---- the needs
@@ -152,11 +152,11 @@ IsNoAnswer w =
     ((p : Image) (refused : List ℕ) (name : ℕ) (refuses : Bool) (s : State) → IsOpen p refused (record { name = name; refused = refuses; answer = w }) s → ⊥)
     × ((p : Image) (s : State) (n cell : ℕ) → AnswersWell p s (Polls n (Some (record { cell = cell; code = w }))) → ⊥)
 
--- each need of an instruction at a native bites, and what it answers is what is found
+-- each need of an instruction at a native can fail, and what it answers is what is found
 pub record NativeNeedsFail : Type 0 where
-  pub connects : AllBite connect_cases
-  pub asks : AllBite ask_cases
-  pub closes : AllBite close_cases
+  pub connects : AllComeOut connect_cases
+  pub asks : AllComeOut ask_cases
+  pub closes : AllComeOut close_cases
   pub connected : AllFind connecting
   pub asked : AllFind asking
   pub issued : AllFind issuing

@@ -4,7 +4,7 @@ use Rattle.aom_instructions.specs.declared.instr.Instr.TheVariants.{Move, JumpNu
 use Rattle.aom_image.specs.declared.method.Thing.TheVariants.{Message}
 use Rattle.aom_semantics.specs.Places.{Field, Elsewhere, Root}
 use Rattle.aom_semantics.specs.State.{AtRoot, Orphan, WrongKind}
-use Rattle.aom_semantics.specs.Cases.Building.{child, leaf, pair, seven, a_cell, mine, inside, Case, fails, AllBite}
+use Rattle.aom_semantics.specs.Cases.Building.{child, leaf, pair, seven, a_cell, mine, inside, Case, fails, AllComeOut}
 
 abbrev pub move_cases : List Case
 move_cases =
@@ -62,8 +62,8 @@ cell_cases =
     ∷ record (fails (Delete 0) (WrongKind ∷ [])) { cells = a_cell 1 Message (mine 0) ∷ [] }
     ∷ []
 
--- each need of an instruction on objects bites
+-- each need of an instruction on objects can fail
 pub record ObjectNeedsFail : Type 0 where
-  pub moves : AllBite move_cases
-  pub fields : AllBite field_cases
-  pub cells : AllBite cell_cases
+  pub moves : AllComeOut move_cases
+  pub fields : AllComeOut field_cases
+  pub cells : AllComeOut cell_cases

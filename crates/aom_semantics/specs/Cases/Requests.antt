@@ -4,7 +4,7 @@ use Rattle.aom_instructions.specs.declared.instr.Instr.{Instr}
 use Rattle.aom_instructions.specs.declared.instr.Instr.TheVariants.{JumpActive, JumpAdded, Enlist, Issue, SetActive, Cancel, Abort, Status}
 use Rattle.aom_semantics.specs.Places.{Cell, Phase, Idle, Issued, Active, Cancelling, Aborted, Elsewhere, Root}
 use Rattle.aom_semantics.specs.State.{AtRoot, Stuck, AddedWrong, AlreadyActive, Orphan, RequestOverlap, WrongKind}
-use Rattle.aom_semantics.specs.Cases.Building.{leaf, pair, waiter, keeper, seven, a_cell, mine, inside, Case, fails, AllBite}
+use Rattle.aom_semantics.specs.Cases.Building.{leaf, pair, waiter, keeper, seven, a_cell, mine, inside, Case, fails, AllComeOut}
 
 -- the object that a method works on, enlisted with its request so far
 abbrev pub listed : Phase → List Cell
@@ -92,11 +92,11 @@ abort_cases =
     ∷ listed_case Abort Active (WrongKind ∷ [])
     ∷ elsewhere_cases Abort (WrongKind ∷ WrongKind ∷ [])
 
--- each need of an instruction on requests bites
+-- each need of an instruction on requests can fail
 pub record RequestNeedsFail : Type 0 where
-  pub reading : AllBite reading_cases
-  pub enlisting : AllBite enlist_cases
-  pub issuing : AllBite issue_cases
-  pub waiting : AllBite set_active_cases
-  pub cancelling : AllBite cancel_cases
-  pub aborting : AllBite abort_cases
+  pub reading : AllComeOut reading_cases
+  pub enlisting : AllComeOut enlist_cases
+  pub issuing : AllComeOut issue_cases
+  pub waiting : AllComeOut set_active_cases
+  pub cancelling : AllComeOut cancel_cases
+  pub aborting : AllComeOut abort_cases

@@ -9,7 +9,7 @@ use Rattle.aom_image.specs.declared.method.Role.TheVariants.{Cancel, Do}
 use Rattle.aom_semantics.specs.Enlisted.{cancelled_code, pending}
 use Rattle.aom_semantics.specs.Places.{Aborted, Active, Cancelling, Elsewhere, Entry, Field, Phase, Place, Register, Root}
 use Rattle.aom_semantics.specs.State.{Static, frame_of, Task, Run, Trapped, Destroy, Unwind, Dispatched, Of_main, An_object, An_operation, A_mark, Stuck, CancelHang, Unbalanced, MessageLost, Orphan, NullOrDead, WrongKind}
-use Rattle.aom_semantics.specs.Cases.Building.{child, leaf, pair, waiter, seven, a_cell, at_bottom, mine, inside, Case, fails, AllBite}
+use Rattle.aom_semantics.specs.Cases.Building.{child, leaf, pair, waiter, seven, a_cell, at_bottom, mine, inside, Case, fails, AllComeOut}
 
 -- a method that waits for another
 abbrev pub waits : Task
@@ -137,17 +137,17 @@ hanging_cases =
     ∷ record (asked Cancel Cancelling pending (CancelHang ∷ Unbalanced ∷ [])) { below = [] }
     ∷ []
 
--- each need of a return bites
+-- each need of a return can fail
 pub record ReturnNeedsFail : Type 0 where
-  pub given : AllBite given_cases
+  pub given : AllComeOut given_cases
   pub level :
-      AllBite (
+      AllComeOut (
       level_cases (gives_back Nothing [])
       ++ (level_cases (record (gives_back A_word []) { words = seven ∷ [] })
       ++ (level_cases (record (gives_back (An_own leaf) []) { cells = a_cell 1 leaf (its 0) ∷ [] })
       ++ level_cases (gives_back (A_maybe leaf) [])))
       )
-  pub left : AllBite left_cases
-  pub owners : AllBite owner_cases
-  pub waiting : AllBite waiting_cases
-  pub hanging : AllBite hanging_cases
+  pub left : AllComeOut left_cases
+  pub owners : AllComeOut owner_cases
+  pub waiting : AllComeOut waiting_cases
+  pub hanging : AllComeOut hanging_cases

@@ -7,7 +7,7 @@ use Rattle.aom_image.specs.declared.method.Thing.TheVariants.{Message}
 use Rattle.aom_semantics.specs.Places.{Asked, Cell, Close_of, Connect_of, Elsewhere, Going, Idle, In_service, Message_of, Object, Root, Service, Session, unserved}
 use Rattle.aom_semantics.specs.State.{Accept_left, Accepted, Accepts, Closing, CompletedTwice, Destroy, Dispatched, MessageLost, NullOrDead, Of_server, Orphan, Parts, Seat, Serves, Service_left, Stage, State, Stray, Task, Trapped, Unbalanced, WrongKind, A_mark}
 use Rattle.aom_semantics.specs.World.{Picks, Waits, turned}
-use Rattle.aom_semantics.specs.Cases.Building.{AllBite, Case, a_cell, at_bottom, fails, is_stuck_by, keeper, leaf, mine, missed, seven, state_of}
+use Rattle.aom_semantics.specs.Cases.Building.{AllComeOut, Case, a_cell, at_bottom, fails, is_stuck_by, keeper, leaf, mine, missed, seven, state_of}
 use Rattle.aom_semantics.specs.Cases.Moves.{AllTurn, Turning, an_image, at}
 use Rattle.aom_semantics.specs.Cases.Turns.{AllCome, AllCount, Count_case, Turn_case, comes_to, count}
 
@@ -152,11 +152,11 @@ pick_cases =
     ∷ at [] (picked_with (Close_of 0 ∷ []) (a_session ∷ []))
     ∷ []
 
--- each need of what servers add bites
+-- each need of what servers add can fail
 pub record ServerNeedsFail : Type 0 where
-  pub taking : AllBite taking_cases
-  pub replying : AllBite replying_cases
-  pub returning : AllBite returning_cases
+  pub taking : AllComeOut taking_cases
+  pub replying : AllComeOut replying_cases
+  pub returning : AllComeOut returning_cases
   pub ending : AllTurn ending_cases
   pub closing : AllTurn closing_cases
   pub signals : AllCome signal_cases

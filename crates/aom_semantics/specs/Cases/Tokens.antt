@@ -15,7 +15,7 @@ use Rattle.aom_instructions.specs.declared.instr.Instr.TheVariants.{Abort, Call,
 use Rattle.aom_instructions.specs.declared.instr.Target.TheVariants.{Entry, Field}
 use Rattle.aom_transcript.specs.declared.line.Ending.TheVariants.{Stopped, Waiting}
 use Rattle.aom_transcript.specs.declared.line.Line.TheVariants.{Gone, Out, Run as Run_line}
-use Rattle.aom_semantics.specs.Cases.Building.{AllBite, Case, a_cell, fails, handing, inside, keeper, leaf, mine, seven, waiter}
+use Rattle.aom_semantics.specs.Cases.Building.{AllComeOut, Case, a_cell, fails, handing, inside, keeper, leaf, mine, seven, waiter}
 use Rattle.aom_semantics.specs.Cases.Families.{a_family}
 use Rattle.aom_semantics.specs.Cases.Programs.{a_method, main_of}
 use Rattle.aom_semantics.specs.Cases.Requests.{elsewhere_cases}
@@ -210,6 +210,6 @@ reply_cases =
     ∷ []
 
 pub record TokenNeedsFail : Type 0 where
-  pub handing : AllBite hand_cases
-  pub issuing : AllBite issue_cases
-  pub replying : AllBite reply_cases
+  pub handing : AllComeOut hand_cases
+  pub issuing : AllComeOut issue_cases
+  pub replying : AllComeOut reply_cases

@@ -3,7 +3,7 @@ use Rattle.std.specs.Prelude.{ℕ, pos, List, [], ◌∷◌, ◌++◌, Some, Non
 use Rattle.aom_instructions.specs.declared.instr.Instr.{Instr}
 use Rattle.aom_instructions.specs.declared.instr.Instr.TheVariants.{Const, Copy, Add, Sub, Mul, And, Or, Xor, Jump, JumpEqual, JumpLess, Loop, Next, Load, Store, Print, Stop}
 use Rattle.aom_semantics.specs.State.{AtRoot, Orphan, WrongKind}
-use Rattle.aom_semantics.specs.Cases.Building.{child, leaf, pair, seven, a_cell, mine, inside, Case, fails, AllBite}
+use Rattle.aom_semantics.specs.Cases.Building.{child, leaf, pair, seven, a_cell, mine, inside, Case, fails, AllComeOut}
 
 -- two words give a third, in the first register
 abbrev pub binary_cases : (ℕ → ℕ → ℕ → Instr) → List Case
@@ -67,9 +67,9 @@ cell_word_cases =
     ∷ record (fails (Store 0 0) (WrongKind ∷ [])) { home = inside pair }
     ∷ []
 
--- each need of an instruction on words bites
+-- each need of an instruction on words can fail
 pub record WordNeedsFail : Type 0 where
-  pub words : AllBite word_cases
-  pub of_cells : AllBite cell_word_cases
-  pub binary : AllBite (binary_cases Add ++ (binary_cases Sub ++ (binary_cases Mul ++ (binary_cases And ++ (binary_cases Or ++ binary_cases Xor)))))
-  pub compared : AllBite (compare_cases JumpEqual ++ compare_cases JumpLess)
+  pub words : AllComeOut word_cases
+  pub of_cells : AllComeOut cell_word_cases
+  pub binary : AllComeOut (binary_cases Add ++ (binary_cases Sub ++ (binary_cases Mul ++ (binary_cases And ++ (binary_cases Or ++ binary_cases Xor)))))
+  pub compared : AllComeOut (compare_cases JumpEqual ++ compare_cases JumpLess)

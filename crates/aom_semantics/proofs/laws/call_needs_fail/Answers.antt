@@ -1,4 +1,4 @@
-use Rattle.aom_semantics.proofs.Biting.{call_needs_fail as law}
+use Rattle.aom_semantics.proofs.NeedsFail.{call_needs_fail as law}
 use Rattle.aom_semantics.proofs.laws.call_needs_fail.Goals as goal
 
 pub returns : goal.returns

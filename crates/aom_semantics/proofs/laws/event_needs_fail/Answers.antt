@@ -1,4 +1,4 @@
-use Rattle.aom_semantics.proofs.Biting.{event_needs_fail as law}
+use Rattle.aom_semantics.proofs.NeedsFail.{event_needs_fail as law}
 use Rattle.aom_semantics.proofs.laws.event_needs_fail.Goals as goal
 
 pub returns : goal.returns

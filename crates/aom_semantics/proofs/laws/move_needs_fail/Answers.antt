@@ -1,4 +1,4 @@
-use Rattle.aom_semantics.proofs.Biting.{move_needs_fail as law}
+use Rattle.aom_semantics.proofs.NeedsFail.{move_needs_fail as law}
 use Rattle.aom_semantics.proofs.laws.move_needs_fail.Goals as goal
 
 pub returns : goal.returns

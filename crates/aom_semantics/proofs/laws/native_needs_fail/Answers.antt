@@ -1,4 +1,4 @@
-use Rattle.aom_semantics.proofs.Biting.{native_needs_fail as law}
+use Rattle.aom_semantics.proofs.NeedsFail.{native_needs_fail as law}
 use Rattle.aom_semantics.proofs.laws.native_needs_fail.Goals as goal
 
 pub returns : goal.returns

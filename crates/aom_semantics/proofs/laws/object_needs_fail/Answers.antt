@@ -1,4 +1,4 @@
-use Rattle.aom_semantics.proofs.Biting.{object_needs_fail as law}
+use Rattle.aom_semantics.proofs.NeedsFail.{object_needs_fail as law}
 use Rattle.aom_semantics.proofs.laws.object_needs_fail.Goals as goal
 
 pub returns : goal.returns

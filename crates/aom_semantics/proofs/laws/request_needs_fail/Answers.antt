@@ -1,4 +1,4 @@
-use Rattle.aom_semantics.proofs.Biting.{request_needs_fail as law}
+use Rattle.aom_semantics.proofs.NeedsFail.{request_needs_fail as law}
 use Rattle.aom_semantics.proofs.laws.request_needs_fail.Goals as goal
 
 pub returns : goal.returns

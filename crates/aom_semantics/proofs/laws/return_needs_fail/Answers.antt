@@ -1,4 +1,4 @@
-use Rattle.aom_semantics.proofs.Biting.{return_needs_fail as law}
+use Rattle.aom_semantics.proofs.NeedsFail.{return_needs_fail as law}
 use Rattle.aom_semantics.proofs.laws.return_needs_fail.Goals as goal
 
 pub returns : goal.returns

@@ -1,4 +1,4 @@
-use Rattle.aom_semantics.proofs.Biting.{token_needs_fail as law}
+use Rattle.aom_semantics.proofs.NeedsFail.{token_needs_fail as law}
 use Rattle.aom_semantics.proofs.laws.token_needs_fail.Goals as goal
 
 pub returns : goal.returns

@@ -1,4 +1,4 @@
-use Rattle.aom_semantics.proofs.Biting.{turn_needs_fail as law}
+use Rattle.aom_semantics.proofs.NeedsFail.{turn_needs_fail as law}
 use Rattle.aom_semantics.proofs.laws.turn_needs_fail.Goals as goal
 
 pub returns : goal.returns
