@@ -11,6 +11,9 @@ use Rattle.aom_clients.specs.Rings.{AreOwn, IsChain, IsRinged, lists_from, node_
 use Rattle.aom_clients.proofs.Rings.{at, lists-seen, ringed-push, ringed-unlink, one-more, last-below, p-below, n-below, counted-one, sound, node-below}
 use Rattle.aom_clients.proofs.Rings.{list-below}
 
+small_test : (m n : ℕ) → m < n → nat_lt m n ≡ true
+small_test m n h = grind arith
+
 module _ (A B : List ℕ) (H : List (Option ℕ)) (C : List ℕ) where
   -- what contracts see
   abbrev pub view : Table
@@ -108,9 +111,6 @@ module _ (A B : List ℕ) (H : List (Option ℕ)) (C : List ℕ) where
         go [] e c = grind (arith, nat_tests, cond-false)
         go (x ∷ xs) e c = ap (node_at (length H)) c.0.0 ∙ cond-true _ _ _
             (small_test x (length H) (node-below A B H C (lists_from A (length H) C) r x l (subst (IsIn x) (sym e) (inl refl)))) ∙ sym (ap first_of e)
-          where
-            small_test : (m n : ℕ) → m < n → nat_lt m n ≡ true
-            small_test m n h = grind arith
 
     pub next-is : (l x : ℕ) → IsIn x (list_at t l) → node_at (length H) (slice_index A x) ≡ after_node x (list_at t l)
     next-is l x i =
@@ -122,9 +122,6 @@ module _ (A B : List ℕ) (H : List (Option ℕ)) (C : List ℕ) where
         behind : (y : ℕ) (ys : List ℕ) → ((z : ℕ) → IsIn z ys → z < length H) → IsChain A B y ys (length H + l) → node_at (length H) (slice_index A y) ≡ first_of ys
         behind y [] below c = grind (arith, nat_tests, cond-false)
         behind y (z ∷ ys) below c = ap (node_at (length H)) c.0.0 ∙ cond-true _ _ _ (small_test z (length H) (below z (inl refl)))
-          where
-            small_test : (m n : ℕ) → m < n → nat_lt m n ≡ true
-            small_test m n h = grind arith
 
         walk_to : (b : ℕ) (ys : List ℕ) → IsOnce ys → ((z : ℕ) → IsIn z ys → z < length H) → IsChain A B b ys (length H + l) → IsIn x ys
             → node_at (length H) (slice_index A x) ≡ after_node x ys

@@ -1,5 +1,5 @@
 -- What moves leave: which methods are at hand, who owns each cell, which tokens requests wait for, and whose the messages are.
-use Rattle.std.specs.Prelude.{ℕ, pos, false, ◌≡◌, map, List, [], ◌∷◌, Option, Some, None}
+use Rattle.std.specs.Prelude.{ℕ, pos, ◌≡◌, map, List, [], ◌∷◌, Option, Some, None}
 use Rattle.aom_image.specs.Image.{Image}
 use Rattle.aom_image.specs.declared.method.Gives.TheVariants.{Nothing}
 use Rattle.aom_image.specs.declared.method.Method.{Method}

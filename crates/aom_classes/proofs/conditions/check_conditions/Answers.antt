@@ -1,5 +1,5 @@
 -- The first condition that is not kept is told, and where all are kept there is a main.
-use Rattle.std.proofs.Common.{◌≡◌, ◌∙◌, ℕ, List, Option, position, refl, rules, sym, ap}
+use Rattle.std.proofs.Common.{◌≡◌, ◌∙◌, ℕ, List, Option, position, rules, sym, ap}
 use Rattle.std.proofs.lemmas.Bool.{false≢true}
 use Rattle.aom_image.specs.Image.{Image}
 use Rattle.aom_image.specs.declared.method.Method.{Method}
