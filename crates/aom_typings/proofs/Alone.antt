@@ -11,6 +11,7 @@ use Rattle.aom_image.specs.declared.method.Thing.{Thing}
 use Rattle.aom_roles.proofs.Descending.{child, itself, one_class}
 use Rattle.aom_roles.specs.Families.{HasNoParents, parent_of}
 use Rattle.aom_classes.proofs.Keeping.{role_alone}
+use Rattle.aom_classes.proofs.Leading.{none_leads}
 use Rattle.aom_classes.specs.Overriding.{OverridesNothing}
 use Rattle.aom_classes.specs.Overriding.{leads_in, over_in, overrides}
 use Rattle.aom_classes.specs.Roles.{destructor_of}
@@ -38,10 +39,6 @@ standing_alone p none f x = grind (arith, nat_tests, below_alone p none)
 
 -- ---- overriders
 
-leads_none : (p : Image) (n m : ℕ) → leads_in p n None m ≡ false
-unfolding leads_in
-leads_none p x m = grind arith
-
 over_nothing : (p : Image) → OverridesNothing p → (k : ℕ) → over_in (method_at p k) ≡ None
 unfolding over_in method_at
 over_nothing p plain k = go (method_at p k) refl
@@ -52,7 +49,7 @@ over_nothing p plain k = go (method_at p k) refl
         (All-get_or (λ d. d.over ≡ None) p.methods k d (slice_get_within p.methods k d at) plain)
 
 pub overrides_nothing : (p : Image) → OverridesNothing p → (k m : ℕ) → overrides p k m ≡ false
-overrides_nothing p plain k m = ap (λ o. leads_in p (length p.methods) o m) (over_nothing p plain k) ∙ leads_none p (length p.methods) m
+overrides_nothing p plain k m = ap (λ o. leads_in p (length p.methods) o m) (over_nothing p plain k) ∙ none_leads p (length p.methods) m
 
 pub run_alone : (p : Image) → OverridesNothing p → (f : ℕ → ℕ) (m : ℕ) → most_run p f m ≡ f m
 run_alone p plain f m =

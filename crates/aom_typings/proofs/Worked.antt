@@ -186,6 +186,6 @@ module _ (c : Prices) where
   worked_path : Path Whole 0 55
   worked_path = loops tt at_each.0 outer outer_round outer_exit exit_path
 
-pub law_bites : PriceNeedsFail
+pub price_needs_fail : PriceNeedsFail
 unfolding class_at kind_in method_at class_in role_of plays role_number leads_in over_in descends_in parent_in own_role keeper_in
-law_bites = search (arith, nat_tests, worked_path, from_0)
+price_needs_fail = search (arith, nat_tests, worked_path, from_0)

@@ -1,4 +1,4 @@
-use Rattle.aom_typings.proofs.Worked.{law_bites as law}
+use Rattle.aom_typings.proofs.Worked.{price_needs_fail as law}
 use Rattle.aom_typings.proofs.laws.price_needs_fail.Goals as goal
 
 pub returns : goal.returns
