@@ -52,17 +52,17 @@ abbrev Says : Image → Shape → Instr → Result (List Flow) Why → Type 0
 Says p s i answer = rule p 0 0 s i ≡ answer
 
 -- `connect`: at a timer, at no provider, of a plain object, and over an owner; it passes in any state of the object, and the answer is a word
-connect_bites :
+connect_says :
     Says (of_class 1 11 11) (state Unset Unset 1) (Connect 0) (Err RegisterKind)
     × Says (of_class 2 11 11) (state Unset Unset 1) (Connect 0) (Err RegisterKind)
     × Says (of_class 3 0 0) (state Unset Unset 0) (Connect 0) (Err RegisterKind)
     × Says (of_class 0 11 11) (state (Own (Object 3) Ready) Unset 1) (Connect 0) (Err RegisterKind)
     × Says (of_class 0 11 11) (state Unset Unset 11) (Connect 0) (Ok ((1, state Word Unset 11) ∷ []))
 unfolding of_class method state classes method_at class_at class_in kind_of kind_in descends_in
-connect_bites = (refl, refl, refl, refl, refl)
+connect_says = (refl, refl, refl, refl, refl)
 
 -- `ask`: at a timer, of a plain object, of no function, with no word, and over an owner; it passes in any state of the object
-ask_bites :
+ask_says :
     Says (of_class 1 11 11) (state Word Word 1) (Ask 0 0 1) (Err RegisterKind)
     × Says (of_class 3 0 0) (state Word Word 0) (Ask 0 0 1) (Err RegisterKind)
     × Says (of_class 0 11 11) (state Unset Word 1) (Ask 0 0 1) (Err RegisterKind)
@@ -70,10 +70,10 @@ ask_bites :
     × Says (of_class 0 11 11) (state (Own (Object 3) Ready) Word 1) (Ask 0 1 1) (Err RegisterKind)
     × Says (of_class 0 11 11) (state Unset Word 11) (Ask 0 1 1) (Ok ((1, state Word Word 11) ∷ []))
 unfolding of_class method state classes method_at class_at class_in kind_of kind_in descends_in
-ask_bites = (refl, refl, refl, refl, refl, refl)
+ask_says = (refl, refl, refl, refl, refl, refl)
 
 -- `close`: at a timer, of a plain object, while it has issued, while it is active, and in a cancel; it passes once the object is idle
-close_bites :
+close_says :
     Says (of_class 1 11 11) (state Unset Unset 1) Close (Err RegisterKind)
     × Says (of_class 3 0 0) (state Unset Unset 0) Close (Err RegisterKind)
     × Says (of_class 0 11 11) (state Unset Unset 6) Close (Err NotIdle)
@@ -81,4 +81,4 @@ close_bites :
     × Says (of_class 0 11 11) (state Unset Unset 32) Close (Err NotIdle)
     × Says (of_class 0 11 11) (state Unset Unset 3) Close (Ok ((1, state Unset Unset 3) ∷ []))
 unfolding of_class method state classes method_at class_at class_in kind_of kind_in descends_in
-close_bites = (refl, refl, refl, refl, refl, refl)
+close_says = (refl, refl, refl, refl, refl, refl)
