@@ -10,7 +10,7 @@ use Rattle.aom_image.specs.declared.method.Argument.TheVariants.{Own as Takes_ow
 use Rattle.aom_image.specs.declared.method.Gives.{Gives}
 use Rattle.aom_clients.specs.declared.client.Client.{Client}
 use Rattle.aom_safety.proofs.ClientsMoves.{IsSteady, Steady, held_elsewhere, steady_ended, steady_passed, steady_result, steady_update}
-use Rattle.aom_safety.proofs.Dropping.{Same, Went, dropped, each_name, held_dropped}
+use Rattle.aom_safety.proofs.Dropping.{SameAtName, Went, dropped, each_name, held_dropped}
 use Rattle.aom_semantics.proofs.Maps.{named_name}
 use Rattle.aom_safety.proofs.Services.{held_served, service_here, service_moved, service_there, service_unnamed}
 use Rattle.aom_safety.proofs.Storing.{ended_alike, held_set_word, rerequested_alike, resessioned_alike}
@@ -143,7 +143,7 @@ calm_unslotted xs cs = record {
 module _ (gone : Place → Bool) (cs : List Cell) (tidy : Tidy cs) where
   pub connects_dropped : (n c : ℕ) → ((q : Place) (o : Object) → gone q ≡ true → held cs q ≡ Some o → o.name ≡ n → (service_of cs n).queue ≡ []) →
       waits cs n c ≡ true → waits (dropped gone cs) n c ≡ true
-  connects_dropped n c empty h = grind (arith, nat_tests, each_name gone cs tidy n, Same gone cs n, dropped gone cs, Went gone cs n, named_name cs n)
+  connects_dropped n c empty h = grind (arith, nat_tests, each_name gone cs tidy n, SameAtName gone cs n, dropped gone cs, Went gone cs n, named_name cs n)
 
   pub places_dropped : ((n c : ℕ) → gone (Elsewhere (Session n c)) ≡ false) → (n c : ℕ) → held (dropped gone cs) (Elsewhere (Session n c)) ≡ held cs (Elsewhere (Session n c))
   places_dropped stays n c = grind (arith, nat_tests, held_dropped gone cs (Elsewhere (Session n c)))

@@ -56,7 +56,7 @@ use Rattle.aom_progress.proofs.Emptied.{none_at_end}
 use Rattle.aom_progress.proofs.Payers.{payers}
 use Rattle.aom_progress.proofs.Turns.{turns_pay}
 use Rattle.aom_safety.proofs.Layers.{method_layer}
-use Rattle.aom_safety.proofs.Wiring.{main_of_none}
+use Rattle.aom_safety.proofs.Wiring.{linked_main_of_none}
 use Rattle.aom_image.proofs.Given.{some_given}
 use Rattle.aom_safety.proofs.Layers.{dispatch_layer}
 use Rattle.std.proofs.Math.Nat.{le-max_left, le-max_right}
@@ -89,7 +89,7 @@ module _ (p : Image) (t : Typing) (c : Prices) (linked : IsLinked p) (typed : Is
       let it : Stands p t fr.method fr.place sh i = record { shape = good.stack.0; instr = there } in
       let at_hand : At p t (counted p s) fr sh ls = record { tasks = tasks; items = items; undos = w.undos; good = good } in
       let a = acted p ch (counted p s) u fr ts i (rw there at goes) in
-      let covered = covers p t c (main_of_none p linked) priced ch (counted p s) fr sh ls at_hand i it rule in
+      let covered = covers p t c (linked_main_of_none p linked) priced ch (counted p s) fr sh ls at_hand i it rule in
       rw a.2 (pays p t c linked priced ch (counted p s) fr sh ls at_hand few m.0 m.1 i m.2 it (effect p ch fr ts (counted p s) i) a.1 covered)
 
   acts : (ls : List Layer) → s.tasks ≡ tasks_of ls → forms s.items ≡ items_of ls → Good p t s.cells ls → (fr : Frame) (ts : List Task) → tasks_of ls ≡ Run fr ∷ ts → ActsPay fr ts

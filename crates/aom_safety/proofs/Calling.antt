@@ -32,8 +32,9 @@ use Rattle.aom_shape.specs.declared.kind.Filling.{Filling}
 use Rattle.aom_shape.specs.declared.kind.Filling.TheVariants.{Empty, Full, Perhaps}
 use Rattle.aom_shape.specs.declared.kind.Kind.{Kind}
 use Rattle.aom_shape.specs.declared.kind.Kind.TheVariants.{Null, Own, Unset}
+use Rattle.aom_rules.proofs.Telling.{filled_more}
 use Rattle.aom_safety.proofs.Claimed.{claim_in_view, Outside, OwnsNoMore, claim_from, claim_register_above, claim_weaker}
-use Rattle.aom_safety.proofs.Claimed.{filled_weaker, fits_weaker, outside_differs, word_fits_weaker}
+use Rattle.aom_safety.proofs.Claimed.{fits_weaker, outside_differs, word_fits_weaker}
 use Rattle.aom_safety.proofs.Destroying.{Untouched, at_alike, eqb_comm, other_name, untouched, untouched_method}
 use Rattle.aom_safety.proofs.Finishing.{all_join}
 use Rattle.aom_safety.proofs.Items.{begins_well, entry_claimed, entry_owns, entry_there, length_each, length_forms, readied_claim, readied_items}
@@ -159,7 +160,7 @@ module _ (p : Image) (t : Typing) (wired : IsWired p) (typed : IsTyped p t) (c :
             inside : (at : Bool) → (o.name == n) ≡ at → (own : Option Thing) →
                 field_thing p (holder_of p k) f ≡ own → Fits p (seen cs) (held cs (Field n f)) (cond at (own_field own (field after f) below) below)
             inside true same (Some x) is = subst (λ j. Fits p (seen cs) (held cs (Field j f)) (filled (Some x) (field after f))) (eqb-true o.name n same)
-                (fits_weaker p (seen cs) (held cs (Field o.name f)) (filled_weaker (Some x) (w.fields f)) (b k may f x is))
+                (fits_weaker p (seen cs) (held cs (Field o.name f)) (filled_more (Some x) _ _ (w.fields f)) (b k may f x is))
             inside true same None is = e.fits (Field n f)
             inside false other own is = e.fits (Field n f)
     begins {view = view} k home sh' e housing silent after w (Elsewhere Root) = grind (arith, nat_tests)

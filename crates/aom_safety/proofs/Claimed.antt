@@ -8,10 +8,11 @@ use Rattle.aom_image.specs.Image.{Image}
 use Rattle.aom_image.specs.declared.method.Gives.{Gives}
 use Rattle.aom_image.specs.declared.method.Thing.{Thing}
 use Rattle.aom_shape.specs.Kinds.{entry_kind, field, filled, is_ready_kind, register, set_field, set_register}
-use Rattle.aom_shape.specs.Order.{SaysNoMore, Weaker, WeakerFilling, alike, maybe_null, maybe_own, perhaps_empty, perhaps_full, unset_null, unset_word}
+use Rattle.aom_shape.specs.Order.{SaysNoMore, Weaker, WeakerFilling, alike, maybe_own, unset_null, unset_word}
 use Rattle.aom_shape.specs.Shape.{Shape}
 use Rattle.aom_roles.specs.Tables.{at, put_at}
 use Rattle.aom_roles.specs.Things.{Holder, Program, field_thing, holder_of}
+use Rattle.aom_rules.proofs.Telling.{filled_more}
 use Rattle.aom_rules.specs.Typing.{Typing}
 use Rattle.aom_shape.specs.declared.kind.Age.TheVariants.{Fresh, Ready}
 use Rattle.aom_shape.specs.declared.kind.Entry.{Entry as Pushed}
@@ -66,13 +67,8 @@ pub claim_push : (p : Image) (d : Place → Kind) (fr : Frame) (sh : Shape) (ls 
     (record sh { entries = v ∷ sh.entries }) ∷ ls) r ≡ changed (claim p d (Method fr sh ∷ ls)) (Entry (length (items_of (Method fr sh ∷ ls)))) (entry_kind v) r
 claim_push p d fr sh ls v x = grind arith
 
-pub filled_weaker : (c : Option Thing) {x y : Filling} → WeakerFilling x y → Weaker (filled c x) (filled c y)
-filled_weaker (Some c) perhaps_empty = maybe_null
-filled_weaker (Some c) perhaps_full = maybe_own
-filled_weaker _ _ = alike
-
 pub own_weaker : (c : Option Thing) (below : Kind) {x y : Filling} → WeakerFilling x y → Weaker (own_field c x below) (own_field c y below)
-own_weaker (Some c) below w = filled_weaker (Some c) w
+own_weaker (Some c) below w = filled_more (Some c) _ _ w
 own_weaker None below w = alike
 
 -- of what places own the first state says no more than the second
@@ -108,7 +104,7 @@ claim_weaker p d fr a b ls (Field n f) w = go fr.home
 claim_weaker p d fr a b ls (Elsewhere Root) w = go fr.home
   where
     go : (h : Home) → Weaker (root_claim p h a (claim p d ls (Elsewhere Root))) (root_claim p h b (claim p d ls (Elsewhere Root)))
-    go AtRoot = filled_weaker (field_thing p Program 0) (w.fields 0)
+    go AtRoot = filled_more (field_thing p Program 0) _ _ (w.fields 0)
     go _ = alike
 claim_weaker p d fr a b ls (Elsewhere In_service) w = subst (λ x. Weaker (cond (serves p fr.method) (delivered a.delivery)
     (claim p d ls (Elsewhere In_service))) (cond (serves p fr.method) (delivered x) (claim p d ls (Elsewhere In_service)))) w.delivery alike

@@ -23,17 +23,13 @@ use Rattle.aom_safety.proofs.Services.{service_unnamed}
 use Rattle.aom_safety.specs.Claims.{Dispatching, Dying, Ending, Layer, Mark, Method, Unwinding, by_stage, claim, declared, delivered, serves, tasks_of}
 use Rattle.aom_safety.specs.Kept.{ClientsFit, is_message_of}
 use Rattle.aom_safety.specs.Laws.{IsWired}
-use Rattle.aom_semantics.specs.Places.{Asked, Cell, Elsewhere, Going, In_service, Message_of, Object, Place, Queued, held, named, seen, service_of, requested}
+use Rattle.aom_semantics.specs.Places.{Asked, Cell, Elsewhere, Going, In_service, Message_of, Object, Queued, held, named, seen, service_of, requested}
 use Rattle.aom_semantics.specs.Servers.{has_message, is_message, is_server, message_thing}
 use Rattle.aom_semantics.specs.State.{Destroy, Dispatch, Dispatched, Of_server, Seat, Stage, State, Task}
 use Rattle.aom_safety.specs.WellTyped.{Back, Caught, Fits, Gone, Leaves, Now, Returns, SomeIn, Stack, WellTyped}
 use Rattle.aom_roles.specs.Things.{stands_for}
+use Rattle.aom_safety.proofs.Dropping.{queued_claim}
 use Rattle.aom_safety.proofs.Things.{stands_message, message_plain}
-
--- no layer claims a message that waits
-claim_queued : (p : Image) (d : Place → Kind) (ls : List Layer) (n m : ℕ) → claim p d ls (Elsewhere (Queued n m)) ≡ d (Elsewhere (Queued n m))
-claim_queued p d [] n m = refl
-claim_queued p d (l ∷ ls) n m = claim_queued p d ls n m
 
 message_any : (c m : ℕ) (es : List Asked) → list_any (is_message_of c m) es ≡ true → list_any (λ e. is_message m e) es ≡ true
 message_any c m [] h = cc
@@ -51,7 +47,7 @@ module _ (p : Image) (t : Typing) (s : State) (w : WellTyped p t s) where
       has = message_any c m (service_of s.cells n).queue h
 
       fits : Fits p (seen s.cells) (held s.cells (Elsewhere (Queued n m))) (declared p s.cells (Elsewhere (Queued n m)))
-      fits = subst (λ k. Fits p (seen s.cells) (held s.cells (Elsewhere (Queued n m))) k) (claim_queued p (declared p s.cells) w.layers n m) (w.good.fits (Elsewhere (Queued n m)))
+      fits = subst (λ k. Fits p (seen s.cells) (held s.cells (Elsewhere (Queued n m))) k) (queued_claim p (declared p s.cells) w.layers n m) (w.good.fits (Elsewhere (Queued n m)))
 
       at : (o : Object) → named s.cells n ≡ Some o → (b : Bool) → is_server p o.thing ≡ b → (x : Object) × (held s.cells (Elsewhere (Queued n m)) ≡ Some x)
       at o e true serves =

@@ -19,7 +19,7 @@ use Rattle.aom_safety.proofs.ClientsSteady.{Steady, fit_steady}
 use Rattle.aom_safety.proofs.ClientsMoves.{fit_unconnected, steady_ended, steady_moved, steady_redeemed, tasks_staged, tasks_steady}
 use Rattle.aom_safety.proofs.Redeeming.{redeemed_by_alike}
 use Rattle.aom_safety.proofs.TokensKeep.{boot_apart, moved_apart, turned_apart}
-use Rattle.aom_safety.proofs.ClientsReturn.{fit_without, return_kept, tasks_without}
+use Rattle.aom_safety.proofs.ClientsReturn.{fit_without, return_kept, same_cells, tasks_without}
 use Rattle.aom_safety.proofs.ClientsTurn.{tasks_begun, turn_kept}
 use Rattle.aom_semantics.proofs.Maps.{without_none}
 use Rattle.aom_safety.proofs.Storing.{Alike, ended_alike}
@@ -78,13 +78,6 @@ stays_listed old x keeps some = grind arith
 -- ---- moves that change no cell of a server
 
 module _ (p : Image) (s : State) (fit : ClientsFit p s.clients s.cells) where
-  -- with the same cells
-  same_cells : (u : State) → u.cells ≡ s.cells → u.clients ≡ s.clients → TasksKept p s.clients s.cells u.tasks → IsFit p u
-  same_cells u cells clients stage = record {
-    fit = subst (λ l. ClientsFit p l u.cells) (sym clients) (subst (λ l. ClientsFit p s.clients l) (sym cells) fit);
-    stage = subst (λ l. TasksKept p l u.cells u.tasks) (sym clients) (subst (λ l. TasksKept p s.clients l u.tasks) (sym cells) stage);
-  }
-
   -- a cell is at hand to go
   begun_kept :
       (a : Place) (k : ℕ) (o : Object) (height : ℕ) (ts : List Task) (u : State) → u.cells ≡ moved a (Going k) s.cells → u.clients ≡ s.clients → u.tasks ≡ begun p o height ts →
@@ -104,15 +97,15 @@ module _ (p : Image) (s : State) (fit : ClientsFit p s.clients s.cells) where
   -- ---- a server lets go of a session
 
   parting_kept : (o : Object) (x : Option Seat) (below : List Task) → TasksKept p s.clients s.cells below → IsFit p (parting p o x below s)
-  parting_kept o None below stage = grind (arith, nat_tests, same_cells)
+  parting_kept o None below stage = grind (arith, nat_tests, same_cells p s fit)
   parting_kept o (Some x) below stage = begun_kept x.place _ x.object (length s.items) (Closing ∷ Destroy ∷ below) _ refl refl refl stage
 
   -- ---- a dispatch ends
 
   main_kept : (b : Bool) (root : Option Object) → IsFit p (main_ends p b root s)
   main_kept true (Some o) = begun_kept (Elsewhere Root) _ o (length s.items) (Dispatched Of_root ∷ []) _ refl refl refl tt
-  main_kept true None = same_cells _ refl refl tt
-  main_kept false root = same_cells _ refl refl tt
+  main_kept true None = same_cells p s fit _ refl refl tt
+  main_kept false root = same_cells p s fit _ refl refl tt
 
 module _ (p : Image) (s : State) (fit : ClientsFit p s.clients s.cells) where
   object_kept : IsFit p (object_ends p s)

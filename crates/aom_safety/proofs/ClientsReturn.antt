@@ -24,15 +24,16 @@ use Rattle.aom_semantics.specs.Enlisted.{thing_kind}
 use Rattle.aom_safety.proofs.Seated.{seats_same}
 use Rattle.std.specs.Prelude.{is_some}
 
+-- the same clients with the same cells, whatever is at hand
+pub same_cells : (p : Image) (s : State) → ClientsFit p s.clients s.cells → (u : State) → u.cells ≡ s.cells → u.clients ≡ s.clients → TasksKept p s.clients s.cells u.tasks → IsFit p u
+same_cells p s fit u cells clients stage = record {
+  fit = subst (λ l. ClientsFit p l u.cells) (sym clients) (subst (λ l. ClientsFit p s.clients l) (sym cells) fit);
+  stage = subst (λ l. TasksKept p l u.cells u.tasks) (sym clients) (subst (λ l. TasksKept p s.clients l u.tasks) (sym cells) stage);
+}
+
 -- ---- a method returns
 
 module _ (p : Image) (fr : Frame) (ts : List Task) (s : State) (fit : ClientsFit p s.clients s.cells) where
-  same_tasks : (u : State) → u.cells ≡ s.cells → u.clients ≡ s.clients → TasksKept p s.clients s.cells u.tasks → IsFit p u
-  same_tasks u cells clients stage = record {
-    fit = subst (λ l. ClientsFit p l u.cells) (sym clients) (subst (λ l. ClientsFit p s.clients l) (sym cells) fit);
-    stage = subst (λ l. TasksKept p l u.cells u.tasks) (sym clients) (subst (λ l. TasksKept p s.clients l u.tasks) (sym cells) stage);
-  }
-
   result_kept :
       (g : Gives) (a c : ℕ) (below : List Task) (u : State) → u.cells ≡ result_cells p fr ts s g a c below → u.clients ≡ s.clients → (u.tasks ≡ u.tasks) →
       ((cs : List Cell) → TasksKept p s.clients cs below → TasksKept p s.clients cs u.tasks) → TasksKept p s.clients s.cells below → IsFit p u
@@ -64,9 +65,9 @@ module _ (p : Image) (fr : Frame) (ts : List Task) (s : State) (fit : ClientsFit
         ((x : Seat) (c : ℕ) → d ≡ Of_server x c Accepts → (named s.cells x.object.name ≡ Some x.object) × (is_server p x.object.thing ≡ true) × (is_some (requested s.cells x.object.name) ≡ true)) →
         TasksKept p s.clients s.cells (Dispatched d ∷ below) → IsFit p (returned p fr ts s g a (Trapped ∷ Dispatched d ∷ below))
     ended_kept (Of_server x c Accepts) there stage = let l = there x c refl in accept_kept x c l.0 l.1 l.2 stage
-    ended_kept (Of_server x c (Accept_left code)) there stage = same_tasks _ refl refl stage
-    ended_kept (Of_server x c Parts) there stage = same_tasks _ refl refl stage
-    ended_kept _ there stage = same_tasks _ refl refl tt
+    ended_kept (Of_server x c (Accept_left code)) there stage = same_cells p s fit _ refl refl stage
+    ended_kept (Of_server x c Parts) there stage = same_cells p s fit _ refl refl stage
+    ended_kept _ there stage = same_cells p s fit _ refl refl tt
 
   answered_stage : (answer : ℤ) (d : Dispatch) (below : List Task) → TasksKept p s.clients s.cells (Dispatched d ∷ below) → TasksKept p s.clients s.cells (Dispatched (answered_by answer d) ∷ below)
   answered_stage answer x below k = grind arith
@@ -82,10 +83,10 @@ module _ (p : Image) (fr : Frame) (ts : List Task) (s : State) (fit : ClientsFit
   return_kept g a (Run caller ∷ below) there tasks stage all = result_kept g a _ below _ refl refl refl (λ cs k. k) stage
   return_kept g a (Trapped ∷ Run caller ∷ below) there tasks stage all = result_kept g a _ below _ refl refl refl (λ cs k. k) stage
   return_kept g a (Trapped ∷ Dispatched d ∷ below) there tasks stage all = ended_kept g a below d there stage
-  return_kept g a (Destroy ∷ below) there tasks stage all = same_tasks _ refl refl (line_kept fr.method fr.home fr.height below stage)
-  return_kept g a (Unwind code ∷ below) there tasks stage all = same_tasks _ refl refl stage
-  return_kept g a (Dispatched d ∷ below) there tasks stage all = same_tasks _ refl refl (answered_stage _ d below stage)
-  return_kept g a _ there tasks stage all = same_tasks s refl refl (subst (λ l. TasksKept p s.clients s.cells l) (sym tasks) all)
+  return_kept g a (Destroy ∷ below) there tasks stage all = same_cells p s fit _ refl refl (line_kept fr.method fr.home fr.height below stage)
+  return_kept g a (Unwind code ∷ below) there tasks stage all = same_cells p s fit _ refl refl stage
+  return_kept g a (Dispatched d ∷ below) there tasks stage all = same_cells p s fit _ refl refl (answered_stage _ d below stage)
+  return_kept g a _ there tasks stage all = same_cells p s fit s refl refl (subst (λ l. TasksKept p s.clients s.cells l) (sym tasks) all)
 
 -- ---- a cell goes of which clients have nothing
 

@@ -10,11 +10,11 @@ use Rattle.aom_clients.specs.Table.{server_of}
 use Rattle.aom_clients.specs.declared.client.Client.{Client}
 use Rattle.aom_rules.specs.Typing.{Typing}
 use Rattle.aom_safety.proofs.ClientsCommand.{fit_commanded}
+use Rattle.aom_safety.proofs.ClientsFacts.{waiting_well}
 use Rattle.aom_safety.proofs.ClientsFit.{IsFit, by_server, fit_reserved, sent_then}
 pub use Rattle.aom_safety.proofs.ClientsSteady.{Same, fit_same}
 use Rattle.aom_safety.proofs.ClientsSteady.{fit_steady, steady_as}
 use Rattle.aom_semantics.proofs.Maps.{held_moved, named_moved, requested_moved, requested_unnamed}
-use Rattle.aom_safety.proofs.Owners.{IsQueuedAt, in_queue, queued_lower}
 use Rattle.aom_safety.proofs.Services.{held_served, service_asked, service_bereaved, service_here, service_moved}
 use Rattle.aom_safety.proofs.Signals.{at_rest}
 use Rattle.aom_safety.proofs.Storing.{bereaved_alike, rerequested_alike, requested_here, requested_there}
@@ -41,7 +41,6 @@ use Rattle.aom_transcript.specs.declared.event.Event.{Event}
 use Rattle.aom_transcript.specs.declared.event.TimedEvent.{TimedEvent}
 use Rattle.aom_safety.proofs.Seated.{seats_first, seats_rest}
 use Rattle.aom_safety.proofs.Sources.{from_some, has_sender}
-use Rattle.aom_safety.proofs.Things.{message_plain}
 use Rattle.std.proofs.lemmas.Bool.{eq-eqb, eqb-true}
 
 -- ---- cells of which clients have the same
@@ -147,10 +146,6 @@ module _ (p : Image) (t : Typing) (wired : IsWired p) (s : State) (w : WellTyped
 
   stage_idle : (clients : List Client) (cs : List Cell) (ts : List Task) → ts ≡ [] → TasksKept p clients cs ts
   stage_idle clients cs ts e = subst (λ l. TasksKept p clients cs l) (sym e) tt
-
-  -- what waits in a queue is no server
-  waiting : (n m : ℕ) (o : Object) → held s.cells (Elsewhere (Queued n m)) ≡ Some o → is_server p o.thing ≡ false
-  waiting n m o e = grind (arith, nat_tests, message_plain p o.thing, queued_lower p wired, IsQueuedAt p s.cells n m o.thing, in_queue p t wired s w n m o e)
 
   empty_place : (q : Place) → declared p s.cells q ≡ Null → held s.cells q ≡ None
   empty_place q e = fits_unowning p (seen s.cells) _ Null refl (subst (λ k. Fits p (seen s.cells) (held s.cells q) k) e (good.fits q))
@@ -260,7 +255,7 @@ module _ (p : Image) (t : Typing) (wired : IsWired p) (s : State) (w : WellTyped
         | answers o code ↦ requested_kept (completed_with (recorded code)) o _ refl refl idle_now
       ]
   turned_kept (Obeys client command name) f u e = subst (λ v. IsFit p v) (goes_same _ u e) (record {
-    fit = fit_commanded p client (heard_one s) good.tidy kept.fit waiting command name f;
+    fit = fit_commanded p client (heard_one s) good.tidy kept.fit (waiting_well p t wired s w) command name f;
     stage = stage_idle _ _ _ ((commanded_kept p client (heard_one s) command name).1 ∙ idle_now);
   })
   turned_kept (Picks x) f u e = picked_kept x f.0 f.1 u e

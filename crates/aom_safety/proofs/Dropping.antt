@@ -43,7 +43,7 @@ module _ (gone : Place → Bool) where
   held_dropped (c ∷ cs) r = grind (arith, nat_tests, held_dropped cs r, same_place-true c.owner r)
 
   -- of that name there is what there was
-  pub record Same (cs : List Cell) (n : ℕ) : Type 0 where
+  pub record SameAtName (cs : List Cell) (n : ℕ) : Type 0 where
     pub name : named (dropped cs) n ≡ named cs n
     pub service : service_of (dropped cs) n ≡ service_of cs n
     pub request : requested (dropped cs) n ≡ requested cs n
@@ -57,7 +57,7 @@ module _ (gone : Place → Bool) where
     pub was : named cs n ≡ Some object
     pub none : named (dropped cs) n ≡ None
 
-  pub each_name : (cs : List Cell) → Tidy cs → (n : ℕ) → Same cs n ⊎ Went cs n
+  pub each_name : (cs : List Cell) → Tidy cs → (n : ℕ) → SameAtName cs n ⊎ Went cs n
   each_name [] t n = inl (record { name = refl; service = refl; request = refl })
   each_name (c ∷ cs) t n = go (gone c.owner) (c.object.name == n) refl refl (each_name cs t.2 n)
     where
@@ -68,11 +68,11 @@ module _ (gone : Place → Bool) where
           at_place true e = let clash : Some w.object ≡ None = sym w.there ∙ ap (λ q. held cs q) (sym (same_place-true c.owner w.place e)) ∙ t.0 in cc
           at_place false e = w.there
 
-      none_left : (c.object.name == n) ≡ true → Same cs n ⊎ Went cs n → named (dropped cs) n ≡ None
+      none_left : (c.object.name == n) ≡ true → SameAtName cs n ⊎ Went cs n → named (dropped cs) n ≡ None
       none_left e (inl s) = s.name ∙ ap (λ m. named cs m) (sym (eqb-true c.object.name n e)) ∙ t.1
       none_left e (inr w) = w.none
 
-      go : (x y : Bool) → gone c.owner ≡ x → (c.object.name == n) ≡ y → Same cs n ⊎ Went cs n → Same (c ∷ cs) n ⊎ Went (c ∷ cs) n
+      go : (x y : Bool) → gone c.owner ≡ x → (c.object.name == n) ≡ y → SameAtName cs n ⊎ Went cs n → SameAtName (c ∷ cs) n ⊎ Went (c ∷ cs) n
       go true true ex ey ih = inr (record {
         object = c.object;
         place = c.owner;
@@ -131,7 +131,7 @@ module _ (gone : Place → Bool) where
     pub stays_named : (r : Place) (x : Object) → gone r ≡ false → held cs r ≡ Some x → named (dropped cs) x.name ≡ Some x
     stays_named r x e h = held_lives (dropped cs) r x (tidy_dropped cs tidy) (stays_at r x e h)
 
-    pub stays_same : (r : Place) (x : Object) → gone r ≡ false → held cs r ≡ Some x → Same cs x.name
+    pub stays_same : (r : Place) (x : Object) → gone r ≡ false → held cs r ≡ Some x → SameAtName cs x.name
     stays_same r x e h = grind (arith, nat_tests, stays_named r x e h, each_name cs tidy x.name)
 
     -- what a service says with its server's kind, where a message's is null
@@ -176,7 +176,7 @@ module _ (gone : Place → Bool) where
       all_sit_dropped (x ∷ xs) s = let e = sits_spared x.place xs s.0.2 in ((stays_at x.place x.object e s.0.0, stays_named x.place x.object e s.0.0, s.0.2, s.0.3), all_sit_dropped xs s.1)
 
       -- the object that is dispatched stays
-      first_same : (xs : List Seat) (x : Seat) → AllSit cs xs → SitsFirst cs (Some x) xs → Same cs x.object.name
+      first_same : (xs : List Seat) (x : Seat) → AllSit cs xs → SitsFirst cs (Some x) xs → SameAtName cs x.object.name
       first_same (y ∷ ys) x s f = grind (arith, nat_tests, stays_same y.place y.object (sits_spared y.place ys s.0.2) s.0.0, sits_spared y.place ys s.0.2)
       first_same [] x s f = cc
 

@@ -101,4 +101,4 @@ pub mod Commanding
 pub mod Sending
 pub mod Withdrawing
 pub mod Obeying
-pub mod KeptBiting
+pub mod KeptNeedsFail

@@ -12,7 +12,7 @@ use Rattle.aom_instructions.specs.declared.instr.Instr.TheVariants.{Reply, TakeM
 use Rattle.aom_classes.specs.Roles.{role_number}
 use Rattle.aom_roles.specs.Shapes.{is_role}
 use Rattle.aom_rules.specs.Typing.{Leads, Typing}
-use Rattle.aom_shape.specs.Kinds.{is_here, is_own_for, is_word, register, set_register}
+use Rattle.aom_shape.specs.Kinds.{is_here, is_own_for, register, set_register}
 use Rattle.aom_shape.specs.Shape.{Shape}
 use Rattle.aom_roles.specs.Things.{stands_for}
 use Rattle.aom_shape.specs.declared.kind.Age.TheVariants.{Ready}
@@ -34,7 +34,8 @@ use Rattle.aom_semantics.specs.Objects.{is_thing}
 use Rattle.aom_semantics.specs.Places.{Cell, Elsewhere, In_service, Object, Place, Sight, changed, held, moved, same_place, seen, without}
 use Rattle.aom_semantics.specs.State.{Choice, Frame, Run, Seat, State, next, set_word, word}
 use Rattle.aom_semantics.specs.Tokens.{redeemed_by, token_of}
-use Rattle.aom_safety.specs.WellTyped.{AllSit, Fits, IsHoused, IsServed, NoSeatAt, Returns, Stack, WellTyped, WordFits}
+use Rattle.aom_safety.specs.WellTyped.{AllSit, Fits, IsHoused, IsServed, NoSeatAt, Returns, Stack, WellTyped}
+use Rattle.aom_safety.proofs.Words.{is_read}
 use Rattle.aom_semantics.specs.Words.{read}
 use Rattle.aom_instructions.specs.declared.instr.Instr.{Instr}
 use Rattle.aom_roles.specs.Roles.{is_service}
@@ -61,9 +62,6 @@ module _ (p : Image) (h : Sight) where
 
 message_stands : (p : Image) (x : Thing) → x ≡ Message → stands_for p x Message ≡ true
 message_stands p x e = ap (λ y. stands_for p y Message) e
-
-word_there : (w : Option ℤ) (k : Kind) → is_word k ≡ true → WordFits w k → is_some w ≡ true
-word_there w k e f = grind arith
 
 module _ (p : Image) (t : Typing) (c : Choice) (s : State) (fr : Frame) (sh : Shape) (ls : List Layer) (at_hand : At p t s fr sh ls) where
   -- ---- a message is taken
@@ -168,7 +166,7 @@ module _ (p : Image) (t : Typing) (c : Choice) (s : State) (fr : Frame) (sh : Sh
   pub law_reply : (a b : ℕ) → Law p t c s fr sh ls at_hand (Reply a b)
   law_reply a b n leads =
       let can = redeemable p t (token_of s.cells (held s.cells (top ls a))) s.cells (Method fr sh ∷ ls) at_hand.good in
-      let told = word_there (word fr b) (register sh b) n.1.0 (at_hand.good.stack.1.words b) in
+      let told = is_read (word fr b) (register sh b) n.1.0 (at_hand.good.stack.1.words b) in
       let stands = ap (is_thing p Message) it.1 ∙ message_stands p it.0.thing it.2 in
       ((ap is_none none, (ap is_some it.1, (stands, (told, (can, tt))))), replies a (read fr (tasks_of ls) s b) none it.0 it.1 it.2 leads.0)
     where

@@ -1,8 +1,7 @@
 -- A client's command between dispatches leads to a well-typed state.
 use Rattle.std.proofs.lemmas.Bool.Decides.{nat_tests}
-use Rattle.std.proofs.Common.{arith, List, None, Option, Some, [], ap, false, refl, subst, sym, ℕ, ℤ, ◌∙◌, ◌∷◌, ◌≡◌}
+use Rattle.std.proofs.Common.{arith, List, None, Option, Some, [], ap, refl, subst, sym, ℕ, ℤ, ◌∙◌, ◌∷◌, ◌≡◌}
 use Rattle.aom_image.specs.Image.{Image}
-use Rattle.aom_image.specs.declared.method.Thing.TheVariants.{Message}
 use Rattle.aom_clients.specs.Table.{server_of}
 use Rattle.aom_clients.specs.declared.client.Client.{Client}
 use Rattle.aom_clients.specs.declared.client.Client.TheVariants.{Open}
@@ -10,21 +9,20 @@ use Rattle.aom_clients.specs.declared.refusal.Refusal.{Refusal}
 use Rattle.aom_rules.specs.Typing.{Typing}
 use Rattle.aom_safety.proofs.ClientsAsk.{asked_there}
 use Rattle.aom_safety.proofs.ClientsCommand.{nobody, none_named, server_stays, server_there}
+use Rattle.aom_safety.proofs.ClientsFacts.{waiting_message, waiting_well}
 use Rattle.aom_safety.proofs.Commanding.{good_asked}
-use Rattle.aom_safety.proofs.Owners.{IsQueuedAt, in_queue, queued_lower}
 use Rattle.aom_safety.proofs.Sending.{good_sent}
 use Rattle.aom_safety.proofs.Signals.{at_rest}
 use Rattle.aom_safety.proofs.Withdrawing.{good_withdrawn}
 use Rattle.aom_semantics.specs.Clients.{sent_message, asked_server, Listed, client_at, commanded, connecting, leaving, refusal, sending, told}
 use Rattle.aom_safety.specs.Kept.{ClientsFit}
 use Rattle.aom_safety.specs.Laws.{IsWired}
-use Rattle.aom_semantics.specs.Places.{Cell, Close_of, Connect_of, Elsewhere, Message_of, Object, Queued, held, named, service_of}
-use Rattle.aom_semantics.specs.Servers.{asked_last, is_server, reserved, withdrawn}
+use Rattle.aom_semantics.specs.Places.{Cell, Close_of, Connect_of, Message_of, named, service_of}
+use Rattle.aom_semantics.specs.Servers.{asked_last, reserved, withdrawn}
 use Rattle.aom_semantics.specs.State.{State}
 use Rattle.aom_safety.specs.WellTyped.{Good, WellTyped}
 use Rattle.aom_transcript.specs.declared.event.Command.{Command}
 use Rattle.aom_transcript.specs.declared.event.Command.TheVariants.{Connect}
-use Rattle.aom_safety.proofs.Things.{message_plain}
 
 module _ (p : Image) (t : Typing) (wired : IsWired p) (s : State) (w : WellTyped p t s) (idle : s.tasks ≡ []) (fit : ClientsFit p s.clients s.cells) (c : ℕ) where
   good : Good p t s.cells []
@@ -33,12 +31,6 @@ module _ (p : Image) (t : Typing) (wired : IsWired p) (s : State) (w : WellTyped
   -- with other cells, and what clients are at
   well : (u : State) → u.tasks ≡ s.tasks → u.items ≡ s.items → Good p t u.cells [] → WellTyped p t u
   well u tasks items now = search (arith, nat_tests, at_rest p t s w idle, good)
-
-  message : (n m : ℕ) (o : Object) → held s.cells (Elsewhere (Queued n m)) ≡ Some o → o.thing ≡ Message
-  message n m o e = grind (arith, nat_tests, queued_lower p wired, IsQueuedAt p s.cells n m o.thing, in_queue p t wired s w n m o e)
-
-  waiting : (n m : ℕ) (o : Object) → held s.cells (Elsewhere (Queued n m)) ≡ Some o → is_server p o.thing ≡ false
-  waiting n m o e = message_plain p o.thing (message n m o e)
 
   connects_well : (refused : Option Refusal) (class slots : ℕ) → WellTyped p t (connecting p c s refused (asked_server p class s.cells) slots)
   connects_well refused class slots = go refused (asked_server p class s.cells) refl
@@ -68,12 +60,12 @@ module _ (p : Image) (t : Typing) (wired : IsWired p) (s : State) (w : WellTyped
   leaves_well k at (Some to) = well _ refl refl (subst (λ x. Good p t (told p c s x (withdrawn c s.cells)) []) (sym at) (go k at))
     where
       alone : Good p t (withdrawn c s.cells) []
-      alone = good_withdrawn p t s.clients s.cells good fit c message
+      alone = good_withdrawn p t s.clients s.cells good fit c (waiting_message p t wired s w)
 
       go : (k : Client) → client_at s.clients c ≡ k → Good p t (told p c s k (withdrawn c s.cells)) []
       go (Open server session slots) at =
           let there = server_there p c s good.tidy fit server (fit.listed server c (ap server_of at)) in
-          rw there.1 at (good_asked p t (withdrawn c s.cells) there.0 (server_stays p c s good.tidy fit waiting there.0 there.2
+          rw there.1 at (good_asked p t (withdrawn c s.cells) there.0 (server_stays p c s good.tidy fit (waiting_well p t wired s w) there.0 there.2
           (fit.listed there.0.name c (ap server_of at ∙ ap (λ n. Some n) (sym there.1)))) (Close_of c) (λ m. refl) alone)
       go _ at = alone
 

@@ -128,6 +128,33 @@ pub same_suits :
     AllSuit p cs (Method fr sh ∷ ls) → AllSuit p cs (Method fr' sh' ∷ ls)
 same_suits p cs fr fr' sh sh' ls eh em es s o lives = grind (arith, nat_tests)
 
+-- the same method of the same object, with other words
+same_frames : (p : Image) (fr fr' : Frame) (sh sh' : Shape) (ls : List Layer) → fr'.home ≡ fr.home → fr'.method ≡ fr.method → began fr' ≡ began fr →
+    ((i : ℕ) → WordFits (word fr' i) (register sh' i)) → Frames p ls fr sh → Frames p ls fr' sh'
+same_frames p fr fr' sh sh' ls eh em eg words g = record {
+  words = words;
+  holder = grind (arith, nat_tests);
+  view = counts_too p fr fr' eh em eg g.view;
+  height = ap (λ (x : ℕ × Option ℕ). x.0) eg ∙ g.height;
+  alone = alone_too p fr fr' ls eh em g.alone;
+  message = message_too p fr fr' ls em g.message;
+}
+
+-- and with the same cells, which fit what its places are now
+same_cells : (p : Image) (t : Typing) (cs : List Cell) (fr fr' : Frame) (sh sh' : Shape) (ls : List Layer) → Fitted p t cs fr sh ls →
+    fr'.home ≡ fr.home → fr'.method ≡ fr.method → began fr' ≡ began fr → sh'.states ≡ sh.states →
+    ((r : Place) → Fits p (seen cs) (held cs r) (claim p (declared p cs) (Method fr sh' ∷ ls) r)) → ((i : ℕ) → WordFits (word fr' i) (register sh' i)) →
+    Fitted p t cs fr' sh' ls
+same_cells p t cs fr fr' sh sh' ls g eh em eg es fits words = record {
+  fits = λ r. subst (λ k. Fits p (seen cs) (held cs r) k) (sym (claim_frame p (declared p cs) fr fr' sh' ls r eh em)) (fits r);
+  suits = same_suits p cs fr fr' sh sh' ls eh em es g.suits;
+  tidy = g.tidy;
+  frames = same_frames p fr fr' sh sh' ls eh em eg words g.frames;
+  housed = subst (λ h. IsHoused p cs ls h) (sym eh) g.housed;
+  apart = apart_too p fr fr' ls eh em eg g.apart;
+  stack = subst (λ m. Stack p t cs (Returns m fr'.home) ls) (sym em) (subst (λ h. Stack p t cs (Returns fr.method h) ls) (sym eh) g.stack);
+}
+
 -- a thing moves from one local place to another, with its claim
 pub relocate : (p : Image) (t : Typing) (cs : List Cell) (fr fr' : Frame) (sh sh' : Shape) (ls : List Layer) (a b : Place) →
     Fitted p t cs fr sh ls → fr'.home ≡ fr.home → fr'.method ≡ fr.method → began fr' ≡ began fr → sh'.states ≡ sh.states → held cs b ≡ None → Outside a ls →
@@ -145,14 +172,7 @@ relocate p t cs fr fr' sh sh' ls a b g eh em eg es free oa ob nf fresh claims wo
           (ap (λ e. claim p e (Method fr sh' ∷ ls) r) (sym (declared_moved p cs a b)) ∙ sym (claim_frame p (declared p cs') fr fr' sh' ls r eh em)) (fits r);
       suits = same_suits p (moved a b cs) fr fr' sh sh' ls eh em es (all_moved p cs a b (Method fr sh ∷ ls) g.suits);
       tidy = tidy_moved cs a b free g.tidy;
-      frames = record {
-        words = words;
-        holder = grind (arith, nat_tests);
-        view = counts_too p fr fr' eh em eg g.frames.view;
-        height = ap (λ (x : ℕ × Option ℕ). x.0) eg ∙ g.frames.height;
-        alone = alone_too p fr fr' ls eh em g.frames.alone;
-        message = message_too p fr fr' ls em g.frames.message;
-      };
+      frames = same_frames p fr fr' sh sh' ls eh em eg words g.frames;
       housed = housed_relocated p cs a b ls fr'.home free oa ob nf (subst (λ h. IsHoused p cs ls h) (sym eh) g.housed);
       apart = apart_too p fr fr' ls eh em eg g.apart;
       stack = grind (arith, nat_tests, stack_moved p t cs a b ls);
@@ -166,22 +186,8 @@ pub relabel : (p : Image) (t : Typing) (cs : List Cell) (fr fr' : Frame) (sh sh'
     ((r : Place) → claim p (declared p cs) (Method fr sh' ∷ ls) r ≡ changed (claim p (declared p cs) (Method fr sh ∷ ls)) a v r) →
     ((i : ℕ) → WordFits (word fr' i) (register sh' i)) →
     Fitted p t cs fr' sh' ls
-relabel p t cs fr fr' sh sh' ls a v g eh em eg es new claims words = record {
-  fits = λ r. subst (λ k. Fits p (seen cs) (held cs r) k) (sym (claim_frame p (declared p cs) fr fr' sh' ls r eh em ∙ claims r)) (go r (same_place a r) refl);
-  suits = same_suits p cs fr fr' sh sh' ls eh em es g.suits;
-  tidy = g.tidy;
-  frames = record {
-    words = words;
-    holder = grind (arith, nat_tests);
-    view = counts_too p fr fr' eh em eg g.frames.view;
-    height = ap (λ (x : ℕ × Option ℕ). x.0) eg ∙ g.frames.height;
-    alone = alone_too p fr fr' ls eh em g.frames.alone;
-    message = message_too p fr fr' ls em g.frames.message;
-  };
-  housed = subst (λ h. IsHoused p cs ls h) (sym eh) g.housed;
-  apart = apart_too p fr fr' ls eh em eg g.apart;
-  stack = subst (λ m. Stack p t cs (Returns m fr'.home) ls) (sym em) (subst (λ h. Stack p t cs (Returns fr.method h) ls) (sym eh) g.stack);
-}
+relabel p t cs fr fr' sh sh' ls a v g eh em eg es new claims words =
+    same_cells p t cs fr fr' sh sh' ls g eh em eg es (λ r. subst (λ k. Fits p (seen cs) (held cs r) k) (sym (claims r)) (go r (same_place a r) refl)) words
   where
     go : (r : Place) (b : Bool) → same_place a r ≡ b → Fits p (seen cs) (held cs r) (cond b v (claim p (declared p cs) (Method fr sh ∷ ls) r))
     go r true e = subst (λ q. Fits p (seen cs) (held cs q) v) (same_place-true a r e) new
@@ -216,22 +222,8 @@ top ls i = Register (length (tasks_of ls)) i
 -- the frame stands elsewhere, or has other counters
 pub reframed : (p : Image) (t : Typing) (cs : List Cell) (fr fr' : Frame) (sh : Shape) (ls : List Layer) →
     fr'.home ≡ fr.home → fr'.method ≡ fr.method → began fr' ≡ began fr → fr'.words ≡ fr.words → Fitted p t cs fr sh ls → Fitted p t cs fr' sh ls
-reframed p t cs fr fr' sh ls eh em eg ew g = record {
-  fits = λ r. subst (λ k. Fits p (seen cs) (held cs r) k) (sym (claim_frame p (declared p cs) fr fr' sh ls r eh em)) (g.fits r);
-  suits = same_suits p cs fr fr' sh sh ls eh em refl g.suits;
-  tidy = g.tidy;
-  frames = record {
-    words = λ i. subst (λ ws. WordFits (at None ws i) (register sh i)) (sym ew) (g.frames.words i);
-    holder = grind (arith, nat_tests);
-    view = counts_too p fr fr' eh em eg g.frames.view;
-    height = ap (λ (x : ℕ × Option ℕ). x.0) eg ∙ g.frames.height;
-    alone = alone_too p fr fr' ls eh em g.frames.alone;
-    message = message_too p fr fr' ls em g.frames.message;
-  };
-  housed = subst (λ h. IsHoused p cs ls h) (sym eh) g.housed;
-  apart = apart_too p fr fr' ls eh em eg g.apart;
-  stack = subst (λ m. Stack p t cs (Returns m fr'.home) ls) (sym em) (subst (λ h. Stack p t cs (Returns fr.method h) ls) (sym eh) g.stack);
-}
+reframed p t cs fr fr' sh ls eh em eg ew g =
+    same_cells p t cs fr fr' sh sh ls g eh em eg refl g.fits (λ i. subst (λ ws. WordFits (at None ws i) (register sh i)) (sym ew) (g.frames.words i))
 
 -- the place alone differs
 pub stepped : (p : Image) (t : Typing) (cs : List Cell) (fr : Frame) (sh : Shape) (ls : List Layer) → Fitted p t cs fr sh ls → Fitted p t cs (next fr) sh ls

@@ -89,9 +89,9 @@ unfolding role_in
 role_at p m r e = some_given (λ o. role_in o ≡ Some r) (method_at p m) e (λ none. cc) (λ d is same. (d, is, (cc)))
 
 -- main works on no object
-pub main_of_none : (p : Image) → IsLinked p → (m : ℕ) → method_role p m ≡ Some Main → own_kind p m ≡ None
+pub linked_main_of_none : (p : Image) → IsLinked p → (m : ℕ) → method_role p m ≡ Some Main → own_kind p m ≡ None
 unfolding class_in method_at kind_of
-main_of_none p linked m e = grind (arith, nat_tests, role_at p m Main e, all_there (IsShaped p) p.methods m)
+linked_main_of_none p linked m e = grind (arith, nat_tests, role_at p m Main e, all_there (IsShaped p) p.methods m)
 
 module _ (p : Image) (formed : WellFormed p) (linked : IsLinked p) where
   shaped : (m : ℕ) (d : Method_declared) → method_at p m ≡ Some d → IsShaped p d
