@@ -12,7 +12,7 @@ use Rattle.aom_scheduler.specs.declared.request.Request.{Request as Machine_requ
 use Rattle.aom_scheduler.specs.Order.{without}
 use Rattle.aom_scheduler.specs.Roster.{first_ready}
 use Rattle.aom_scheduler.specs.Pending.{due_by, due_of, left_by}
-use Rattle.aom_scheduler.specs.declared.entry.Entry.{Entry}
+use Rattle.aom_scheduler.specs.declared.entry.ScheduleEntry.{ScheduleEntry}
 use Rattle.aom_scheduler.specs.declared.timer.Timer.{Timer as Machine_timer}
 use Rattle.aom_scheduler.proofs.Items.{AreDistinct, at_head, pairs-head, pairs-tail, without-at}
 use Rattle.aom_scheduler.proofs.Timing.{stands-if_set}
@@ -121,14 +121,14 @@ set_by now id ts e = grind arith
 -- ---- entries
 
 -- the first entry that is ready, of those of which something holds, and how it is related to all others that are
-record IsFirstEntry (R : Entry → Entry → Type 0) (P : Entry → Type 0) (id : ℕ) (es : List Entry) : Type 0 where
-  entry : Entry
+record IsFirstEntry (R : ScheduleEntry → ScheduleEntry → Type 0) (P : ScheduleEntry → Type 0) (id : ℕ) (es : List ScheduleEntry) : Type 0 where
+  entry : ScheduleEntry
   name : entry.id ≡ id
   ready : entry.is_ready ≡ true
   holds : P entry
   first : All (λ f. f.id ≢ id → f.is_ready ≡ true → R entry f) es
 
-first_entry : (R : Entry → Entry → Type 0) (P : Entry → Type 0) (id : ℕ) (es : List Entry) → first_ready es ≡ Some id → AllPairs R es → All P es → IsFirstEntry R P id es
+first_entry : (R : ScheduleEntry → ScheduleEntry → Type 0) (P : ScheduleEntry → Type 0) (id : ℕ) (es : List ScheduleEntry) → first_ready es ≡ Some id → AllPairs R es → All P es → IsFirstEntry R P id es
 first_entry R P id [] e pairs all = cc
 first_entry R P id (x ∷ xs) e pairs all = go x.is_ready refl e (λ later. first_entry R P id xs later (pairs-tail R x xs pairs) (All-tail P x xs all))
   where
@@ -179,7 +179,7 @@ first_is_ready a w id e =
 
 module _ (a : Active) (w : IsWhole a) (asked : ℕ → Option Request) (queues : ℕ → Option Bool) (s : StandsFor a asked queues) where
   -- the entry of a request that is ready
-  entry_of : (P : Entry → Type 0) → All P a.roster.entries → (n : ℕ) (r : Request) → asked n ≡ Some r → goes r (queues n) ≡ true → Numbered (λ e. e.id) n (λ e. P e × (e.is_ready ≡ true))
+  entry_of : (P : ScheduleEntry → Type 0) → All P a.roster.entries → (n : ℕ) (r : Request) → asked n ≡ Some r → goes r (queues n) ≡ true → Numbered (λ e. e.id) n (λ e. P e × (e.is_ready ≡ true))
   entry_of P all n r e ready = record { item = found.item; number_is = found.number_is; holds = grind arith }
     where
       held_ready : Held.is_ready (request_at a.table n) ≡ true

@@ -12,7 +12,7 @@ use Rattle.aom_scheduler.specs.declared.request.Request.{Request as Machine_requ
 use Rattle.aom_scheduler.specs.Order.{IsOrdered, placed, without}
 use Rattle.aom_scheduler.specs.Roster.{before, marked, waiting}
 use Rattle.aom_scheduler.specs.Pending.{due_of, no_later, timer_of}
-use Rattle.aom_scheduler.specs.declared.entry.Entry.{Entry}
+use Rattle.aom_scheduler.specs.declared.entry.ScheduleEntry.{ScheduleEntry}
 use Rattle.aom_scheduler.specs.declared.timer.Timer.{Timer as Machine_timer}
 use Rattle.aom_scheduler.proofs.Items.{All-placed}
 use Rattle.aom_scheduler.proofs.Places.{by_priority}
@@ -66,23 +66,23 @@ goes_kept r q s t first second goes = grind arith
 -- ---- the entries
 
 -- their priorities are those of the requests, and their order is that of the picks
-pub record Listed (asked : ℕ → Option Request) (es : List Entry) : Type 0 where
+pub record Listed (asked : ℕ → Option Request) (es : List ScheduleEntry) : Type 0 where
   pub priorities : All (λ e. HasPriority e.priority (asked e.id)) es
   pub order : AllPairs (λ e f. GoesBefore (asked e.id) (asked f.id)) es
 
-pub listed_kept : (asked other : ℕ → Option Request) (es : List Entry) → ((n : ℕ) → IsKept (asked n) (other n)) → Listed asked es → Listed other es
+pub listed_kept : (asked other : ℕ → Option Request) (es : List ScheduleEntry) → ((n : ℕ) → IsKept (asked n) (other n)) → Listed asked es → Listed other es
 listed_kept asked other es kept l = record {
   priorities = λ k d within. priority_kept _ _ _ (kept _) (l.priorities k d within);
   order = λ i j d less within. goes_kept _ _ _ _ (kept _) (kept _) (l.order i j d less within);
 }
 
-pub listed_marked : (asked : ℕ → Option Request) (id : ℕ) (b : Bool) (es : List Entry) → Listed asked es → Listed asked (marked id b es)
+pub listed_marked : (asked : ℕ → Option Request) (id : ℕ) (b : Bool) (es : List ScheduleEntry) → Listed asked es → Listed asked (marked id b es)
 listed_marked asked id b es l = record {
   priorities = marked_all (λ e. HasPriority e.priority (asked e.id)) (λ e c h. h) id b es l.priorities;
   order = marked_pairs (λ e f. GoesBefore (asked e.id) (asked f.id)) (λ e f c d h. h) id b es l.order;
 }
 
-pub listed_without : (asked : ℕ → Option Request) (id : ℕ) (r : Option Request) (es : List Entry) → Listed asked es → Listed (asked_anew id r asked) (without (λ e. e.id) id es)
+pub listed_without : (asked : ℕ → Option Request) (id : ℕ) (r : Option Request) (es : List ScheduleEntry) → Listed asked es → Listed (asked_anew id r asked) (without (λ e. e.id) id es)
 listed_without asked id r es l = record {
   priorities = All-weaker (λ e. (e.id ≢ id) × HasPriority e.priority (asked e.id)) (λ e. HasPriority e.priority (asked_anew id r asked e.id))
       (λ e h. subst (HasPriority e.priority) (sym (asked_other id e.id r asked h.0)) h.1) (without (λ e. e.id) id es)
@@ -95,7 +95,7 @@ listed_without asked id r es l = record {
       (AllPairs-filter (λ e f. GoesBefore (asked e.id) (asked f.id)) (λ e. not (e.id == id)) es l.order);
 }
 
-pub listed_placed : (asked : ℕ → Option Request) (id order : ℕ) (priority : ℤ) (es : List Entry) → Listed asked es → All (λ e. e.id ≢ id) es → AllPairs (λ e f.
+pub listed_placed : (asked : ℕ → Option Request) (id order : ℕ) (priority : ℤ) (es : List ScheduleEntry) → Listed asked es → All (λ e. e.id ≢ id) es → AllPairs (λ e f.
     before e f ≡ true) es → IsNewest order asked → Listed (asked_anew id (Some (enlisted_with order priority)) asked) (placed before (waiting id priority) es)
 listed_placed asked id order priority es l absent sorted newest = record {
   priorities = All-placed before
@@ -118,19 +118,19 @@ listed_placed asked id order priority es l absent sorted newest = record {
     now : ℕ → Option Request
     now = asked_anew id (Some mine) asked
 
-    new : Entry
+    new : ScheduleEntry
     new = waiting id priority
 
-    P : Entry → Type 0
+    P : ScheduleEntry → Type 0
     P e = (e.id ≢ id) × HasPriority e.priority (asked e.id)
 
     all : All P es
     all = both (λ e. e.id ≢ id) (λ e. HasPriority e.priority (asked e.id)) es absent l.priorities
 
-    goes_after : (e : Entry) (r : Option Request) → asked e.id ≡ r → HasPriority e.priority r → before e new ≡ true → GoesBefore r (Some mine)
+    goes_after : (e : ScheduleEntry) (r : Option Request) → asked e.id ≡ r → HasPriority e.priority r → before e new ≡ true → GoesBefore r (Some mine)
     goes_after e r is has first = grind arith
 
-    goes_ahead : (e : Entry) (r : Option Request) → HasPriority e.priority r → before e new ≡ false → GoesBefore (Some mine) r
+    goes_ahead : (e : ScheduleEntry) (r : Option Request) → HasPriority e.priority r → before e new ≡ false → GoesBefore (Some mine) r
     goes_ahead e r has later = grind arith
 
 -- ---- the timers

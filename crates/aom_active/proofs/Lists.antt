@@ -8,7 +8,7 @@ use Rattle.std.proofs.lemmas.Bool.Decides.{nat_tests}
 use Rattle.aom_scheduler.specs.Order.{placed, without, place_of}
 use Rattle.aom_scheduler.specs.Roster.{marked, marked_entry}
 use Rattle.aom_scheduler.specs.Pending.{Pending, due_of, no_later}
-use Rattle.aom_scheduler.specs.declared.entry.Entry.{Entry}
+use Rattle.aom_scheduler.specs.declared.entry.ScheduleEntry.{ScheduleEntry}
 use Rattle.aom_scheduler.specs.declared.timer.Timer.{Timer}
 use Rattle.aom_scheduler.proofs.Items.{All-placed, AreDistinct, IsAbsent, IsRanking, own-place, pairs-head, pairs-nil, pairs-tail, without-absent}
 use Rattle.aom_scheduler.proofs.Timing.{absent-due, due-at}
@@ -87,14 +87,14 @@ module _ {A : Type 0} (number : A → ℕ) where
 -- ---- entries
 
 -- what a mark does not touch holds after it
-pub marked_keeps : (P : Entry → Type 0) → ((e : Entry) (b : Bool) → P e → P (record e { is_ready = b })) → (id : ℕ) (b : Bool) (e : Entry) → P e → P (marked_entry id b e)
+pub marked_keeps : (P : ScheduleEntry → Type 0) → ((e : ScheduleEntry) (b : Bool) → P e → P (record e { is_ready = b })) → (id : ℕ) (b : Bool) (e : ScheduleEntry) → P e → P (marked_entry id b e)
 marked_keeps P keeps id b e p = cond_both (e.id == id) (record e { is_ready = b }) e P (λ _. keeps e b p) (λ _. p)
 
-pub marked_all : (P : Entry → Type 0) → ((e : Entry) (b : Bool) → P e → P (record e { is_ready = b })) → (id : ℕ) (b : Bool) (es : List Entry) → All P es → All P (marked id b es)
+pub marked_all : (P : ScheduleEntry → Type 0) → ((e : ScheduleEntry) (b : Bool) → P e → P (record e { is_ready = b })) → (id : ℕ) (b : Bool) (es : List ScheduleEntry) → All P es → All P (marked id b es)
 marked_all P keeps id b es all = All-map P (marked_entry id b) es (All-weaker P (λ e. P (marked_entry id b e)) (marked_keeps P keeps id b) es all)
 
-pub marked_pairs : (R : Entry → Entry → Type 0) → ((e f : Entry) (b c : Bool) → R e f → R (record e { is_ready = b }) (record f { is_ready = c })) →
-    (id : ℕ) (b : Bool) (es : List Entry) → AllPairs R es → AllPairs R (marked id b es)
+pub marked_pairs : (R : ScheduleEntry → ScheduleEntry → Type 0) → ((e f : ScheduleEntry) (b c : Bool) → R e f → R (record e { is_ready = b }) (record f { is_ready = c })) →
+    (id : ℕ) (b : Bool) (es : List ScheduleEntry) → AllPairs R es → AllPairs R (marked id b es)
 marked_pairs R keeps id b es pairs = grind (arith, nat_tests, pairs_map R, marked_keeps)
 
 -- ---- timers

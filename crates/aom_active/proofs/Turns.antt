@@ -9,7 +9,7 @@ use Rattle.aom_scheduler.specs.declared.request.Request.{Request as Machine_requ
 use Rattle.aom_scheduler.specs.Order.{placed, without}
 use Rattle.aom_scheduler.specs.Roster.{Roster, before, marked, marked_entry, place, waiting}
 use Rattle.aom_scheduler.specs.Pending.{Pending, due_of, no_later, timer_of}
-use Rattle.aom_scheduler.specs.declared.entry.Entry.{Entry}
+use Rattle.aom_scheduler.specs.declared.entry.ScheduleEntry.{ScheduleEntry}
 use Rattle.aom_scheduler.proofs.Items.{All-placed, IsAbsent}
 use Rattle.aom_scheduler.proofs.Places.{marked-place}
 use Rattle.aom_semantics.specs.Enlisted.{waits}
@@ -80,15 +80,15 @@ module _ (a : Active) (w : IsWhole a) (t : Table) (id : ℕ) (q : Option Machine
     listed = λ asked other kept l. listed_marked other id (is_ready q) a.roster.entries (listed_kept asked other a.roster.entries kept l);
   }
     where
-      by_id : (e : Entry) (b : Bool) → (e.id == id) ≡ b → e.is_ready ≡ is_ready (request_at a.table e.id) →
+      by_id : (e : ScheduleEntry) (b : Bool) → (e.id == id) ≡ b → e.is_ready ≡ is_ready (request_at a.table e.id) →
           (cond b (record e { is_ready = is_ready q }) e).is_ready ≡ is_ready (request_at t (cond b (record e { is_ready = is_ready q }) e).id)
       by_id e x same h = grind (arith, nat_tests, eqb-true, eqb-false)
 
-      each : (e : Entry) → e.is_ready ≡ is_ready (request_at a.table e.id) → (marked_entry id (is_ready q) e).is_ready ≡ is_ready (request_at t (marked_entry id (is_ready q) e).id)
+      each : (e : ScheduleEntry) → e.is_ready ≡ is_ready (request_at a.table e.id) → (marked_entry id (is_ready q) e).is_ready ≡ is_ready (request_at t (marked_entry id (is_ready q) e).id)
       each e h = by_id e (e.id == id) refl h
 
   -- what of the requests of other objects is as before
-  marks_apart : (es : List Entry) → IsAbsent (λ e. e.id) id es → All (λ e. e.is_ready ≡ is_ready (request_at a.table e.id)) es → All (λ e. e.is_ready ≡ is_ready (request_at t e.id)) es
+  marks_apart : (es : List ScheduleEntry) → IsAbsent (λ e. e.id) id es → All (λ e. e.is_ready ≡ is_ready (request_at a.table e.id)) es → All (λ e. e.is_ready ≡ is_ready (request_at t e.id)) es
   marks_apart es absent marks = grind (arith, nat_tests, All-weaker, both, marks)
 
   pub enters_without : q ≡ None → Enters t (record a.roster { entries = without (λ e. e.id) id a.roster.entries })

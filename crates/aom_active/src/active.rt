@@ -13,7 +13,7 @@ ghost use Rattle.aom_active.specs.Meanings.{is_waited_for, is_being_cancelled, i
 
 use crate::parts::{abort_request, mark, signal, stop_timer};
 use aom_cells::CellId;
-use aom_scheduler::{Entry, Requests, Schedule, State, Timer, Timers};
+use aom_scheduler::{Requests, Schedule, ScheduleEntry, State, Timer, Timers};
 use std::alloc::{AllocError, Global};
 use std::marker::Model;
 
@@ -227,7 +227,7 @@ impl ActiveObjects {
     }
 
     /// The object at that place in the order of choice: of a higher priority first, and of the same in the order of enlisting.
-    pub fn entry(&self, place: usize) -> Option<Entry>
+    pub fn entry(&self, place: usize) -> Option<ScheduleEntry>
         ensures { result ≡ slice_get self.now.roster.entries place }
     {
         self.schedule.entry(place)

@@ -6,10 +6,10 @@ ghost use Rattle.aom_syntax.specs.Reading.{ReadsOrNoMemory};
 ghost use Rattle.aom_asm.specs.Denoted.{at_line, Answers, read_rest, read_after, read_program, read_statements, scope_of, last_line_of, denoted, image_of};
 
 use crate::names::declared_names;
-use crate::program::Program;
+use crate::program::ParsedProgram;
 use aom_image::{ClassDecl, Image, Items};
-use aom_syntax::{Keyword, Reader, Scope};
-use aom_text::{AsmFault, AsmFaultKind, Statement, Text, last_line};
+use aom_syntax::{Keyword, Scope, WordReader};
+use aom_text::{AsmFault, AsmFaultKind, Statement, StatementCursor, last_line};
 use std::alloc::{AllocError, Global};
 
 /// The most bytes of a text.
@@ -27,10 +27,10 @@ fn at_line<T>(line: u32, said: Result<T, AsmFaultKind>) -> Result<T, AsmFault>
 /// Reads all statements of a text.
 fn read_program<'a>(
     alloc: Global,
-    mut text: Text<'a>,
+    mut text: StatementCursor<'a>,
     last: u32,
     scope: &Scope,
-) -> Result<Program<'a>, AsmFault>
+) -> Result<ParsedProgram<'a>, AsmFault>
     ensures { Answers (λ p. p) result (read_program last scope.now text.entry) }
 {
     match text.next() {
@@ -46,13 +46,13 @@ fn read_program<'a>(
 fn read_after<'a>(
     alloc: Global,
     first: Statement<'a>,
-    text: Text<'a>,
+    text: StatementCursor<'a>,
     last: u32,
     scope: &Scope,
-) -> Result<Program<'a>, AsmFault>
+) -> Result<ParsedProgram<'a>, AsmFault>
     ensures { Answers (λ p. p) result (read_after last scope.now first.entry text.entry) }
 {
-    let opened = Program::open(alloc, scope, Reader::of(first.words));
+    let opened = ParsedProgram::open(alloc, scope, WordReader::of(first.words));
     let mut program = at_line(first.line, opened)?;
     match read_rest(alloc, text, last, scope, &mut program) {
         Ok(()) => Ok(program),
@@ -66,22 +66,22 @@ fn read_after<'a>(
 /// Reads the statements after others.
 fn read_rest<'a>(
     alloc: Global,
-    mut text: Text<'a>,
+    mut text: StatementCursor<'a>,
     last: u32,
     scope: &Scope,
-    program: &mut Program<'a>,
+    program: &mut ParsedProgram<'a>,
 ) -> Result<(), AsmFault>
     ensures { Answers (λ _. program.new) result (read_rest last scope.now program.old text.entry) }
 {
     while let Some(statement) = text.next() {
-        let reader = Reader::of(statement.words);
+        let reader = WordReader::of(statement.words);
         at_line(statement.line, program.take(alloc, scope, reader, &text))?;
     }
     at_line(last, program.check_closed())
 }
 
 /// The names of a text, which are not told apart yet.
-fn scope_of<'a>(alloc: Global, text: &Text<'a>) -> Result<Scope<'a>, AllocError>
+fn scope_of<'a>(alloc: Global, text: &StatementCursor<'a>) -> Result<Scope<'a>, AllocError>
     ensures { IfOk result (λ s. s ≡ scope_of false text.now []) }
 {
     let classes = declared_names(alloc, text.again(), Keyword::Class)?;
@@ -94,14 +94,18 @@ fn scope_of<'a>(alloc: Global, text: &Text<'a>) -> Result<Scope<'a>, AllocError>
     })
 }
 
-fn named<'a>(alloc: Global, text: &Text<'a>) -> Result<Scope<'a>, AsmFaultKind>
+fn named<'a>(alloc: Global, text: &StatementCursor<'a>) -> Result<Scope<'a>, AsmFaultKind>
     ensures { ReadsOrNoMemory (λ s. s) result (Ok (scope_of false text.now [])) }
 {
     Ok(scope_of(alloc, text)?)
 }
 
 /// Reads the statements first, whatever the names, and then with the names.
-fn read_statements<'a>(alloc: Global, text: Text<'a>, last: u32) -> Result<Program<'a>, AsmFault>
+fn read_statements<'a>(
+    alloc: Global,
+    text: StatementCursor<'a>,
+    last: u32,
+) -> Result<ParsedProgram<'a>, AsmFault>
     ensures { Answers image_of result (read_statements last text.entry) }
 {
     let scope = at_line(last, named(alloc, &text))?;
@@ -114,9 +118,9 @@ fn read_again<'a>(
     alloc: Global,
     mut scope: Scope<'a>,
     kinds: Items<ClassDecl>,
-    text: Text<'a>,
+    text: StatementCursor<'a>,
     last: u32,
-) -> Result<Program<'a>, AsmFault>
+) -> Result<ParsedProgram<'a>, AsmFault>
     ensures { Answers (λ p. p) result (read_program last (record scope.entry { is_strict = true; kinds = kinds }) text.entry) }
 {
     scope.is_strict = true;
@@ -135,7 +139,7 @@ fn last_line_of(text: &[u8]) -> u32
 }
 
 /// Reads a text that is not too long.
-fn read_text<'a>(alloc: Global, text: &'a [u8]) -> Result<Program<'a>, AsmFault>
+fn read_text<'a>(alloc: Global, text: &'a [u8]) -> Result<ParsedProgram<'a>, AsmFault>
     ensures { Answers image_of result (denoted text.now) }
 {
     if text.len() > MOST_BYTES {
@@ -144,7 +148,7 @@ fn read_text<'a>(alloc: Global, text: &'a [u8]) -> Result<Program<'a>, AsmFault>
             kind: AsmFaultKind::LimitPassed,
         });
     }
-    read_statements(alloc, Text::of(text), last_line_of(text))
+    read_statements(alloc, StatementCursor::of(text), last_line_of(text))
 }
 
 /// The image that a text denotes. A text that denotes none has a fault, with the line of the first.

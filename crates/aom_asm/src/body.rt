@@ -4,7 +4,7 @@ ghost use Rattle.aom_syntax.specs.Reading.{ReadsOrNoMemory};
 ghost use Rattle.aom_asm.specs.Denoted.{with_instruction, method_of};
 
 use aom_image::{Instr, Items, Method, Target, Version};
-use aom_syntax::{Heading, Names, Reader, Scope};
+use aom_syntax::{Heading, NameList, Scope, WordReader};
 use aom_text::AsmFaultKind;
 use std::alloc::Global;
 use std::marker::Model;
@@ -13,7 +13,7 @@ use std::marker::Model;
 #[derive(Drop)]
 pub struct Body<'a> {
     heading: Heading,
-    labels: Names<'a>,
+    labels: NameList<'a>,
     code: Vec<Instr>,
 }
 
@@ -26,7 +26,7 @@ impl<'a> Model for Body<'a> {
 }
 
 impl<'a> Body<'a> {
-    pub fn open(alloc: Global, heading: Heading, labels: Names<'a>) -> Body<'a>
+    pub fn open(alloc: Global, heading: Heading, labels: NameList<'a>) -> Body<'a>
         ensures { result ≡ record { heading = heading; labels = labels.entry; code = [] } }
     {
         let _told: Option<Target> = None;
@@ -42,7 +42,7 @@ impl<'a> Body<'a> {
         &mut self,
         scope: &Scope,
         version: Version,
-        mut reader: Reader,
+        mut reader: WordReader,
     ) -> Result<(), AsmFaultKind>
         ensures { ReadsOrNoMemory (λ _. self.new) result (with_instruction scope.now version self.old reader.entry) }
     {

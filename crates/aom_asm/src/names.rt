@@ -2,12 +2,12 @@
 ghost use Rattle.std.specs.Prelude.{◌≡◌, [], IfOk, option_map};
 ghost use Rattle.aom_asm.specs.TextNames.{name_after, declared_names, is_end, label_in, labels_of};
 
-use aom_syntax::{Keyword, Names, label_of};
-use aom_text::{Text, Words};
+use aom_syntax::{Keyword, NameList, label_of};
+use aom_text::{StatementCursor, WordCursor};
 use std::alloc::{AllocError, Global};
 
 /// The name behind a keyword, where a statement begins with it.
-fn name_after<'a>(key: Keyword, mut words: Words<'a>) -> Option<&'a [u8]>
+fn name_after<'a>(key: Keyword, mut words: WordCursor<'a>) -> Option<&'a [u8]>
     ensures { option_map (λ w. w.now) result ≡ name_after key words.entry }
 {
     match words.next() {
@@ -25,12 +25,12 @@ fn name_after<'a>(key: Keyword, mut words: Words<'a>) -> Option<&'a [u8]>
 /// The names behind a keyword, in the order of the statements.
 pub fn declared_names<'a>(
     alloc: Global,
-    mut text: Text<'a>,
+    mut text: StatementCursor<'a>,
     key: Keyword,
-) -> Result<Names<'a>, AllocError>
+) -> Result<NameList<'a>, AllocError>
     ensures { IfOk result (λ n. n ≡ declared_names key [] text.entry) }
 {
-    let mut names = Names::none(alloc);
+    let mut names = NameList::none(alloc);
     while let Some(statement) = text.next() {
         if let Some(name) = name_after(key, statement.words) {
             names.add(name)?;
@@ -40,7 +40,7 @@ pub fn declared_names<'a>(
 }
 
 /// The label that a statement begins with, or an empty one.
-fn label_in<'a>(words: Words<'a>) -> &'a [u8]
+fn label_in<'a>(words: WordCursor<'a>) -> &'a [u8]
     ensures { result.now ≡ label_in words.entry }
 {
     match words.peek() {
@@ -52,7 +52,7 @@ fn label_in<'a>(words: Words<'a>) -> &'a [u8]
     }
 }
 
-fn is_end(words: &Words) -> bool
+fn is_end(words: &WordCursor) -> bool
     ensures { result ≡ is_end words.now }
 {
     match words.peek() {
@@ -62,10 +62,13 @@ fn is_end(words: &Words) -> bool
 }
 
 /// The labels of the statements up to `end`, an empty one where there is none.
-pub fn labels_of<'a>(alloc: Global, mut text: Text<'a>) -> Result<Names<'a>, AllocError>
+pub fn labels_of<'a>(
+    alloc: Global,
+    mut text: StatementCursor<'a>,
+) -> Result<NameList<'a>, AllocError>
     ensures { IfOk result (λ n. n ≡ labels_of [] text.entry) }
 {
-    let mut labels = Names::none(alloc);
+    let mut labels = NameList::none(alloc);
     while let Some(statement) = text.next() {
         if is_end(&statement.words) {
             return Ok(labels);

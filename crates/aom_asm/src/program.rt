@@ -7,8 +7,8 @@ ghost use Rattle.aom_asm.specs.Denoted.{grown, opened, with_class, with_heading,
 use crate::body::Body;
 use crate::names::labels_of;
 use aom_image::{ClassDecl, Header, Image, Items, Method};
-use aom_syntax::{Keyword, Reader, Scope};
-use aom_text::{AsmFaultKind, Text};
+use aom_syntax::{Keyword, Scope, WordReader};
+use aom_text::{AsmFaultKind, StatementCursor};
 use std::alloc::Global;
 use std::marker::Model;
 
@@ -17,7 +17,7 @@ const MOST_BYTES: usize = 1 << 20;
 
 /// What was read, and how many bytes will spell it.
 #[derive(Drop)]
-pub struct Program<'a> {
+pub struct ParsedProgram<'a> {
     header: Header,
     classes: Vec<ClassDecl>,
     methods: Vec<Method>,
@@ -25,7 +25,7 @@ pub struct Program<'a> {
     size: usize,
 }
 
-impl<'a> Model for Program<'a> {
+impl<'a> Model for ParsedProgram<'a> {
     ghost use Rattle.std.specs.Prelude.{◌≤◌, ◌^◌};
     ghost use Rattle.aom_asm.specs.Body.{Program as ProgramRecord};
 
@@ -49,17 +49,17 @@ fn grown(bytes: usize, size: usize) -> Result<usize, AsmFaultKind>
     }
 }
 
-impl<'a> Program<'a> {
+impl<'a> ParsedProgram<'a> {
     /// What the first statement says.
     pub fn open(
         alloc: Global,
         scope: &Scope,
-        mut reader: Reader<'a>,
-    ) -> Result<Program<'a>, AsmFaultKind>
+        mut reader: WordReader<'a>,
+    ) -> Result<ParsedProgram<'a>, AsmFaultKind>
         ensures { ReadsOrNoMemory (λ p. p) result (opened scope.now reader.entry) }
     {
         let header = reader.image_statement(scope)?;
-        Ok(Program {
+        Ok(ParsedProgram {
             header,
             classes: Vec::new(alloc),
             methods: Vec::new(alloc),
@@ -81,7 +81,7 @@ impl<'a> Program<'a> {
         &mut self,
         alloc: Global,
         scope: &Scope,
-        reader: &mut Reader<'a>,
+        reader: &mut WordReader<'a>,
     ) -> Result<(), AsmFaultKind>
         ensures { ReadsOrNoMemory (λ _. self.new) result (with_class scope.now self.old reader.old) }
     {
@@ -110,8 +110,8 @@ impl<'a> Program<'a> {
         &mut self,
         alloc: Global,
         scope: &Scope,
-        reader: &mut Reader<'a>,
-        text: &Text<'a>,
+        reader: &mut WordReader<'a>,
+        text: &StatementCursor<'a>,
     ) -> Result<(), AsmFaultKind>
         ensures { ReadsOrNoMemory (λ _. self.new) result (with_heading scope.now text.now self.old reader.old) }
     {
@@ -132,7 +132,7 @@ impl<'a> Program<'a> {
         &mut self,
         scope: &Scope,
         mut body: Body<'a>,
-        mut reader: Reader<'a>,
+        mut reader: WordReader<'a>,
     ) -> Result<(), AsmFaultKind>
         requires { self.old.body ≡ None }
         ensures { ReadsOrNoMemory (λ _. self.new) result (in_body scope.now self.old body.entry reader.entry) }
@@ -149,7 +149,7 @@ impl<'a> Program<'a> {
     }
 
     /// Adds the method that ends here.
-    fn add_method(&mut self, body: Body<'a>, mut reader: Reader<'a>) -> Result<(), AsmFaultKind>
+    fn add_method(&mut self, body: Body<'a>, mut reader: WordReader<'a>) -> Result<(), AsmFaultKind>
         requires { self.old.body ≡ None }
         ensures { ReadsOrNoMemory (λ _. self.new) result (with_method self.old body.entry reader.entry) }
     {
@@ -162,8 +162,8 @@ impl<'a> Program<'a> {
         &mut self,
         alloc: Global,
         scope: &Scope,
-        reader: Reader<'a>,
-        text: &Text<'a>,
+        reader: WordReader<'a>,
+        text: &StatementCursor<'a>,
     ) -> Result<(), AsmFaultKind>
         ensures { ReadsOrNoMemory (λ _. self.new) result (step scope.now text.now self.old reader.entry) }
     {
@@ -193,8 +193,8 @@ impl<'a> Program<'a> {
         &mut self,
         alloc: Global,
         scope: &Scope,
-        mut reader: Reader<'a>,
-        text: &Text<'a>,
+        mut reader: WordReader<'a>,
+        text: &StatementCursor<'a>,
     ) -> Result<(), AsmFaultKind>
         ensures { ReadsOrNoMemory (λ _. self.new) result (step_by None scope.now text.now self.old reader.entry) }
     {

@@ -51,9 +51,9 @@ use Rattle.aom_rules.specs.Ways.{Caught, Dropped, Ends, Filled, Goes_back, Hande
 use Rattle.aom_rules.specs.Ways.{News, Popped, Pushed, Pushed_operation, Taken, Taken_message, Ways, after, flowing}
 use Rattle.aom_roles.specs.Tables.{at}
 use Rattle.aom_roles.specs.Things.{Holder, Member, root_thing, field_thing, holder_by, holder_of}
-use Rattle.aom_shape.specs.declared.kind.Entry.{Entry}
+use Rattle.aom_shape.specs.declared.kind.CleanupEntry.{CleanupEntry}
 use Rattle.aom_shape.specs.declared.kind.Age.TheVariants.{Ready}
-use Rattle.aom_shape.specs.declared.kind.Entry.TheVariants.{Operation}
+use Rattle.aom_shape.specs.declared.kind.CleanupEntry.TheVariants.{Operation}
 use Rattle.aom_shape.specs.declared.kind.Filling.{Filling}
 use Rattle.aom_shape.specs.declared.kind.Filling.TheVariants.{Empty, Full}
 use Rattle.aom_shape.specs.declared.kind.Kind.{Kind}
@@ -98,7 +98,7 @@ thing_mentioned p m x h = grind (arith, nat_tests, mentioned p m)
 abbrev is_low : Image → ℕ → Kind → Bool
 is_low p m k = runs_below p m (object_class k)
 
-abbrev entry_low : Image → ℕ → Entry → Bool
+abbrev entry_low : Image → ℕ → CleanupEntry → Bool
 entry_low p m e = is_low p m (entry_kind e)
 
 record IsLow (p : Image) (m : ℕ) (sh : Shape) : Type 0 where
@@ -143,17 +143,17 @@ module _ (p : Image) (m : ℕ) where
   filled_low : (o : Option Thing) (x : Filling) → IfSome o (λ t. IsTrue (runs_below p m (thing_class t))) → IsTrue (is_low p m (filled o x))
   filled_low x y h = grind arith
 
-  with_low : (e : Entry) (sh : Shape) → IsTrue (entry_low p m e) → IsLow p m sh → IsLow p m (with_entry e sh)
+  with_low : (e : CleanupEntry) (sh : Shape) → IsTrue (entry_low p m e) → IsLow p m sh → IsLow p m (with_entry e sh)
   with_low e sh low h = record { registers = h.registers; entries = join (entry_low p m e) (list_all (entry_low p m) sh.entries) low h.entries }
 
   pushed_low : (k : Kind) → IsTrue (is_low p m k) → IsTrue (entry_low p m (entry_of k))
   pushed_low x h = grind arith
 
-  top_low : (es : List Entry) → IsTrue (list_all (entry_low p m) es) → IsTrue (is_low p m (top_kind es))
+  top_low : (es : List CleanupEntry) → IsTrue (list_all (entry_low p m) es) → IsTrue (is_low p m (top_kind es))
   top_low [] h = refl
   top_low (e ∷ es) h = (both (entry_low p m e) (list_all (entry_low p m) es) h).0
 
-  rest_low : (es : List Entry) → IsTrue (list_all (entry_low p m) es) → IsTrue (list_all (entry_low p m) (without_top es))
+  rest_low : (es : List CleanupEntry) → IsTrue (list_all (entry_low p m) es) → IsTrue (list_all (entry_low p m) (without_top es))
   rest_low [] h = refl
   rest_low (e ∷ es) h = (both (entry_low p m e) (list_all (entry_low p m) es) h).1
 
@@ -165,10 +165,10 @@ module _ (p : Image) (m : ℕ) where
   readied_low : (k : Kind) → IsTrue (is_low p m k) → IsTrue (is_low p m (readied k))
   readied_low x h = grind arith
 
-  readied_entry_low : (e : Entry) → IsTrue (entry_low p m e) → IsTrue (entry_low p m (readied_entry e))
+  readied_entry_low : (e : CleanupEntry) → IsTrue (entry_low p m e) → IsTrue (entry_low p m (readied_entry e))
   readied_entry_low x h = grind arith
 
-  readied_at_low : (es : List Entry) (k : ℕ) → IsTrue (list_all (entry_low p m) es) → IsTrue (list_all (entry_low p m) (readied_at es k))
+  readied_at_low : (es : List CleanupEntry) (k : ℕ) → IsTrue (list_all (entry_low p m) es) → IsTrue (list_all (entry_low p m) (readied_at es k))
   readied_at_low [] k h = refl
   readied_at_low (e ∷ es) zero h = let w = both (entry_low p m e) (list_all (entry_low p m) es) h in join (entry_low p m (readied_entry e)) (list_all (entry_low p m) es) (readied_entry_low e w.0) w.1
   readied_at_low (e ∷ es) (suc k) h = grind (arith, nat_tests, both, join, readied_at_low es k)

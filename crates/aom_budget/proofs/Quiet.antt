@@ -27,7 +27,7 @@ use Rattle.aom_shape.specs.Shape.{Shape}
 use Rattle.aom_rules.specs.Ways.{Called, Caught, Goes_on, News, Pushed, Pushed_operation, Ways, after, flowing}
 use Rattle.aom_roles.specs.Tables.{at}
 use Rattle.aom_shape.specs.Arguments.{entry_shape}
-use Rattle.aom_shape.specs.declared.kind.Entry.{Entry}
+use Rattle.aom_shape.specs.declared.kind.CleanupEntry.{CleanupEntry}
 use Rattle.aom_shape.specs.declared.kind.Filling.{Filling}
 use Rattle.aom_shape.specs.declared.kind.Kind.{Kind}
 use Rattle.aom_rules.proofs.Branching.{by_states}
@@ -84,10 +84,10 @@ run_quiet p linked j k quiet (inr over) = over_along p (λ i. is_quiet p i ≡ t
 
 -- ---- flows
 
-low : {es : List Entry} → es ≡ [] → length es ≤ 0
+low : {es : List CleanupEntry} → es ≡ [] → length es ≤ 0
 low none = rw none (omega arith)
 
-top_low : (es : List Entry) → es ≡ [] → length (without_top es) ≤ 0
+top_low : (es : List CleanupEntry) → es ≡ [] → length (without_top es) ≤ 0
 top_low es none = rw none (omega arith)
 
 brings_none : (g : Gives) (c : ℕ) (sh : Shape) → gives_left g ≡ false → length (brought g c sh).entries ≡ length sh.entries
@@ -142,7 +142,7 @@ module _ (p : Image) (m : ℕ) (linked : IsLinked p) (quiet : is_quiet p m ≡ t
 
 -- ---- the states without entries
 
-with_none : Shape → List Entry → Option Shape
+with_none : Shape → List CleanupEntry → Option Shape
 with_none sh [] = Some sh
 with_none sh (e ∷ es) = None
 
@@ -168,7 +168,7 @@ stays_there : (sh : Shape) → sh.entries ≡ [] → lowest_at (Some sh) ≡ Som
 unfolding lowest_at with_none
 stays_there sh none = ap (with_none sh) none
 
-no_length : (es : List Entry) → length es ≤ 0 → es ≡ []
+no_length : (es : List CleanupEntry) → length es ≤ 0 → es ≡ []
 no_length es h = nil_given (λ xs. length xs ≤ 0) es h (λ x xs some. omega (arith, some)) (λ e none. e)
 
 meets_lowest : (s : Shapes) (to : ℕ) (sh : Shape) → length sh.entries ≤ 0 → Meets s to sh → Meets (lowest s) to sh

@@ -10,9 +10,9 @@ use Rattle.std.proofs.lemmas.List.{length-map, length-replicate, get_or_past}
 use Rattle.aom_clients.specs.Lists.{Table, IsIn, empty, list_at, first_of, after_node}
 use Rattle.aom_clients.specs.declared.client.Client.{Client}
 use Rattle.aom_clients.specs.declared.client.Client.TheVariants.{Unconnected, Open}
-use Rattle.aom_clients.specs.declared.place.Place.{Place}
-use Rattle.aom_clients.specs.declared.place.Place.TheVariants.{Free, Held, Discarded}
-use Rattle.aom_clients.specs.declared.entry.Entry.{Entry}
+use Rattle.aom_clients.specs.declared.place.MessagePlace.{MessagePlace}
+use Rattle.aom_clients.specs.declared.place.MessagePlace.TheVariants.{Free, Held, Discarded}
+use Rattle.aom_clients.specs.declared.entry.QueueEntry.{QueueEntry}
 use Rattle.aom_clients.specs.declared.place.Completion.{Completion}
 use Rattle.aom_clients.specs.Table.{completion, server_of}
 use Rattle.aom_clients.specs.Clients.{State, at_first, client_at, queue_at, sessions_at, sent_at, has_slot}
@@ -44,11 +44,11 @@ after-same c [] = refl
 after-same c (x ∷ xs) = grind (arith, nat_tests, first-same xs, after-same c xs)
 
 -- whether a queue has an entry is told by its length
-some-first : (s : State) (es : List Entry) → nat_lt 0 (length es) ≡ is_some (first_entry s es)
+some-first : (s : State) (es : List QueueEntry) → nat_lt 0 (length es) ≡ is_some (first_entry s es)
 some-first s [] = refl
 some-first s (e ∷ es) = search rules
 
-none-waits : (es : List Entry) → nat_lt 0 (length es) ≡ false → es ≡ []
+none-waits : (es : List QueueEntry) → nat_lt 0 (length es) ≡ false → es ≡ []
 none-waits [] nothing_is = refl
 none-waits (e ∷ es) nothing_is = grind (arith, nat_tests, false-true)
 
@@ -64,7 +64,7 @@ after-in c d (x ∷ xs) e = go (cases_eq x c) (after-in c d xs)
     go (inl same) more = inr (first-in d xs (sym (cond-true (x == c) (first_of xs) (after_node c xs) (eq-eqb x c same)) ∙ e))
     go (inr other) more = inr (more (sym (cond-false (x == c) (first_of xs) (after_node c xs) (ne_eqb x c other)) ∙ e))
 
-module _ (cl : List Client) (pl : List Place) (q cn ss st : Table) (r : IsKept cl pl q cn ss st) (s : State) (is : state_of cl pl q ss st ≡ s) where
+module _ (cl : List Client) (pl : List MessagePlace) (q cn ss st : Table) (r : IsKept cl pl q cn ss st) (s : State) (is : state_of cl pl q ss st ≡ s) where
   pub slot-room : (c : ℕ) → has_slot (length (sent_at s c)) (client_at s c) ≡ true → length (sent_at s c) < 64
   slot-room c h = grind (arith, nat_tests, slot-below, client-is)
 
@@ -109,7 +109,7 @@ same-all d (suc n) (suc i) = same-all d n i
 abbrev all_clients : List Client
 all_clients = replicate 64 Unconnected
 
-abbrev all_places : List Place
+abbrev all_places : List MessagePlace
 all_places = replicate 1024 Free
 
 no-list : (n m k : ℕ) → list_at (empty n m) k ≡ []
@@ -164,7 +164,7 @@ at-first cells few = record {
 abbrev list_of : ℕ → List (List ℕ)
 list_of n = replicate n []
 
-abbrev no_entry : List Entry
+abbrev no_entry : List QueueEntry
 no_entry = []
 
 shown-first : (n : ℕ) → map (map entry_of) (list_of n) ≡ replicate n no_entry
@@ -185,10 +185,10 @@ pub all-in : (P : ℕ → Type 0) (xs : List ℕ) → ((x : ℕ) → IsIn x xs �
 all-in P [] h = All-nil P
 all-in P (x ∷ xs) h = All-cons P x xs (h x (inl refl)) (all-in P xs (λ y i. h y (inr i)))
 
-pub completed-below : (pl : List Place) (st : Table) → AreSent pl st → (m : ℕ) (t : Completion) → Some t ≡ completion (slice_index_or pl m Free) → t.client < 64
+pub completed-below : (pl : List MessagePlace) (st : Table) → AreSent pl st → (m : ℕ) (t : Completion) → Some t ≡ completion (slice_index_or pl m Free) → t.client < 64
 completed-below pl st s m t e = go (slice_index_or pl m Free) refl e
   where
-    go : (p : Place) → slice_index_or pl m Free ≡ p → Some t ≡ completion p → t.client < 64
+    go : (p : MessagePlace) → slice_index_or pl m Free ≡ p → Some t ≡ completion p → t.client < 64
     go (Held c) is e = subst (λ (x : Completion). x.client < 64) (sym (same_Some t (record { client = c; is_told = true }) e)) (s.held c m is).0
     go (Discarded c) is e = subst (λ (x : Completion). x.client < 64) (sym (same_Some t (record { client = c; is_told = false }) e)) (s.senders c m is)
     go _ is e = absurd (nothing t (sym e))

@@ -8,9 +8,9 @@ use Rattle.aom_clients.specs.Lists.{Table, IsIn, list_at, with_list, without}
 use Rattle.aom_clients.proofs.Members.{in-without, without-in}
 use Rattle.aom_clients.specs.declared.client.Client.{Client}
 use Rattle.aom_clients.specs.declared.client.Client.TheVariants.{Unconnected, Connecting, Open, Closing, Gone, Dead, Dying}
-use Rattle.aom_clients.specs.declared.place.Place.{Place}
-use Rattle.aom_clients.specs.declared.place.Place.TheVariants.{Free, Queued}
-use Rattle.aom_clients.specs.declared.entry.Entry.TheVariants.{Close}
+use Rattle.aom_clients.specs.declared.place.MessagePlace.{MessagePlace}
+use Rattle.aom_clients.specs.declared.place.MessagePlace.TheVariants.{Free, Queued}
+use Rattle.aom_clients.specs.declared.entry.QueueEntry.TheVariants.{Close}
 use Rattle.aom_clients.specs.Table.{is_queued, is_out_of, is_waiting_of}
 use Rattle.aom_clients.specs.Clients.{State, client_at, with_client, left_place, stays, withdrawn, told, leaving, freed}
 use Rattle.aom_clients.specs.Nodes.{entry_of, is_leaving, named_by, is_held_of, state_of, Waits, AreSized, AreEntries, AreConnects, IsKept}
@@ -49,20 +49,20 @@ listed-each q cn [] below a = a
 listed-each q cn (m ∷ ms) below a =
     listed-each (record q { lists = map (without m) q.lists }) cn ms (λ n i. below n (inr i)) (listed-without-other q cn m (message-no m (below m (inl refl))) a)
 
-queues-left : (ms : List ℕ) (pl : List Place) (c : ℕ) → c < 64 → (lists : List (List ℕ)) → ((k : ℕ) → Tells ms pl c (slice_index_or lists k []))
+queues-left : (ms : List ℕ) (pl : List MessagePlace) (c : ℕ) → c < 64 → (lists : List (List ℕ)) → ((k : ℕ) → Tells ms pl c (slice_index_or lists k []))
     → shown entry_of (map (without (1024 + c)) (map (drop_each ms) lists)) ≡ map (filter (stays c pl)) (shown entry_of lists)
 queues-left ms pl c small [] t = refl
 queues-left ms pl c small (zs ∷ lists) t =
     ap (λ es. es ∷ shown entry_of (map (without (1024 + c)) (map (drop_each ms) lists))) (queue-left ms pl c small zs (t 0))
     ∙ ap (λ ls. filter (stays c pl) (map entry_of zs) ∷ ls) (queues-left ms pl c small lists (λ k. t (suc k)))
 
-some-out : (c : ℕ) (p : Place) → is_out_of c p ≡ true → p ≡ Free → ⊥
+some-out : (c : ℕ) (p : MessagePlace) → is_out_of c p ≡ true → p ≡ Free → ⊥
 some-out c p e f = false-true (sym (ap (is_out_of c) f) ∙ e)
 
-some-held : (c : ℕ) (p : Place) → is_held_of c p ≡ true → p ≡ Free → ⊥
+some-held : (c : ℕ) (p : MessagePlace) → is_held_of c p ≡ true → p ≡ Free → ⊥
 some-held c p e f = false-true (sym (ap (is_held_of c) f) ∙ e)
 
-module _ (cl : List Client) (pl : List Place) (q cn ss st : Table) (r : IsKept cl pl q cn ss st) (s : State) (is : state_of cl pl q ss st ≡ s) where
+module _ (cl : List Client) (pl : List MessagePlace) (q cn ss st : Table) (r : IsKept cl pl q cn ss st) (s : State) (is : state_of cl pl q ss st ≡ s) where
   module _ (c : ℕ) (next : Client) (small : c < 64) (left : IsLeft (client_at s c) next) where
     lv : Leaves (client cl c) next
     lv = leaves (client cl c) next (subst (λ x. IsLeft x next) (sym (client-is cl pl q cn ss st r s is c)) left)
@@ -76,13 +76,13 @@ module _ (cl : List Client) (pl : List Place) (q cn ss st : Table) (r : IsKept c
     abbrev st2 : Table
     st2 = with_list (64 + c) [] st1
 
-    abbrev pl1 : List Place
+    abbrev pl1 : List MessagePlace
     pl1 = left_each xs pl
 
-    abbrev pl2 : List Place
+    abbrev pl2 : List MessagePlace
     pl2 = left_each (list_at st1 (64 + c)) pl1
 
-    abbrev pl3 : List Place
+    abbrev pl3 : List MessagePlace
     pl3 = map (left_place c) pl
 
     abbrev q1 : Table
@@ -218,7 +218,7 @@ module _ (cl : List Client) (pl : List Place) (q cn ss st : Table) (r : IsKept c
         gone : (z : ℕ) → IsIn z (list_at q k) → IsIn z xs → (d : ℕ) × (place pl z ≡ Queued d) → (z < 1024) × (is_waiting_of c (place pl z) ≡ true)
         gone z i j w = (below z j, ap (is_waiting_of c) w.1 ∙ sym (ap (is_out_of c) w.1) ∙ r.out.out c z small j)
 
-        waiting : (p : Place) → is_waiting_of c p ≡ true → p ≡ Queued c
+        waiting : (p : MessagePlace) → is_waiting_of c p ≡ true → p ≡ Queued c
         waiting (Queued d) w = ap Queued (eqb-true d c w)
         waiting _ w = absurd (false-true w)
 

@@ -4,7 +4,7 @@ use Rattle.std.proofs.Common.{◌≡◌, ◌≢◌, ◌<◌, ◌≤◌, ◌+◌,
 use Rattle.std.specs.Prelude.{map, slice_set}
 use Rattle.std.proofs.lemmas.List.{length-set, length-append, set-set, set_comm, append_assoc, get_or-set_same, get_or-set_other}
 use Rattle.aom_clients.specs.Lists.{Table, IsIn, list_at, with_list, without, first_of, rest_of}
-use Rattle.aom_clients.specs.declared.place.Place.{Place}
+use Rattle.aom_clients.specs.declared.place.MessagePlace.{MessagePlace}
 use Rattle.aom_clients.specs.Table.{closed_place}
 use Rattle.aom_clients.specs.Withdrawals.{without_each, left_each, waiting_each, noted}
 use Rattle.aom_clients.proofs.Leaving.{place, length-each}
@@ -32,18 +32,18 @@ module _ (t u : Table) (k m : ℕ) (d : Drained t u k m) where
   pub tail-in : (n : ℕ) → IsIn n (list_at u k) → IsIn n (list_at t k)
   tail-in n i = subst (IsIn n) (sym d.shaped) (inr i)
 
-  pub places-drained : (pl : List Place) (p : Place) → p ≡ closed_place (place pl m) → left_each (list_at u k) (slice_set pl m p) ≡ left_each (list_at t k) pl
+  pub places-drained : (pl : List MessagePlace) (p : MessagePlace) → p ≡ closed_place (place pl m) → left_each (list_at u k) (slice_set pl m p) ≡ left_each (list_at t k) pl
   places-drained pl p is = ap (λ x. left_each (list_at u k) (slice_set pl m x)) is ∙ ap (λ xs. left_each xs pl) (sym d.shaped)
 
   pub queues-drained : (q v : Table) → v ≡ record q { lists = map (without m) q.lists }
       → record v { lists = without_each (list_at u k) v.lists } ≡ record q { lists = without_each (list_at t k) q.lists }
   queues-drained q v is = grind (arith, nat_tests)
 
-  pub freed-drained : (pl : List Place) (was p : Place) (freed more : List ℕ) → was ≡ place pl m → p ≡ closed_place was → more ≡ noted m was freed
+  pub freed-drained : (pl : List MessagePlace) (was p : MessagePlace) (freed more : List ℕ) → was ≡ place pl m → p ≡ closed_place was → more ≡ noted m was freed
       → more ++ waiting_each (list_at u k) (slice_set pl m p) ≡ freed ++ waiting_each (list_at t k) pl
   freed-drained pl was p freed more was_is p_is more_is = grind (arith, nat_tests, place pl, append_assoc freed)
 
-  pub room-drained : (was : Place) (freed more : List ℕ) → more ≡ noted m was freed → length freed + length (list_at t k) ≤ 64 → length more + length (list_at u k) ≤ 64
+  pub room-drained : (was : MessagePlace) (freed more : List ℕ) → more ≡ noted m was freed → length freed + length (list_at t k) ≤ 64 → length more + length (list_at u k) ≤ 64
   room-drained was freed more is room = grind (arith, nat_tests, length-append freed)
 
 -- in the end the list is empty
@@ -103,7 +103,7 @@ released t u v c m small first u_is v_is =
         ∙ ap (λ xs. list_at t (64 + c) ++ xs) (sym d.shaped)
 
 -- the messages of earlier sessions stay in their places, as those of this one are taken off
-pub past-stays : (st u : Table) (c : ℕ) (pl ps : List Place) → u ≡ with_list c [] st → ps ≡ left_each (list_at st c) pl
+pub past-stays : (st u : Table) (c : ℕ) (pl ps : List MessagePlace) → u ≡ with_list c [] st → ps ≡ left_each (list_at st c) pl
     → ((m : ℕ) → IsIn m (list_at st (64 + c)) → m < length pl) → (m : ℕ) → IsIn m (list_at u (64 + c)) → m < length ps
 past-stays st u c pl ps u_is ps_is within m i =
     let same : list_at u (64 + c) ≡ list_at st (64 + c) = ap (λ t. list_at t (64 + c)) u_is ∙ get_or-set_other st.lists c (64 + c) [] [] (λ e. absurd (omega (arith, e))) in

@@ -4,7 +4,7 @@ use Rattle.std.proofs.Common.{◌≡◌, ◌<◌, ◌≤◌, ◌+◌, ◌-◌, �
 use Rattle.std.specs.Prelude.{map, filter, nat_lt}
 use Rattle.std.proofs.lemmas.Bool.{cases_eq, eq-eqb, ne_eqb, cond-true, cond-false}
 use Rattle.aom_clients.specs.Lists.{IsIn}
-use Rattle.aom_clients.specs.declared.entry.Entry.TheVariants.{Connect, Message, Close}
+use Rattle.aom_clients.specs.declared.entry.QueueEntry.TheVariants.{Connect, Message, Close}
 use Rattle.aom_clients.specs.Clients.{is_connect, is_no_connect_of, is_no_close_of}
 use Rattle.aom_clients.specs.Nodes.{entry_of, is_connect_node, connecting_in}
 use Rattle.aom_clients.proofs.Plain.{cases_lt}

@@ -2,19 +2,19 @@
 use Rattle.std.proofs.Common.{◌≡◌, ℕ, List, [], ◌∷◌, Option, Some, None, refl}
 use Rattle.aom_clients.specs.declared.client.Client.{Client}
 use Rattle.aom_clients.specs.declared.client.Client.TheVariants.{Unconnected, Connecting, Open, Closing, Gone, Dead, Dying}
-use Rattle.aom_clients.specs.declared.refusal.Refusal.{Refusal}
-use Rattle.aom_clients.specs.declared.refusal.Refusal.TheVariants.{NotFound, Died, ServerTerminated, ServerBusy}
-use Rattle.aom_clients.specs.declared.place.Place.{Place}
-use Rattle.aom_clients.specs.declared.place.Place.TheVariants.{Free, Queued, Held, Discarded}
+use Rattle.aom_clients.specs.declared.refusal.CommandRefusal.{CommandRefusal}
+use Rattle.aom_clients.specs.declared.refusal.CommandRefusal.TheVariants.{NotFound, Died, ServerTerminated, ServerBusy}
+use Rattle.aom_clients.specs.declared.place.MessagePlace.{MessagePlace}
+use Rattle.aom_clients.specs.declared.place.MessagePlace.TheVariants.{Free, Queued, Held, Discarded}
 use Rattle.aom_clients.specs.declared.server.Server.{Server}
-use Rattle.aom_clients.specs.declared.entry.Entry.{Entry}
-use Rattle.aom_clients.specs.declared.entry.Entry.TheVariants.{Connect, Message, Close}
+use Rattle.aom_clients.specs.declared.entry.QueueEntry.{QueueEntry}
+use Rattle.aom_clients.specs.declared.entry.QueueEntry.TheVariants.{Connect, Message, Close}
 use Rattle.aom_clients.specs.Table.{row}
 use Rattle.aom_clients.specs.Clients.{State, connect_refusal, after_connect, send_refusal, after_send, after_close, after_die, freed, after_next}
 use Rattle.aom_clients.specs.Clients.{after_connected, after_closed, after_complete, after_next_gone, after_session_gone, server_gone}
 
 -- client 0 with two message places and server 0: what it is at, what the places have, the queue, the sessions, and what holds a slot
-abbrev one : Client → Place → Place → List Entry → List ℕ → List ℕ → State
+abbrev one : Client → MessagePlace → MessagePlace → List QueueEntry → List ℕ → List ℕ → State
 one x p q queue sessions sent =
     record { clients = x ∷ []; places = p ∷ q ∷ []; queues = queue ∷ []; sessions = sessions ∷ []; sent = sent ∷ [] }
 
@@ -30,7 +30,7 @@ abbrev to : ℕ → Option Server
 to most = Some (record { cell = 0; most = most })
 
 -- what comes of each command where the client alone decides that: why a connect and a send are refused, and the state after a close and a death
-abbrev told : State → Option Refusal × Option Refusal × State × State
+abbrev told : State → Option CommandRefusal × Option CommandRefusal × State × State
 told s = (connect_refusal 0 (to 9) s, send_refusal 0 (Some 1) s, after_close 0 s, after_die 0 s)
 
 -- unconnected

@@ -6,8 +6,8 @@ use Rattle.std.proofs.lemmas.Bool.{eqb-true}
 use Rattle.std.proofs.lemmas.List.{length-set, get_or_past, take-set-le}
 use Rattle.aom_clients.specs.Lists.{Table, IsIn, IsFree, list_at, with_list, first_of, rest_of}
 use Rattle.aom_clients.specs.declared.client.Client.{Client}
-use Rattle.aom_clients.specs.declared.place.Place.{Place}
-use Rattle.aom_clients.specs.declared.place.Place.TheVariants.{Queued}
+use Rattle.aom_clients.specs.declared.place.MessagePlace.{MessagePlace}
+use Rattle.aom_clients.specs.declared.place.MessagePlace.TheVariants.{Queued}
 use Rattle.aom_clients.specs.Table.{server_of, is_out_of, at_gone}
 use Rattle.aom_clients.specs.Clients.{State, queue_at, session_gone, after_session_gone}
 use Rattle.aom_clients.specs.Nodes.{entry_of, is_held_of, state_of, IsKept}
@@ -19,7 +19,7 @@ use Rattle.aom_clients.proofs.Steps.{client, take-set-lt, IsWith, is-with, queue
 use Rattle.aom_clients.proofs.Services.{shape}
 use Rattle.aom_clients.proofs.Slots.{sent-release}
 
-module _ (cl : List Client) (pl : List Place) (q cn ss st : Table) (r : IsKept cl pl q cn ss st) (s : State) (is : state_of cl pl q ss st ≡ s) where
+module _ (cl : List Client) (pl : List MessagePlace) (q cn ss st : Table) (r : IsKept cl pl q cn ss st) (s : State) (is : state_of cl pl q ss st ≡ s) where
   -- the first session of a server goes with it --------------------------------------------------------------------------------------------
   module _ (k c : ℕ) (inside : k < length s.queues) (empty : queue_at s k ≡ []) (first : Some c ≡ first_of (list_at ss k))
       (t : Table) (rest : t ≡ with_list k (rest_of (list_at ss k)) ss) (free : IsFree t c) where
@@ -67,7 +67,7 @@ module _ (cl : List Client) (pl : List Place) (q cn ss st : Table) (r : IsKept c
     pub all-held : (m : ℕ) → IsIn m (list_at st c) → is_held_of c (place pl m) ≡ true
     all-held m i = go (place pl m) refl (r.out.out c m session-below i)
       where
-        go : (p : Place) → place pl m ≡ p → is_out_of c p ≡ true → is_held_of c p ≡ true
+        go : (p : MessagePlace) → place pl m ≡ p → is_out_of c p ≡ true → is_held_of c p ≡ true
         go (Queued d) e h = absurd (no-wait m (e ∙ ap Queued (eqb-true d c h)))
         go _ e h = h
 

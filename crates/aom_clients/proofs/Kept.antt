@@ -10,8 +10,8 @@ use Rattle.aom_clients.proofs.Rings.{at-set, free-without}
 use Rattle.aom_clients.proofs.Members.{in-without, without-in, kept, left}
 use Rattle.aom_clients.specs.declared.client.Client.{Client}
 use Rattle.aom_clients.specs.declared.client.Client.TheVariants.{Unconnected}
-use Rattle.aom_clients.specs.declared.place.Place.{Place}
-use Rattle.aom_clients.specs.declared.place.Place.TheVariants.{Free, Queued, Held, Discarded}
+use Rattle.aom_clients.specs.declared.place.MessagePlace.{MessagePlace}
+use Rattle.aom_clients.specs.declared.place.MessagePlace.TheVariants.{Free, Queued, Held, Discarded}
 use Rattle.aom_clients.specs.Table.{server_of, is_queued, is_out_of, held_place}
 use Rattle.aom_clients.specs.Nodes.{is_connect_node, connecting_in, is_connecting_at, is_leaving, is_open_at, slots_of, named_by}
 use Rattle.aom_clients.specs.Nodes.{is_held_of, Waits, AreSized, AreEntries, AreConnects, AreSessions, AreSent, AreNamed}
@@ -25,7 +25,7 @@ pub at-write : {A : Type 0} (d : A) (P : ℕ → A → Type 0) (xs : List A) (c 
 at-write d P xs c v small here others i = grind (arith, nat_tests, cases_eq i c, get_or-set_same xs c v d small, get_or-set_other xs c i v d)
 
 -- sizes ---------------------------------------------------------------------------------------------------------------------------------
-pub sized-as : (cl cl' : List Client) (pl pl' : List Place) (q q' cn cn' ss ss' st st' : Table) → length cl' ≡ length cl → length pl' ≡ length pl
+pub sized-as : (cl cl' : List Client) (pl pl' : List MessagePlace) (q q' cn cn' ss ss' st st' : Table) → length cl' ≡ length cl → length pl' ≡ length pl
     → Alike q q' → Alike cn cn' → Alike ss ss' → Alike st st' → AreSized cl pl q cn ss st → AreSized cl' pl' q' cn' ss' st'
 sized-as cl cl' pl pl' q q' cn cn' ss ss' st st' c p aq an au at z =
     record {
@@ -55,7 +55,7 @@ named-as cl q q' a n = subst (AreNamed cl) (sym a.lists) n
 
 -- entries -------------------------------------------------------------------------------------------------------------------------------
 -- fewer entries, but for messages that wait
-pub entries-fewer : (cl : List Client) (pl : List Place) (q q' : Table) → Fewer q q'
+pub entries-fewer : (cl : List Client) (pl : List MessagePlace) (q q' : Table) → Fewer q q'
     → ((c m : ℕ) → slice_index_or pl m Free ≡ Queued c → (k : ℕ) → IsIn m (list_at q k) → IsIn m (list_at q' k)) → AreEntries cl pl q → AreEntries cl pl q'
 entries-fewer cl pl q q' f stay e =
     record {
@@ -68,7 +68,7 @@ entries-fewer cl pl q q' f stay e =
     }
 
 -- a client is at something else
-pub entries-client : (cl : List Client) (pl : List Place) (q : Table) (c : ℕ) (to : Client) → c < length cl
+pub entries-client : (cl : List Client) (pl : List MessagePlace) (q : Table) (c : ℕ) (to : Client) → c < length cl
     → ((k : ℕ) → c < 64 → IsIn (1024 + c) (list_at q k) → is_connecting_at k to ≡ true)
     → ((k : ℕ) → c < 64 → IsIn (1088 + c) (list_at q k) → is_leaving k to ≡ true)
     → ((m : ℕ) → slice_index_or pl m Free ≡ Queued c → Waits (slice_set cl c to) q c m) → AreEntries cl pl q → AreEntries (slice_set cl c to) pl q
@@ -93,25 +93,25 @@ entries-client cl pl q c to small connecting leaving waiting e =
         }
 
 -- a place has something else
-pub entries-place : (cl : List Client) (pl : List Place) (q : Table) (m : ℕ) (p : Place) → m < length pl
+pub entries-place : (cl : List Client) (pl : List MessagePlace) (q : Table) (m : ℕ) (p : MessagePlace) → m < length pl
     → ((k : ℕ) → m < 1024 → IsIn m (list_at q k) → is_queued p ≡ true)
     → ((c : ℕ) → p ≡ Queued c → Waits cl q c m) → AreEntries cl pl q → AreEntries cl (slice_set pl m p) q
 entries-place cl pl q m p small queued waiting e =
     record {
-      messages = λ k n less i. at-write Free (λ n (x : Place). n < 1024 → IsIn n (list_at q k) → is_queued x ≡ true) pl m p small (queued k)
+      messages = λ k n less i. at-write Free (λ n (x : MessagePlace). n < 1024 → IsIn n (list_at q k) → is_queued x ≡ true) pl m p small (queued k)
           (λ n other less i. e.messages k n less i) n less i;
       connects = e.connects;
       closes = e.closes;
-      waits = λ c n is. at-write Free (λ n (x : Place). x ≡ Queued c → Waits cl q c n) pl m p small (waiting c) (λ n other is. e.waits c n is) n is;
+      waits = λ c n is. at-write Free (λ n (x : MessagePlace). x ≡ Queued c → Waits cl q c n) pl m p small (waiting c) (λ n other is. e.waits c n is) n is;
     }
 
 -- an entry more
-pub record IsApt (cl : List Client) (pl : List Place) (k n : ℕ) : Type 0 where
+pub record IsApt (cl : List Client) (pl : List MessagePlace) (k n : ℕ) : Type 0 where
   pub message : n < 1024 → is_queued (slice_index_or pl n Free) ≡ true
   pub connect : (c : ℕ) → c < 64 → n ≡ 1024 + c → is_connecting_at k (slice_index_or cl c Unconnected) ≡ true
   pub close : (c : ℕ) → c < 64 → n ≡ 1088 + c → is_leaving k (slice_index_or cl c Unconnected) ≡ true
 
-pub entries-push : (cl : List Client) (pl : List Place) (q : Table) (k n : ℕ) → k < length q.lists → IsApt cl pl k n → AreEntries cl pl q
+pub entries-push : (cl : List Client) (pl : List MessagePlace) (q : Table) (k n : ℕ) → k < length q.lists → IsApt cl pl k n → AreEntries cl pl q
     → AreEntries cl pl (with_list k (list_at q k ++ n ∷ []) q)
 entries-push cl pl q k n small apt e =
     record {
@@ -245,26 +245,26 @@ sessions-first cl ss k c cs to small there none is free s =
     grind (arith, nat_tests, sessions-fewer cl ss, fewer-with ss k cs there, cases_eq, get_or-set_same ss.lists k cs, get_or-set_other ss.lists k)
 
 -- messages --------------------------------------------------------------------------------------------------------------------------------
-free-out : (c : ℕ) (p : Place) → p ≡ Free → is_out_of c p ≡ true → ⊥
+free-out : (c : ℕ) (p : MessagePlace) → p ≡ Free → is_out_of c p ≡ true → ⊥
 free-out c p e is = false-true (sym (ap (is_out_of c) e) ∙ is)
 
-free-held : (c : ℕ) (p : Place) → p ≡ Free → is_held_of c p ≡ true → ⊥
+free-held : (c : ℕ) (p : MessagePlace) → p ≡ Free → is_held_of c p ≡ true → ⊥
 free-held c p e is = false-true (sym (ap (is_held_of c) e) ∙ is)
 
 -- a message is sent: it waits, and holds a slot
-pub sent-send : (pl : List Place) (st : Table) (c m : ℕ) → c < 64 → m < length pl → length st.lists ≡ 128 → slice_index_or pl m Free ≡ Free
+pub sent-send : (pl : List MessagePlace) (st : Table) (c m : ℕ) → c < 64 → m < length pl → length st.lists ≡ 128 → slice_index_or pl m Free ≡ Free
     → length (list_at st c) < 64 → AreSent pl st → AreSent (slice_set pl m (Queued c)) (with_list c (list_at st c ++ m ∷ []) st)
 sent-send pl st c m client place long free slot s =
     record {
-      out = λ d n less i. at-write Free (λ n (p : Place). IsIn n (list_at after d) → is_out_of d p ≡ true) pl m (Queued c) place
+      out = λ d n less i. at-write Free (λ n (p : MessagePlace). IsIn n (list_at after d) → is_out_of d p ≡ true) pl m (Queued c) place
           (λ i. mine d less (pushed-in st c m d m listed i)) (λ n other i. theirs d n less other (pushed-in st c m d n listed i)) n i;
-      past = λ d n less i. at-write Free (λ n (p : Place). IsIn n (list_at after (64 + d)) → is_held_of d p ≡ true) pl m (Queued c) place
+      past = λ d n less i. at-write Free (λ n (p : MessagePlace). IsIn n (list_at after (64 + d)) → is_held_of d p ≡ true) pl m (Queued c) place
           (λ i. mine_past d less (pushed-in st c m (64 + d) m listed i)) (λ n other i. theirs_past d n less (pushed-in st c m (64 + d) n listed i)) n i;
-      waiting = λ d n e. at-write Free (λ n (p : Place). p ≡ Queued d → (d < 64) × IsIn n (list_at after d)) pl m (Queued c) place
+      waiting = λ d n e. at-write Free (λ n (p : MessagePlace). p ≡ Queued d → (d < 64) × IsIn n (list_at after d)) pl m (Queued c) place
           (λ e. now d e) (λ n other e. ((s.waiting d n e).0, push-keeps st c m d n listed (s.waiting d n e).1)) n e;
-      held = λ d n e. at-write Free (λ n (p : Place). p ≡ Held d → (d < 64) × (IsIn n (list_at after d) ⊎ IsIn n (list_at after (64 + d)))) pl m (Queued c) place
+      held = λ d n e. at-write Free (λ n (p : MessagePlace). p ≡ Held d → (d < 64) × (IsIn n (list_at after d) ⊎ IsIn n (list_at after (64 + d)))) pl m (Queued c) place
           (λ e. absurd (cc)) (λ n other e. ((s.held d n e).0, still d n (s.held d n e).1)) n e;
-      senders = λ d n e. at-write Free (λ n (p : Place). p ≡ Discarded d → d < 64) pl m (Queued c) place (λ e. absurd (cc)) (λ n other e. s.senders d n e) n e;
+      senders = λ d n e. at-write Free (λ n (p : MessagePlace). p ≡ Discarded d → d < 64) pl m (Queued c) place (λ e. absurd (cc)) (λ n other e. s.senders d n e) n e;
       few = λ d less. at-set (λ d xs. d < 64 → length xs ≤ 64) st.lists c (list_at st c ++ m ∷ []) listed (λ _. room) (λ d other less. s.few d less) d less;
     }
   where
@@ -303,38 +303,38 @@ sent-send pl st c m client place long free slot s =
     still d n (inr i) = inr (push-keeps st c m (64 + d) n listed i)
 
 -- a message that waited is held
-pub sent-taken : (pl : List Place) (st : Table) (m : ℕ) → m < length pl → AreSent pl st → AreSent (slice_set pl m (held_place (slice_index_or pl m Free))) st
+pub sent-taken : (pl : List MessagePlace) (st : Table) (m : ℕ) → m < length pl → AreSent pl st → AreSent (slice_set pl m (held_place (slice_index_or pl m Free))) st
 sent-taken pl st m place s =
     record {
-      out = λ d n less i. at-write Free (λ n (p : Place). IsIn n (list_at st d) → is_out_of d p ≡ true) pl m (held_place was) place
+      out = λ d n less i. at-write Free (λ n (p : MessagePlace). IsIn n (list_at st d) → is_out_of d p ≡ true) pl m (held_place was) place
           (λ i. out_as d was (s.out d m less i)) (λ n other i. s.out d n less i) n i;
-      past = λ d n less i. at-write Free (λ n (p : Place). IsIn n (list_at st (64 + d)) → is_held_of d p ≡ true) pl m (held_place was) place
+      past = λ d n less i. at-write Free (λ n (p : MessagePlace). IsIn n (list_at st (64 + d)) → is_held_of d p ≡ true) pl m (held_place was) place
           (λ i. held_as d was (s.past d m less i)) (λ n other i. s.past d n less i) n i;
-      waiting = λ d n e. at-write Free (λ n (p : Place). p ≡ Queued d → (d < 64) × IsIn n (list_at st d)) pl m (held_place was) place
+      waiting = λ d n e. at-write Free (λ n (p : MessagePlace). p ≡ Queued d → (d < 64) × IsIn n (list_at st d)) pl m (held_place was) place
           (λ e. absurd (never d was e)) (λ n other e. s.waiting d n e) n e;
-      held = λ d n e. at-write Free (λ n (p : Place). p ≡ Held d → (d < 64) × (IsIn n (list_at st d) ⊎ IsIn n (list_at st (64 + d)))) pl m (held_place was) place
+      held = λ d n e. at-write Free (λ n (p : MessagePlace). p ≡ Held d → (d < 64) × (IsIn n (list_at st d) ⊎ IsIn n (list_at st (64 + d)))) pl m (held_place was) place
           (λ e. from d was refl e) (λ n other e. s.held d n e) n e;
-      senders = λ d n e. at-write Free (λ n (p : Place). p ≡ Discarded d → d < 64) pl m (held_place was) place (λ e. gone d was refl e) (λ n other e. s.senders d n e) n e;
+      senders = λ d n e. at-write Free (λ n (p : MessagePlace). p ≡ Discarded d → d < 64) pl m (held_place was) place (λ e. gone d was refl e) (λ n other e. s.senders d n e) n e;
       few = s.few;
     }
   where
-    was : Place
+    was : MessagePlace
     was = slice_index_or pl m Free
 
-    out_as : (d : ℕ) (p : Place) → is_out_of d p ≡ true → is_out_of d (held_place p) ≡ true
+    out_as : (d : ℕ) (p : MessagePlace) → is_out_of d p ≡ true → is_out_of d (held_place p) ≡ true
     out_as d Free e = e
     out_as d (Queued c) e = e
     out_as d (Held c) e = e
     out_as d (Discarded c) e = e
 
-    held_as : (d : ℕ) (p : Place) → is_held_of d p ≡ true → is_held_of d (held_place p) ≡ true
+    held_as : (d : ℕ) (p : MessagePlace) → is_held_of d p ≡ true → is_held_of d (held_place p) ≡ true
     held_as d (Queued c) e = absurd (cc)
     held_as d _ e = e
 
-    never : (d : ℕ) (p : Place) → held_place p ≡ Queued d → ⊥
+    never : (d : ℕ) (p : MessagePlace) → held_place p ≡ Queued d → ⊥
     never d x e = grind arith
 
-    from : (d : ℕ) (p : Place) → slice_index_or pl m Free ≡ p → held_place p ≡ Held d → (d < 64) × (IsIn m (list_at st d) ⊎ IsIn m (list_at st (64 + d)))
+    from : (d : ℕ) (p : MessagePlace) → slice_index_or pl m Free ≡ p → held_place p ≡ Held d → (d < 64) × (IsIn m (list_at st d) ⊎ IsIn m (list_at st (64 + d)))
     from d Free is e = absurd (cc)
     from d (Queued c) is e =
         let same : c ≡ d = cc in
@@ -345,7 +345,7 @@ sent-taken pl st m place s =
         s.held d m (is ∙ ap Held same)
     from d (Discarded c) is e = absurd (cc)
 
-    gone : (d : ℕ) (p : Place) → slice_index_or pl m Free ≡ p → held_place p ≡ Discarded d → d < 64
+    gone : (d : ℕ) (p : MessagePlace) → slice_index_or pl m Free ≡ p → held_place p ≡ Discarded d → d < 64
     gone d (Discarded c) is e = s.senders d m (is ∙ e)
     gone d _ is e = absurd (cc)
 
@@ -354,18 +354,18 @@ shorter-without : (n : ℕ) (ys : List ℕ) → length (without n ys) ≤ length
 shorter-without n [] = omega arith
 shorter-without n (y ∷ ys) = grind (arith, nat_tests, cases_eq y n, shorter-without n ys, left n y ys, kept n y ys)
 
-pub sent-complete : (pl : List Place) (st : Table) (m : ℕ) → m < length pl → AreSent pl st → AreSent (slice_set pl m Free) (record st { lists = map (without m) st.lists })
+pub sent-complete : (pl : List MessagePlace) (st : Table) (m : ℕ) → m < length pl → AreSent pl st → AreSent (slice_set pl m Free) (record st { lists = map (without m) st.lists })
 sent-complete pl st m place s =
     record {
-      out = λ d n less i. at-write Free (λ n (p : Place). IsIn n (list_at after d) → is_out_of d p ≡ true) pl m Free place
+      out = λ d n less i. at-write Free (λ n (p : MessagePlace). IsIn n (list_at after d) → is_out_of d p ≡ true) pl m Free place
           (λ i. absurd (nowhere d i)) (λ n other i. s.out d n less (was d n i)) n i;
-      past = λ d n less i. at-write Free (λ n (p : Place). IsIn n (list_at after (64 + d)) → is_held_of d p ≡ true) pl m Free place
+      past = λ d n less i. at-write Free (λ n (p : MessagePlace). IsIn n (list_at after (64 + d)) → is_held_of d p ≡ true) pl m Free place
           (λ i. absurd (nowhere (64 + d) i)) (λ n other i. s.past d n less (was (64 + d) n i)) n i;
-      waiting = λ d n e. at-write Free (λ n (p : Place). p ≡ Queued d → (d < 64) × IsIn n (list_at after d)) pl m Free place
+      waiting = λ d n e. at-write Free (λ n (p : MessagePlace). p ≡ Queued d → (d < 64) × IsIn n (list_at after d)) pl m Free place
           (λ e. absurd (cc)) (λ n other e. ((s.waiting d n e).0, still d n other (s.waiting d n e).1)) n e;
-      held = λ d n e. at-write Free (λ n (p : Place). p ≡ Held d → (d < 64) × (IsIn n (list_at after d) ⊎ IsIn n (list_at after (64 + d)))) pl m Free place
+      held = λ d n e. at-write Free (λ n (p : MessagePlace). p ≡ Held d → (d < 64) × (IsIn n (list_at after d) ⊎ IsIn n (list_at after (64 + d)))) pl m Free place
           (λ e. absurd (cc)) (λ n other e. ((s.held d n e).0, both d n other (s.held d n e).1)) n e;
-      senders = λ d n e. at-write Free (λ n (p : Place). p ≡ Discarded d → d < 64) pl m Free place (λ e. absurd (cc)) (λ n other e. s.senders d n e) n e;
+      senders = λ d n e. at-write Free (λ n (p : MessagePlace). p ≡ Discarded d → d < 64) pl m Free place (λ e. absurd (cc)) (λ n other e. s.senders d n e) n e;
       few = λ d less. omega (arith, ap length (at-without st m d), shorter-without m (list_at st d), s.few d less);
     }
   where

@@ -11,9 +11,9 @@ use Rattle.aom_clients.specs.Lists.{Table, IsIn, IsOnce, list_at, without}
 use Rattle.aom_clients.proofs.Members.{kept, left}
 use Rattle.aom_clients.specs.declared.client.Client.{Client}
 use Rattle.aom_clients.specs.declared.client.Client.TheVariants.{Unconnected, Connecting, Open, Closing, Gone, Dead, Dying}
-use Rattle.aom_clients.specs.declared.place.Place.{Place}
-use Rattle.aom_clients.specs.declared.place.Place.TheVariants.{Free, Queued, Held, Discarded}
-use Rattle.aom_clients.specs.declared.entry.Entry.{Entry}
+use Rattle.aom_clients.specs.declared.place.MessagePlace.{MessagePlace}
+use Rattle.aom_clients.specs.declared.place.MessagePlace.TheVariants.{Free, Queued, Held, Discarded}
+use Rattle.aom_clients.specs.declared.entry.QueueEntry.{QueueEntry}
 use Rattle.aom_clients.specs.Table.{server_of, is_queued, is_out_of, is_waiting_of, closed_place}
 use Rattle.aom_clients.specs.Clients.{left_place, stays}
 use Rattle.aom_clients.specs.Nodes.{entry_of, is_leaving, is_open_at, slots_of, named_by, is_held_of, AreSent}
@@ -55,24 +55,24 @@ leaves (Dying k s) next (inr e) = absurd (nothing next e)
 leaves _ next (inl e) = absurd (nothing next e)
 
 -- places ----------------------------------------------------------------------------------------------------------------------------------
-abbrev pub place : List Place → ℕ → Place
+abbrev pub place : List MessagePlace → ℕ → MessagePlace
 place pl m = slice_index_or pl m Free
 
-closed-twice : (p : Place) → closed_place (closed_place p) ≡ closed_place p
+closed-twice : (p : MessagePlace) → closed_place (closed_place p) ≡ closed_place p
 closed-twice Free = refl
 closed-twice (Queued c) = refl
 closed-twice (Held c) = refl
 closed-twice (Discarded c) = refl
 
 -- a place that has something is one of the places
-pub place-there : (pl : List Place) (m : ℕ) (p : Place) → place pl m ≡ p → (p ≡ Free → ⊥) → m < length pl
+pub place-there : (pl : List MessagePlace) (m : ℕ) (p : MessagePlace) → place pl m ≡ p → (p ≡ Free → ⊥) → m < length pl
 place-there pl m p e some = grind (arith, nat_tests, cases_lt m, get_or_past pl m Free)
 
-pub length-each : (xs : List ℕ) (pl : List Place) → length (left_each xs pl) ≡ length pl
+pub length-each : (xs : List ℕ) (pl : List MessagePlace) → length (left_each xs pl) ≡ length pl
 length-each [] pl = refl
 length-each (m ∷ ms) pl = length-each ms (left_at m pl) ∙ length-set pl m (closed_place (place pl m))
 
-each-stays : (xs : List ℕ) (pl : List Place) (n : ℕ) → closed_place (place pl n) ≡ place pl n → place (left_each xs pl) n ≡ place pl n
+each-stays : (xs : List ℕ) (pl : List MessagePlace) (n : ℕ) → closed_place (place pl n) ≡ place pl n → place (left_each xs pl) n ≡ place pl n
 each-stays [] pl n e = refl
 each-stays (m ∷ ms) pl n e = go (cases_eq n m) (each-stays ms (left_at m pl) n)
   where
@@ -90,7 +90,7 @@ each-stays (m ∷ ms) pl n e = go (cases_eq n m) (each-stays ms (left_at m pl) n
     go d more = more (ap closed_place (same d) ∙ e ∙ sym (same d)) ∙ same d
 
 -- what is left of a place is the same after a write of what is left of another
-at-closed : (m : ℕ) (pl : List Place) (n : ℕ) → closed_place (place (left_at m pl) n) ≡ closed_place (place pl n)
+at-closed : (m : ℕ) (pl : List MessagePlace) (n : ℕ) → closed_place (place (left_at m pl) n) ≡ closed_place (place pl n)
 at-closed m pl n = go (cases_eq n m) (cases_lt m (length pl))
   where
     go : (n ≡ m) ⊎ (n ≢ m) → (m < length pl) ⊎ (length pl ≤ m) → closed_place (place (left_at m pl) n) ≡ closed_place (place pl n)
@@ -101,39 +101,39 @@ at-closed m pl n = go (cases_eq n m) (cases_lt m (length pl))
         ∙ sym (get_or_past pl n Free (omega (arith, e, large))))
     go (inr other) d = ap closed_place (get_or-set_other pl m n (closed_place (place pl m)) Free other)
 
-each-closed : (xs : List ℕ) (pl : List Place) (n : ℕ) → closed_place (place (left_each xs pl) n) ≡ closed_place (place pl n)
+each-closed : (xs : List ℕ) (pl : List MessagePlace) (n : ℕ) → closed_place (place (left_each xs pl) n) ≡ closed_place (place pl n)
 each-closed [] pl n = refl
 each-closed (m ∷ ms) pl n = each-closed ms (left_at m pl) n ∙ at-closed m pl n
 
-each-in : (xs : List ℕ) (pl : List Place) (n : ℕ) → n < length pl → IsIn n xs → place (left_each xs pl) n ≡ closed_place (place pl n)
+each-in : (xs : List ℕ) (pl : List MessagePlace) (n : ℕ) → n < length pl → IsIn n xs → place (left_each xs pl) n ≡ closed_place (place pl n)
 each-in [] pl n small i = elim i [ ]
 each-in (m ∷ ms) pl n small (inl e) = grind (arith, nat_tests, get_or-set_same pl m, each-stays ms, closed-twice)
 each-in (m ∷ ms) pl n small (inr i) = grind (arith, nat_tests, each-in ms, length-set pl m, at-closed m pl n)
 
-each-out : (xs : List ℕ) (pl : List Place) (n : ℕ) → (IsIn n xs → ⊥) → place (left_each xs pl) n ≡ place pl n
+each-out : (xs : List ℕ) (pl : List MessagePlace) (n : ℕ) → (IsIn n xs → ⊥) → place (left_each xs pl) n ≡ place pl n
 each-out [] pl n out = refl
 each-out (m ∷ ms) pl n out = grind (arith, nat_tests, each-out ms, get_or-set_other pl m n)
 
-held-out : (c : ℕ) (p : Place) → is_held_of c p ≡ true → is_out_of c p ≡ true
+held-out : (c : ℕ) (p : MessagePlace) → is_held_of c p ≡ true → is_out_of c p ≡ true
 held-out c (Held d) e = e
 held-out c _ e = absurd (cc)
 
 -- the places of a client that leaves, whose messages are on its two lists
-module _ (pl : List Place) (st : Table) (c : ℕ) (small : c < 64) (s : AreSent pl st) where
+module _ (pl : List MessagePlace) (st : Table) (c : ℕ) (small : c < 64) (s : AreSent pl st) where
   abbrev xs : List ℕ
   xs = list_at st c
 
   abbrev ys : List ℕ
   ys = list_at st (64 + c)
 
-  abbrev both : List Place
+  abbrev both : List MessagePlace
   both = left_each ys (left_each xs pl)
 
   found : (n : ℕ) → n < length pl → IsIn n xs ⊎ IsIn n ys → place both n ≡ closed_place (place pl n)
   found n inside (inl i) = grind (arith, nat_tests, each-in, each-stays, closed-twice)
   found n inside (inr i) = each-in ys (left_each xs pl) n (omega (arith, inside, length-each xs pl)) i ∙ each-closed xs pl n
 
-  listed : (n : ℕ) (p : Place) → place pl n ≡ p → is_out_of c p ≡ true → IsIn n xs ⊎ IsIn n ys
+  listed : (n : ℕ) (p : MessagePlace) → place pl n ≡ p → is_out_of c p ≡ true → IsIn n xs ⊎ IsIn n ys
   listed n (Queued d) is e = inl (s.waiting c n (is ∙ ap Queued (eqb-true d c e))).1
   listed n (Held d) is e = (s.held c n (is ∙ ap Held (eqb-true d c e))).1
   listed n _ is e = absurd (cc)
@@ -145,14 +145,14 @@ module _ (pl : List Place) (st : Table) (c : ℕ) (small : c < 64) (s : AreSent 
   pub places-left : both ≡ map (left_place c) pl
   places-left = same_lists _ _ (length-each ys (left_each xs pl) ∙ length-each xs pl ∙ sym (length-map pl (left_place c))) each
     where
-      each : (k : ℕ) (d : Place) → k < length both → slice_index_or both k d ≡ slice_index_or (map (left_place c) pl) k d
+      each : (k : ℕ) (d : MessagePlace) → k < length both → slice_index_or both k d ≡ slice_index_or (map (left_place c) pl) k d
       each k d within =
           let inside : k < length pl = omega (arith, within, length-each ys (left_each xs pl), length-each xs pl) in
           get_or_default both k d Free within ∙ one k inside (is_out_of c (place pl k)) refl ∙ sym (get_or-map (left_place c) pl k Free)
           ∙ get_or_default (map (left_place c) pl) k Free d (omega (arith, inside, length-map pl (left_place c)))
 
 -- the messages that waited, none twice
-pub waiting-is : (ms : List ℕ) (pl now : List Place) → IsOnce ms → ((n : ℕ) → IsIn n ms → place now n ≡ place pl n)
+pub waiting-is : (ms : List ℕ) (pl now : List MessagePlace) → IsOnce ms → ((n : ℕ) → IsIn n ms → place now n ≡ place pl n)
     → waiting_each ms now ≡ filter (λ m. is_queued (place pl m)) ms
 waiting-is [] pl now once same = refl
 waiting-is (m ∷ ms) pl now once same = grind (arith, nat_tests, waiting-is ms pl, get_or-set_other now m)
@@ -211,20 +211,20 @@ each-dropped (m ∷ ms) lists = each-dropped ms (map (without m) lists) ∙ both
     both (zs ∷ ls) = ap (λ ks. drop_each ms (without m zs) ∷ ks) (both ls)
 
 -- a test that leaves out just these
-pub record Tells (ms : List ℕ) (pl : List Place) (c : ℕ) (zs : List ℕ) : Type 0 where
+pub record Tells (ms : List ℕ) (pl : List MessagePlace) (c : ℕ) (zs : List ℕ) : Type 0 where
   pub gone : (z : ℕ) → IsIn z zs → IsIn z ms → (z < 1024) × (is_waiting_of c (place pl z) ≡ true)
   pub stay : (z : ℕ) → IsIn z zs → is_waiting_of c (place pl z) ≡ true → z < 1024 → IsIn z ms
 
-tells-tail : (ms : List ℕ) (pl : List Place) (c z : ℕ) (zs : List ℕ) → Tells ms pl c (z ∷ zs) → Tells ms pl c zs
+tells-tail : (ms : List ℕ) (pl : List MessagePlace) (c z : ℕ) (zs : List ℕ) → Tells ms pl c (z ∷ zs) → Tells ms pl c zs
 tells-tail ms pl c z zs t = record { gone = λ y i. t.gone y (inr i); stay = λ y i. t.stay y (inr i) }
 
-pub queue-left : (ms : List ℕ) (pl : List Place) (c : ℕ) → c < 64 → (zs : List ℕ) → Tells ms pl c zs
+pub queue-left : (ms : List ℕ) (pl : List MessagePlace) (c : ℕ) → c < 64 → (zs : List ℕ) → Tells ms pl c zs
     → map entry_of (without (1024 + c) (drop_each ms zs)) ≡ filter (stays c pl) (map entry_of zs)
 queue-left ms pl c small [] t = ap (λ ys. map entry_of (without (1024 + c) ys)) (drop-nil ms)
 queue-left ms pl c small (z ∷ zs) t = ap (λ ys. map entry_of (without (1024 + c) ys)) (drop-cons ms z zs)
     ∙ go z (kind z) t (has z ms) refl (cases_eq z (1024 + c)) (queue-left ms pl c small zs (tells-tail ms pl c z zs t))
   where
-    rest : List Entry
+    rest : List QueueEntry
     rest = filter (stays c pl) (map entry_of zs)
 
     -- what stays and what goes

@@ -6,7 +6,7 @@ use Rattle.std.proofs.lemmas.List.{length-set, get_or-set_other, get_or-set_same
 use Rattle.aom_clients.specs.Lists.{Table}
 use Rattle.aom_clients.specs.declared.client.Client.{Client}
 use Rattle.aom_clients.specs.declared.client.Client.TheVariants.{Unconnected}
-use Rattle.aom_clients.specs.declared.place.Place.{Place}
+use Rattle.aom_clients.specs.declared.place.MessagePlace.{MessagePlace}
 use Rattle.aom_clients.specs.Table.{server_of, released}
 use Rattle.aom_clients.specs.Clients.{State}
 use Rattle.aom_clients.specs.Nodes.{IsKept, is_connecting_at, is_leaving, is_open_at, named_by, slots_of, state_of}
@@ -36,7 +36,7 @@ slots-still x = grind arith
 
 -- ---- all clients
 
-module _ (cl : List Client) (pl : List Place) (q cn ss st : Table) (r : IsKept cl pl q cn ss st) (s : State) (is : state_of cl pl q ss st ≡ s) (c : ℕ) (few : c < length cl) where
+module _ (cl : List Client) (pl : List MessagePlace) (q cn ss st : Table) (r : IsKept cl pl q cn ss st) (s : State) (is : state_of cl pl q ss st ≡ s) (c : ℕ) (few : c < length cl) where
   abbrev pub after : List Client
   after = slice_set cl c (released (client cl c))
 

@@ -10,9 +10,9 @@ use Rattle.aom_clients.specs.Lists.{Table, IsIn, IsFree, list_at, with_list, wit
 use Rattle.aom_clients.proofs.Members.{in-without, without-in}
 use Rattle.aom_clients.specs.declared.client.Client.{Client}
 use Rattle.aom_clients.specs.declared.client.Client.TheVariants.{Unconnected, Connecting, Open}
-use Rattle.aom_clients.specs.declared.place.Place.{Place}
-use Rattle.aom_clients.specs.declared.place.Place.TheVariants.{Free, Queued}
-use Rattle.aom_clients.specs.declared.entry.Entry.{Entry}
+use Rattle.aom_clients.specs.declared.place.MessagePlace.{MessagePlace}
+use Rattle.aom_clients.specs.declared.place.MessagePlace.TheVariants.{Free, Queued}
+use Rattle.aom_clients.specs.declared.entry.QueueEntry.{QueueEntry}
 use Rattle.aom_clients.specs.declared.entry.Taken.{Taken}
 use Rattle.aom_clients.specs.Table.{is_queued, held_place, completion, sender}
 use Rattle.aom_clients.specs.Clients.{MessageBelow, IsNumbered, State, client_at, place_at, queue_at, sessions_at, with_client, with_queue, first_entry, taking}
@@ -45,11 +45,11 @@ empty (x ∷ xs) e = absurd (nothing x e)
 pub none-taken : (t : Table) (k : ℕ) → None ≡ first_of (list_at t k) → with_list k (rest_of (list_at t k)) t ≡ t
 none-taken t k e = grind (arith, nat_tests, empty, set-get_or t.lists k)
 
-queue-none : (cl : List Client) (pl : List Place) (q cn ss st : Table) (r : IsKept cl pl q cn ss st) (s : State) (is : state_of cl pl q ss st ≡ s) (k : ℕ)
+queue-none : (cl : List Client) (pl : List MessagePlace) (q cn ss st : Table) (r : IsKept cl pl q cn ss st) (s : State) (is : state_of cl pl q ss st ≡ s) (k : ℕ)
     → None ≡ first_of (list_at q k) → queue_at s k ≡ []
 queue-none cl pl q cn ss st r s is k e = sym (queue-is cl pl q cn ss st r s is k) ∙ ap (map entry_of) (empty (list_at q k) e)
 
-pub sessions-none : (cl : List Client) (pl : List Place) (q cn ss st : Table) (s : State) (is : state_of cl pl q ss st ≡ s) (k : ℕ)
+pub sessions-none : (cl : List Client) (pl : List MessagePlace) (q cn ss st : Table) (s : State) (is : state_of cl pl q ss st ≡ s) (k : ℕ)
     → None ≡ first_of (list_at ss k) → sessions_at s k ≡ []
 sessions-none cl pl q cn ss st s is k e = sym (ap (λ t. sessions_at t k) is) ∙ empty (list_at ss k) e
 
@@ -59,13 +59,13 @@ message-below None n e all = all
 message-below (Some t) n e all = subst (λ m. MessageBelow m t.entry) e all.1
 
 -- and the client of a connect among so many
-pub connect-below : (s : State) (es : List Entry) (x : Option Taken) (n : ℕ) → 64 ≡ n → x ≡ first_entry s es → IfSome x IsNumbered → IfSome x (λ t. ConnectBelow n t.entry)
+pub connect-below : (s : State) (es : List QueueEntry) (x : Option Taken) (n : ℕ) → 64 ≡ n → x ≡ first_entry s es → IfSome x IsNumbered → IfSome x (λ t. ConnectBelow n t.entry)
 connect-below s es x n e told all = grind (arith, nat_tests)
 
-never-held : (p : Place) (c : ℕ) → held_place p ≡ Queued c → ⊥
+never-held : (p : MessagePlace) (c : ℕ) → held_place p ≡ Queued c → ⊥
 never-held x c e = grind arith
 
-module _ (cl : List Client) (pl : List Place) (q cn ss st : Table) (r : IsKept cl pl q cn ss st) (s : State) (is : state_of cl pl q ss st ≡ s) where
+module _ (cl : List Client) (pl : List MessagePlace) (q cn ss st : Table) (r : IsKept cl pl q cn ss st) (s : State) (is : state_of cl pl q ss st ≡ s) where
   -- the first entry of a queue leaves -----------------------------------------------------------------------------------------------------
   module _ (k n : ℕ) (inside : k < length s.queues) (first : first_of (list_at q k) ≡ Some n) (small : n < 1152)
       (free : IsFree (with_list k (rest_of (list_at q k)) q) n) where
@@ -100,13 +100,13 @@ module _ (cl : List Client) (pl : List Place) (q cn ss st : Table) (r : IsKept c
         entries-fewer cl pl q q1 fewer (λ c m e j i. rest-stays j m (λ same. absurd (omega (arith, same, large, waiting-below cl pl q cn ss st r s is c m e))) i) r.entries
 
     -- entries without a message whose place has something else
-    entries-taken : (p : Place) → n < 1024 → ((c : ℕ) → p ≡ Queued c → ⊥) → AreEntries cl (slice_set pl n p) q1
+    entries-taken : (p : MessagePlace) → n < 1024 → ((c : ℕ) → p ≡ Queued c → ⊥) → AreEntries cl (slice_set pl n p) q1
     entries-taken p message_node never = record {
-      messages = λ j m less i. at-write Free (λ m (x : Place). m < 1024 → IsIn m (list_at q1 j) → is_queued x ≡ true) pl n p placed
+      messages = λ j m less i. at-write Free (λ m (x : MessagePlace). m < 1024 → IsIn m (list_at q1 j) → is_queued x ≡ true) pl n p placed
           (λ less i. absurd (free.nowhere j i)) (λ m other less i. r.entries.messages j m less (fewer.each j m i)) m less i;
       connects = λ j c less i. r.entries.connects j c less (fewer.each j (1024 + c) i);
       closes = λ j c less i. r.entries.closes j c less (fewer.each j (1088 + c) i);
-      waits = λ c m e. at-write Free (λ m (x : Place). x ≡ Queued c → Waits cl q1 c m) pl n p placed (λ e. absurd (never c e))
+      waits = λ c m e. at-write Free (λ m (x : MessagePlace). x ≡ Queued c → Waits cl q1 c m) pl n p placed (λ e. absurd (never c e))
           (λ m other e. still c m other e) m e;
     }
       where
@@ -167,7 +167,7 @@ module _ (cl : List Client) (pl : List Place) (q cn ss st : Table) (r : IsKept c
         go _ (close c) e = subst (λ y. (client_in pl y < 64) × MessageBelow 1024 y) (sym (close-is c)) (omega (arith, e, small), tt)
 
     -- it is taken
-    pub record IsTaken (e : Entry) : Type 0 where
+    pub record IsTaken (e : QueueEntry) : Type 0 where
       pub kept : IsKept cl (held_by e pl) q1 (unlisted k e cn) ss st
       pub seen : state_of cl (held_by e pl) q1 ss st ≡ taking e (with_queue k (map entry_of ns) old)
 
@@ -205,7 +205,7 @@ module _ (cl : List Client) (pl : List Place) (q cn ss st : Table) (r : IsKept c
         (taken-entry n (kind n) refl).seen ∙ ap (λ t. taking (entry_of n) (with_queue k (map entry_of ns) t)) is ∙ sym (ap (λ es. taken k es s) queue-shape)
 
     -- it goes with its server
-    pub record IsGone (e : Entry) : Type 0 where
+    pub record IsGone (e : QueueEntry) : Type 0 where
       pub kept : IsKept (given_up e cl) (place_freed e pl) q1 (unlisted k e cn) ss (slot_freed e st)
       pub seen : state_of (given_up e cl) (place_freed e pl) q1 ss (slot_freed e st) ≡ going e (with_queue k (map entry_of ns) old)
 
@@ -260,7 +260,7 @@ module _ (cl : List Client) (pl : List Place) (q cn ss st : Table) (r : IsKept c
       pub gone_kept : IsKept (if_taken given_up x cl) (if_taken place_freed x pl) t (if_taken (unlisted k) x cn) ss (if_taken slot_freed x st)
       pub gone_seen : state_of (if_taken given_up x cl) (if_taken place_freed x pl) t ss (if_taken slot_freed x st) ≡ after_next_gone k s
 
-    pub served : (x : Option Taken) (ps : List Place) → x ≡ taken_of ps (first_of (list_at q k)) → ps ≡ pl → IfSome (first_of (list_at q k)) (λ n. n < 1152)
+    pub served : (x : Option Taken) (ps : List MessagePlace) → x ≡ taken_of ps (first_of (list_at q k)) → ps ≡ pl → IfSome (first_of (list_at q k)) (λ n. n < 1152)
         → IfSome (first_of (list_at q k)) (λ n. IsFree t n) → IsServed x
     served x ps e same below free = subst IsServed (sym (e ∙ ap (λ l. taken_of l (first_of (list_at q k))) same)) (go (first_of (list_at q k)) refl below free)
       where
@@ -404,7 +404,7 @@ module _ (cl : List Client) (pl : List Place) (q cn ss st : Table) (r : IsKept c
 
   -- a message is completed ------------------------------------------------------------------------------------------------------------------
   module _ (m : ℕ) (below : m < 1024) (out : IsSome (completion (place_at s m))) where
-    not-queued : (p : Place) → IsSome (completion p) → is_queued p ≡ true → ⊥
+    not-queued : (p : MessagePlace) → IsSome (completion p) → is_queued p ≡ true → ⊥
     not-queued (Queued c) some e = false-true some
     not-queued _ some e = false-true e
 

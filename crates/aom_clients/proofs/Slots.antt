@@ -8,8 +8,8 @@ use Rattle.std.proofs.Math.ListN.{get_or-map}
 use Rattle.aom_clients.specs.Lists.{Table, IsIn, list_at, with_list}
 use Rattle.aom_clients.proofs.Rings.{at-set}
 use Rattle.aom_clients.proofs.Members.{in-either, in-left, in-right}
-use Rattle.aom_clients.specs.declared.place.Place.{Place}
-use Rattle.aom_clients.specs.declared.place.Place.TheVariants.{Free, Queued, Held, Discarded}
+use Rattle.aom_clients.specs.declared.place.MessagePlace.{MessagePlace}
+use Rattle.aom_clients.specs.declared.place.MessagePlace.TheVariants.{Free, Queued, Held, Discarded}
 use Rattle.aom_clients.specs.Table.{is_out_of}
 use Rattle.aom_clients.specs.Clients.{left_place}
 use Rattle.aom_clients.specs.Nodes.{is_held_of, AreSent}
@@ -17,25 +17,25 @@ use Rattle.aom_clients.proofs.Leaving.{place}
 use Rattle.aom_clients.proofs.Plain.{false-true}
 
 -- what another client's message is, it stays
-left-other : (c d : ℕ) (p : Place) → d ≢ c → is_out_of d p ≡ true → left_place c p ≡ p
+left-other : (c d : ℕ) (p : MessagePlace) → d ≢ c → is_out_of d p ≡ true → left_place c p ≡ p
 left-other c d p other e = grind (arith, nat_tests)
 
-held-out : (d : ℕ) (p : Place) → is_held_of d p ≡ true → is_out_of d p ≡ true
+held-out : (d : ℕ) (p : MessagePlace) → is_held_of d p ≡ true → is_out_of d p ≡ true
 held-out d p e = grind (arith, nat_tests)
 
-pub left-queued : (c d : ℕ) (p : Place) → left_place c p ≡ Queued d → (p ≡ Queued d) × (d ≢ c)
+pub left-queued : (c d : ℕ) (p : MessagePlace) → left_place c p ≡ Queued d → (p ≡ Queued d) × (d ≢ c)
 left-queued c d p e = grind (arith, nat_tests)
 
-pub left-held : (c d : ℕ) (p : Place) → left_place c p ≡ Held d → (p ≡ Held d) × (d ≢ c)
+pub left-held : (c d : ℕ) (p : MessagePlace) → left_place c p ≡ Held d → (p ≡ Held d) × (d ≢ c)
 left-held c d p e = grind (arith, nat_tests)
 
-left-discarded : (c d : ℕ) (p : Place) → left_place c p ≡ Discarded d → (p ≡ Discarded d) ⊎ (d ≡ c)
+left-discarded : (c d : ℕ) (p : MessagePlace) → left_place c p ≡ Discarded d → (p ≡ Discarded d) ⊎ (d ≡ c)
 left-discarded c d p e = grind (arith, nat_tests)
 
-pub left-at : (c : ℕ) (pl : List Place) (m : ℕ) → place (map (left_place c) pl) m ≡ left_place c (place pl m)
+pub left-at : (c : ℕ) (pl : List MessagePlace) (m : ℕ) → place (map (left_place c) pl) m ≡ left_place c (place pl m)
 left-at c pl m = get_or-map (left_place c) pl m Free
 
-module _ (pl : List Place) (st : Table) (c : ℕ) (small : c < 64) (long : length st.lists ≡ 128) (s : AreSent pl st) where
+module _ (pl : List MessagePlace) (st : Table) (c : ℕ) (small : c < 64) (long : length st.lists ≡ 128) (s : AreSent pl st) where
   listed : c < length st.lists
   listed = omega (arith, small, long)
 

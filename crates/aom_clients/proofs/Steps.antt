@@ -8,9 +8,9 @@ use Rattle.std.proofs.lemmas.List.{length-set, length-map, get_or-set_same, get_
 use Rattle.aom_clients.specs.Lists.{Table, IsIn, IsFree, list_at, with_list}
 use Rattle.aom_clients.specs.declared.client.Client.{Client}
 use Rattle.aom_clients.specs.declared.client.Client.TheVariants.{Unconnected, Connecting, Open, Closing, Gone, Dead, Dying}
-use Rattle.aom_clients.specs.declared.place.Place.{Place}
-use Rattle.aom_clients.specs.declared.place.Place.TheVariants.{Free, Queued}
-use Rattle.aom_clients.specs.declared.entry.Entry.TheVariants.{Connect, Message}
+use Rattle.aom_clients.specs.declared.place.MessagePlace.{MessagePlace}
+use Rattle.aom_clients.specs.declared.place.MessagePlace.TheVariants.{Free, Queued}
+use Rattle.aom_clients.specs.declared.entry.QueueEntry.TheVariants.{Connect, Message}
 use Rattle.aom_clients.specs.Table.{row, server_of, is_queued, is_out_of, at_gone}
 use Rattle.aom_clients.specs.Clients.{sessions_at, State, client_at, place_at, queue_at, sent_at, with_client, with_place, with_sent, queued}
 use Rattle.aom_clients.specs.Nodes.{entry_of, is_connecting_at, is_leaving, is_open_at, slots_of, named_by, is_held_of, state_of, Waits, IsKept}
@@ -131,14 +131,14 @@ take-set-lt (suc n) [] i v small = refl
 take-set-lt (suc n) (x ∷ xs) zero v small = refl
 take-set-lt (suc n) (x ∷ xs) (suc i) v small = ap (λ ys. x ∷ ys) (take-set-lt n xs i v (omega (arith, small)))
 
-pub never-free : (p : Place) → is_queued p ≡ true → p ≡ Free → ⊥
+pub never-free : (p : MessagePlace) → is_queued p ≡ true → p ≡ Free → ⊥
 never-free p e f = false-true (sym (ap is_queued f) ∙ e)
 
-pub queued-of : (p : Place) → is_queued p ≡ true → (c : ℕ) × (p ≡ Queued c)
+pub queued-of : (p : MessagePlace) → is_queued p ≡ true → (c : ℕ) × (p ≡ Queued c)
 queued-of (Queued c) e = (c, refl)
 queued-of _ e = absurd (false-true e)
 
-module _ (cl : List Client) (pl : List Place) (q cn ss st : Table) (r : IsKept cl pl q cn ss st) (s : State) (is : state_of cl pl q ss st ≡ s) where
+module _ (cl : List Client) (pl : List MessagePlace) (q cn ss st : Table) (r : IsKept cl pl q cn ss st) (s : State) (is : state_of cl pl q ss st ≡ s) where
   -- the words of contracts and those of the lists
   pub client-is : (c : ℕ) → client cl c ≡ client_at s c
   client-is c = ap (λ t. client_at t c) is
@@ -246,10 +246,10 @@ module _ (cl : List Client) (pl : List Place) (q cn ss st : Table) (r : IsKept c
     pub send-free : IsFree st m
     send-free = record { nowhere = λ l i. go l (cases_lt l 64) (cases_lt l 128) i }
       where
-        out-free : (d : ℕ) (p : Place) → p ≡ Free → is_out_of d p ≡ true → ⊥
+        out-free : (d : ℕ) (p : MessagePlace) → p ≡ Free → is_out_of d p ≡ true → ⊥
         out-free d p e h = false-true (sym (ap (is_out_of d) e) ∙ h)
 
-        held-free : (d : ℕ) (p : Place) → p ≡ Free → is_held_of d p ≡ true → ⊥
+        held-free : (d : ℕ) (p : MessagePlace) → p ≡ Free → is_held_of d p ≡ true → ⊥
         held-free d p e h = false-true (sym (ap (is_held_of d) e) ∙ h)
 
         go : (l : ℕ) → (l < 64) ⊎ (64 ≤ l) → (l < 128) ⊎ (128 ≤ l) → IsIn m (list_at st l) → ⊥
@@ -265,7 +265,7 @@ module _ (cl : List Client) (pl : List Place) (q cn ss st : Table) (r : IsKept c
     abbrev st2 : Table
     st2 = with_list c (list_at st c ++ m ∷ []) st
 
-    abbrev pl2 : List Place
+    abbrev pl2 : List MessagePlace
     pl2 = slice_set pl m (Queued c)
 
     placed : m < length pl
@@ -281,11 +281,11 @@ module _ (cl : List Client) (pl : List Place) (q cn ss st : Table) (r : IsKept c
         sized = sized-as _ _ _ _ _ _ _ _ _ _ _ _ refl (length-set pl m (Queued c)) (alike-with q k (list_at q k ++ m ∷ [])) (alike-same cn) (alike-same ss)
             (alike-with st c (list_at st c ++ m ∷ [])) r.sized;
         entries = record {
-          messages = λ j n less i. at-write Free (λ n (p : Place). n < 1024 → IsIn n (list_at q2 j) → is_queued p ≡ true) pl m (Queued c) placed
+          messages = λ j n less i. at-write Free (λ n (p : MessagePlace). n < 1024 → IsIn n (list_at q2 j) → is_queued p ≡ true) pl m (Queued c) placed
               (λ less i. refl) (λ n other less i. r.entries.messages j n less (old j n other (pushed-in q k m j n send-cell i))) n less i;
           connects = λ j d less i. r.entries.connects j d less (old j (1024 + d) (λ e. absurd (omega (arith, e, below))) (pushed-in q k m j (1024 + d) send-cell i));
           closes = λ j d less i. r.entries.closes j d less (old j (1088 + d) (λ e. absurd (omega (arith, e, below))) (pushed-in q k m j (1088 + d) send-cell i));
-          waits = λ d n e. at-write Free (λ n (p : Place). p ≡ Queued d → Waits cl q2 d n) pl m (Queued c) placed (λ e. now d e) (λ n other e. still d n e) n e;
+          waits = λ d n e. at-write Free (λ n (p : MessagePlace). p ≡ Queued d → Waits cl q2 d n) pl m (Queued c) placed (λ e. now d e) (λ n other e. still d n e) n e;
         };
         listed = listed-push-other q cn k m send-cell (message-no m below) r.listed;
         connected = r.connected;

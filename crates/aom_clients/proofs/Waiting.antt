@@ -4,18 +4,18 @@ use Rattle.std.specs.Prelude.{option_map, slice_get}
 use Rattle.std.proofs.lemmas.Option.{slice_get-map}
 use Rattle.aom_clients.specs.Lists.{Table, list_at}
 use Rattle.aom_clients.specs.declared.client.Client.{Client}
-use Rattle.aom_clients.specs.declared.place.Place.{Place}
-use Rattle.aom_clients.specs.declared.entry.Entry.{Entry}
-use Rattle.aom_clients.specs.declared.entry.Entry.TheVariants.{Connect, Message, Close}
+use Rattle.aom_clients.specs.declared.place.MessagePlace.{MessagePlace}
+use Rattle.aom_clients.specs.declared.entry.QueueEntry.{QueueEntry}
+use Rattle.aom_clients.specs.declared.entry.QueueEntry.TheVariants.{Connect, Message, Close}
 use Rattle.aom_clients.specs.Table.{sender}
 use Rattle.aom_clients.specs.Clients.{State, queue_at, taken_entry}
 use Rattle.aom_clients.specs.Nodes.{IsKept, entry_of, state_of}
 use Rattle.aom_clients.specs.Parts.{client_in}
 use Rattle.aom_clients.proofs.Steps.{place-is, queue-is}
 
-module _ (cl : List Client) (pl : List Place) (q cn ss st : Table) (r : IsKept cl pl q cn ss st) (s : State) (is : state_of cl pl q ss st ≡ s) where
+module _ (cl : List Client) (pl : List MessagePlace) (q cn ss st : Table) (r : IsKept cl pl q cn ss st) (s : State) (is : state_of cl pl q ss st ≡ s) where
   -- an entry is told with its client
-  pub taken-told : (e : Entry) → Some (record { entry = e; client = client_in pl e }) ≡ Some (taken_entry s e)
+  pub taken-told : (e : QueueEntry) → Some (record { entry = e; client = client_in pl e }) ≡ Some (taken_entry s e)
   taken-told (Message m) = ap (λ p. Some (record { entry = Message m; client = sender p })) (place-is cl pl q cn ss st r s is m)
   taken-told (Connect c) = refl
   taken-told (Close c) = refl

@@ -2,13 +2,13 @@
 use Rattle.std.specs.Prelude.{◌==◌, ◌<◌, ◌+◌, ◌++◌, ℕ, Bool, true, false, not, nat_lt, if◌then◌else◌, List, [], ◌∷◌, Option, Some, None, Result, Ok, Err, length, map, filter, replicate, slice_index_or, slice_set}
 use Rattle.aom_clients.specs.declared.client.Client.{Client}
 use Rattle.aom_clients.specs.declared.client.Client.TheVariants.{Unconnected, Connecting, Open, Closing, Dead, Dying}
-use Rattle.aom_clients.specs.declared.refusal.Refusal.{Refusal}
-use Rattle.aom_clients.specs.declared.refusal.Refusal.TheVariants.{NotFound, ServerBusy}
-use Rattle.aom_clients.specs.declared.place.Place.{Place}
-use Rattle.aom_clients.specs.declared.place.Place.TheVariants.{Free, Queued}
+use Rattle.aom_clients.specs.declared.refusal.CommandRefusal.{CommandRefusal}
+use Rattle.aom_clients.specs.declared.refusal.CommandRefusal.TheVariants.{NotFound, ServerBusy}
+use Rattle.aom_clients.specs.declared.place.MessagePlace.{MessagePlace}
+use Rattle.aom_clients.specs.declared.place.MessagePlace.TheVariants.{Free, Queued}
 use Rattle.aom_clients.specs.declared.server.Server.{Server}
-use Rattle.aom_clients.specs.declared.entry.Entry.{Entry}
-use Rattle.aom_clients.specs.declared.entry.Entry.TheVariants.{Connect, Message, Close}
+use Rattle.aom_clients.specs.declared.entry.QueueEntry.{QueueEntry}
+use Rattle.aom_clients.specs.declared.entry.QueueEntry.TheVariants.{Connect, Message, Close}
 use Rattle.aom_clients.specs.declared.entry.Taken.{Taken}
 use Rattle.aom_clients.specs.Table.{row, at_gone, has_cell, released, sender, is_queued, is_out_of, is_waiting_of, closed_place, held_place}
 
@@ -16,8 +16,8 @@ use Rattle.aom_clients.specs.Table.{row, at_gone, has_cell, released, sender, is
 -- each server, in order of connection, and of each client the messages that hold a slot of it, the first sent first
 pub record State : Type 0 where
   pub clients : List Client
-  pub places : List Place
-  pub queues : List (List Entry)
+  pub places : List MessagePlace
+  pub queues : List (List QueueEntry)
   pub sessions : List (List ℕ)
   pub sent : List (List ℕ)
 
@@ -29,10 +29,10 @@ at_first cells =
 abbrev pub client_at : State → ℕ → Client
 client_at s c = slice_index_or s.clients c Unconnected
 
-abbrev pub place_at : State → ℕ → Place
+abbrev pub place_at : State → ℕ → MessagePlace
 place_at s m = slice_index_or s.places m Free
 
-abbrev pub queue_at : State → ℕ → List Entry
+abbrev pub queue_at : State → ℕ → List QueueEntry
 queue_at s k = slice_index_or s.queues k []
 
 abbrev pub sessions_at : State → ℕ → List ℕ
@@ -45,10 +45,10 @@ sent_at s c = slice_index_or s.sent c []
 abbrev pub with_client : ℕ → Client → State → State
 with_client c to s = record s { clients = slice_set s.clients c to }
 
-abbrev pub with_place : ℕ → Place → State → State
+abbrev pub with_place : ℕ → MessagePlace → State → State
 with_place m to s = record s { places = slice_set s.places m to }
 
-abbrev pub with_queue : ℕ → List Entry → State → State
+abbrev pub with_queue : ℕ → List QueueEntry → State → State
 with_queue k entries s = record s { queues = slice_set s.queues k entries }
 
 abbrev pub with_sessions : ℕ → List ℕ → State → State
@@ -58,16 +58,16 @@ abbrev pub with_sent : ℕ → List ℕ → State → State
 with_sent c messages s = record s { sent = slice_set s.sent c messages }
 
 -- an entry is queued last
-abbrev pub queued : ℕ → Entry → State → State
+abbrev pub queued : ℕ → QueueEntry → State → State
 queued k entry s = with_queue k (queue_at s k ++ entry ∷ []) s
 
 -- a command that is refused, or not
-abbrev pub answer : Option Refusal → Result (Unit {0}) Refusal
+abbrev pub answer : Option CommandRefusal → Result (Unit {0}) CommandRefusal
 answer None = Ok tt
 answer (Some refusal) = Err refusal
 
 -- connect ------------------------------------------------------------------------------------------------------------------------------
-abbrev pub is_connect : Entry → Bool
+abbrev pub is_connect : QueueEntry → Bool
 is_connect (Connect client) = true
 is_connect other = false
 
@@ -75,16 +75,16 @@ is_connect other = false
 abbrev pub has_room : Server → State → Bool
 has_room server s = nat_lt (length (sessions_at s server.cell) + length (filter is_connect (queue_at s server.cell))) server.most
 
-abbrev pub asked : Option Refusal → Option Server → State → Option Refusal
+abbrev pub asked : Option CommandRefusal → Option Server → State → Option CommandRefusal
 asked (Some refusal) server s = Some refusal
 asked None None s = Some NotFound
 asked None (Some server) s = if has_room server s then None else Some ServerBusy
 
 -- why a connect is refused
-abbrev pub connect_refusal : ℕ → Option Server → State → Option Refusal
+abbrev pub connect_refusal : ℕ → Option Server → State → Option CommandRefusal
 connect_refusal c server s = asked (row (client_at s c)).connect server s
 
-abbrev pub connecting : Option Refusal → ℕ → Option Server → ℕ → State → State
+abbrev pub connecting : Option CommandRefusal → ℕ → Option Server → ℕ → State → State
 connecting None c (Some server) slots s = queued server.cell (Connect c) (with_client c (Connecting server.cell slots) s)
 connecting other c server slots s = s
 
@@ -98,16 +98,16 @@ abbrev pub has_slot : ℕ → Client → Bool
 has_slot used (Open server session slots) = nat_lt used slots
 has_slot used other = false
 
-abbrev pub sending_to : Option Refusal → Bool → Option ℕ → Option Refusal
+abbrev pub sending_to : Option CommandRefusal → Bool → Option ℕ → Option CommandRefusal
 sending_to (Some refusal) free place = Some refusal
 sending_to None true (Some place) = None
 sending_to None free place = Some ServerBusy
 
 -- why a send is refused; the place is one that is free, if any is
-abbrev pub send_refusal : ℕ → Option ℕ → State → Option Refusal
+abbrev pub send_refusal : ℕ → Option ℕ → State → Option CommandRefusal
 send_refusal c place s = sending_to (row (client_at s c)).send (has_slot (length (sent_at s c)) (client_at s c)) place
 
-abbrev pub sending : Option Refusal → Client → ℕ → Option ℕ → State → State
+abbrev pub sending : Option CommandRefusal → Client → ℕ → Option ℕ → State → State
 sending None (Open server session slots) c (Some m) s = queued server (Message m) (with_sent c (sent_at s c ++ m ∷ []) (with_place m (Queued c) s))
 sending other client c place s = s
 
@@ -117,11 +117,11 @@ after_send c place s = sending (send_refusal c place s) (client_at s c) c place 
 
 -- close and die ------------------------------------------------------------------------------------------------------------------------
 -- a place after its client's close or death, and one of another client as before
-abbrev pub left_place : ℕ → Place → Place
+abbrev pub left_place : ℕ → MessagePlace → MessagePlace
 left_place c p = if is_out_of c p then closed_place p else p
 
 -- an entry stays that is no connect of the client and no message of it
-abbrev pub stays : ℕ → List Place → Entry → Bool
+abbrev pub stays : ℕ → List MessagePlace → QueueEntry → Bool
 stays c places (Connect client) = not (client == c)
 stays c places (Message m) = not (is_waiting_of c (slice_index_or places m Free))
 stays c places (Close client) = true
@@ -153,13 +153,13 @@ freed (Some to) c s = filter (λ m. is_queued (place_at s m)) (sent_at s c)
 
 -- a service ----------------------------------------------------------------------------------------------------------------------------
 -- the place of an entry's message is below that number
-abbrev pub MessageBelow : ℕ → Entry → Type 0
+abbrev pub MessageBelow : ℕ → QueueEntry → Type 0
 MessageBelow n (Connect client) = Unit {0}
 MessageBelow n (Message m) = m < n
 MessageBelow n (Close client) = Unit {0}
 
 -- the entry and the client that it is of
-abbrev pub taken_entry : State → Entry → Taken
+abbrev pub taken_entry : State → QueueEntry → Taken
 taken_entry s (Connect client) = record { entry = Connect client; client = client }
 taken_entry s (Message m) = record { entry = Message m; client = sender (place_at s m) }
 taken_entry s (Close client) = record { entry = Close client; client = client }
@@ -169,16 +169,16 @@ abbrev pub IsNumbered : Taken → Type 0
 IsNumbered t = (t.client < 64) × MessageBelow 1024 t.entry
 
 -- the first entry of a queue
-abbrev pub first_entry : State → List Entry → Option Taken
+abbrev pub first_entry : State → List QueueEntry → Option Taken
 first_entry s [] = None
 first_entry s (e ∷ es) = Some (taken_entry s e)
 
 -- a message that is taken is held
-abbrev pub taking : Entry → State → State
+abbrev pub taking : QueueEntry → State → State
 taking (Message m) s = with_place m (held_place (place_at s m)) s
 taking other s = s
 
-abbrev pub taken : ℕ → List Entry → State → State
+abbrev pub taken : ℕ → List QueueEntry → State → State
 taken k [] s = s
 taken k (e ∷ es) s = taking e (with_queue k es s)
 
@@ -191,11 +191,11 @@ abbrev pub after_release : ℕ → State → State
 after_release c s = with_client c (released (client_at s c)) s
 
 -- no connect of the client is in a queue, and no close
-abbrev pub is_no_connect_of : ℕ → Entry → Bool
+abbrev pub is_no_connect_of : ℕ → QueueEntry → Bool
 is_no_connect_of c (Connect client) = not (client == c)
 is_no_connect_of c other = true
 
-abbrev pub is_no_close_of : ℕ → Entry → Bool
+abbrev pub is_no_close_of : ℕ → QueueEntry → Bool
 is_no_close_of c (Close client) = not (client == c)
 is_no_close_of c other = true
 
@@ -232,12 +232,12 @@ after_complete m s = record s { places = slice_set s.places m Free; sent = map (
 
 -- the going of a server ----------------------------------------------------------------------------------------------------------------
 -- an entry goes with its server: a connect and a message are completed
-abbrev pub going : Entry → State → State
+abbrev pub going : QueueEntry → State → State
 going (Connect client) s = with_client client Unconnected s
 going (Message m) s = after_complete m s
 going (Close client) s = s
 
-abbrev pub gone : ℕ → List Entry → State → State
+abbrev pub gone : ℕ → List QueueEntry → State → State
 gone k [] s = s
 gone k (e ∷ es) s = going e (with_queue k es s)
 
@@ -254,7 +254,7 @@ abbrev pub after_session_gone : ℕ → State → State
 after_session_gone k s = session_gone k (sessions_at s k) s
 
 -- what is left once all that goes with a server went: the entries of its queue in their order, and then its sessions in theirs
-abbrev pub queue_gone : ℕ → List Entry → State → State
+abbrev pub queue_gone : ℕ → List QueueEntry → State → State
 queue_gone k [] s = s
 queue_gone k (e ∷ es) s = queue_gone k es (gone k (e ∷ es) s)
 

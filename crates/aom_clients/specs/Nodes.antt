@@ -3,15 +3,15 @@ use Rattle.std.specs.Prelude.{◌≡◌, ◌≤◌, ◌<◌, ◌+◌, ◌-◌, �
 use Rattle.aom_clients.specs.Lists.{Table, IsIn, list_at}
 use Rattle.aom_clients.specs.declared.client.Client.{Client}
 use Rattle.aom_clients.specs.declared.client.Client.TheVariants.{Unconnected, Connecting, Open, Closing, Dying}
-use Rattle.aom_clients.specs.declared.place.Place.{Place}
-use Rattle.aom_clients.specs.declared.place.Place.TheVariants.{Free, Queued, Held, Discarded}
-use Rattle.aom_clients.specs.declared.entry.Entry.{Entry}
-use Rattle.aom_clients.specs.declared.entry.Entry.TheVariants.{Connect, Message, Close}
+use Rattle.aom_clients.specs.declared.place.MessagePlace.{MessagePlace}
+use Rattle.aom_clients.specs.declared.place.MessagePlace.TheVariants.{Free, Queued, Held, Discarded}
+use Rattle.aom_clients.specs.declared.entry.QueueEntry.{QueueEntry}
+use Rattle.aom_clients.specs.declared.entry.QueueEntry.TheVariants.{Connect, Message, Close}
 use Rattle.aom_clients.specs.Table.{server_of, is_queued, is_out_of}
 use Rattle.aom_clients.specs.Clients.{State}
 
 -- the entry that a node stands for
-abbrev pub entry_of : ℕ → Entry
+abbrev pub entry_of : ℕ → QueueEntry
 entry_of n = if nat_lt n 1024 then Message n else (if nat_lt n 1088 then Connect (n - 1024) else Close (n - 1088))
 
 -- the nodes of connects
@@ -51,17 +51,17 @@ named_by (Connecting server slots) = Some server
 named_by other = server_of other
 
 -- the message is held, by a service of this client
-abbrev pub is_held_of : ℕ → Place → Bool
+abbrev pub is_held_of : ℕ → MessagePlace → Bool
 is_held_of c (Held client) = client == c
 is_held_of c other = false
 
 -- the state that the lists tell: the queues by their nodes, and the messages with a slot in the first 64 lists
-abbrev pub state_of : List Client → List Place → Table → Table → Table → State
+abbrev pub state_of : List Client → List MessagePlace → Table → Table → Table → State
 state_of clients places queues sessions sent =
     record { clients = clients; places = places; queues = map (map entry_of) queues.lists; sessions = sessions.lists; sent = take 64 sent.lists }
 
 -- how many of each there are
-pub record AreSized (clients : List Client) (places : List Place) (queues connects sessions sent : Table) : Type 0 where
+pub record AreSized (clients : List Client) (places : List MessagePlace) (queues connects sessions sent : Table) : Type 0 where
   pub clients_long : length clients ≡ 64
   pub places_long : length places ≡ 1024
   pub queues_nodes : queues.nodes ≡ 1152
@@ -80,7 +80,7 @@ pub record Waits (clients : List Client) (queues : Table) (c m : ℕ) : Type 0 w
   pub there : IsIn m (list_at queues server)
 
 -- an entry is of a client that is at it, and of a message that waits
-pub record AreEntries (clients : List Client) (places : List Place) (queues : Table) : Type 0 where
+pub record AreEntries (clients : List Client) (places : List MessagePlace) (queues : Table) : Type 0 where
   pub messages : (k m : ℕ) → m < 1024 → IsIn m (list_at queues k) → is_queued (slice_index_or places m Free) ≡ true
   pub connects : (k c : ℕ) → c < 64 → IsIn (1024 + c) (list_at queues k) → is_connecting_at k (slice_index_or clients c Unconnected) ≡ true
   pub closes : (k c : ℕ) → c < 64 → IsIn (1088 + c) (list_at queues k) → is_leaving k (slice_index_or clients c Unconnected) ≡ true
@@ -96,7 +96,7 @@ pub record AreSessions (clients : List Client) (sessions : Table) : Type 0 where
   pub listed : (k c : ℕ) → server_of (slice_index_or clients c Unconnected) ≡ Some k → IsIn c (list_at sessions k)
 
 -- the messages of each client that wait or are held, with a slot of it, and those that are held and have no slot any more
-pub record AreSent (places : List Place) (sent : Table) : Type 0 where
+pub record AreSent (places : List MessagePlace) (sent : Table) : Type 0 where
   pub out : (c m : ℕ) → c < 64 → IsIn m (list_at sent c) → is_out_of c (slice_index_or places m Free) ≡ true
   pub past : (c m : ℕ) → c < 64 → IsIn m (list_at sent (64 + c)) → is_held_of c (slice_index_or places m Free) ≡ true
   pub waiting : (c m : ℕ) → slice_index_or places m Free ≡ Queued c → (c < 64) × IsIn m (list_at sent c)
@@ -110,7 +110,7 @@ pub record AreNamed (clients : List Client) (cells : ℕ) : Type 0 where
   pub slots : (c : ℕ) → slots_of (slice_index_or clients c Unconnected) ≤ 64
 
 -- all of these
-pub record IsKept (clients : List Client) (places : List Place) (queues connects sessions sent : Table) : Type 0 where
+pub record IsKept (clients : List Client) (places : List MessagePlace) (queues connects sessions sent : Table) : Type 0 where
   pub sized : AreSized clients places queues connects sessions sent
   pub entries : AreEntries clients places queues
   pub listed : AreConnects queues connects

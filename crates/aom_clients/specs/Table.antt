@@ -2,14 +2,14 @@
 use Rattle.std.specs.Prelude.{◌==◌, ℕ, ℤ, negsuc, Bool, true, false, not, Option, Some, None}
 use Rattle.aom_clients.specs.declared.client.Client.{Client}
 use Rattle.aom_clients.specs.declared.client.Client.TheVariants.{Unconnected, Connecting, Open, Closing, Gone, Dead, Dying}
-use Rattle.aom_clients.specs.declared.refusal.Refusal.{Refusal}
-use Rattle.aom_clients.specs.declared.refusal.Refusal.TheVariants.{NotFound, Died, ServerTerminated, ServerBusy}
-use Rattle.aom_clients.specs.declared.place.Place.{Place}
-use Rattle.aom_clients.specs.declared.place.Place.TheVariants.{Free, Queued, Held, Discarded}
+use Rattle.aom_clients.specs.declared.refusal.CommandRefusal.{CommandRefusal}
+use Rattle.aom_clients.specs.declared.refusal.CommandRefusal.TheVariants.{NotFound, Died, ServerTerminated, ServerBusy}
+use Rattle.aom_clients.specs.declared.place.MessagePlace.{MessagePlace}
+use Rattle.aom_clients.specs.declared.place.MessagePlace.TheVariants.{Free, Queued, Held, Discarded}
 use Rattle.aom_clients.specs.declared.place.Completion.{Completion}
 
 -- the code that a refused client is told
-abbrev pub code_of : Refusal → ℤ
+abbrev pub code_of : CommandRefusal → ℤ
 code_of NotFound = negsuc 0
 code_of Died = negsuc 12
 code_of ServerTerminated = negsuc 14
@@ -18,12 +18,12 @@ code_of ServerBusy = negsuc 15
 -- of each command: why it is refused, where the client alone decides that, or what the client is at then, if anything comes of it;
 -- a connect that is not refused so asks the server, and a send asks for a slot and a place
 pub record Row : Type 0 where
-  pub connect : Option Refusal
-  pub send : Option Refusal
+  pub connect : Option CommandRefusal
+  pub send : Option CommandRefusal
   pub close : Option Client
   pub die : Option Client
 
-abbrev row_of : Option Refusal → Option Refusal → Option Client → Option Client → Row
+abbrev row_of : Option CommandRefusal → Option CommandRefusal → Option Client → Option Client → Row
 row_of connect send close die = record { connect = connect; send = send; close = close; die = die }
 
 -- | at            | connect       | send               | close          | die   |
@@ -82,41 +82,41 @@ released (Dying server session) = Dying server no_cell
 released other = other
 
 -- the client that sent the message of a place; 0 where there is none
-abbrev pub sender : Place → ℕ
+abbrev pub sender : MessagePlace → ℕ
 sender Free = 0
 sender (Queued client) = client
 sender (Held client) = client
 sender (Discarded client) = client
 
 -- the place has a message that waits in a queue
-abbrev pub is_queued : Place → Bool
+abbrev pub is_queued : MessagePlace → Bool
 is_queued (Queued client) = true
 is_queued other = false
 
 -- what is left of a message when its client closes or dies: one that waits is no more, and one that is held is discarded
-abbrev pub closed_place : Place → Place
+abbrev pub closed_place : MessagePlace → MessagePlace
 closed_place (Queued client) = Free
 closed_place (Held client) = Discarded client
 closed_place other = other
 
 -- a message that waited is held once it is taken
-abbrev pub held_place : Place → Place
+abbrev pub held_place : MessagePlace → MessagePlace
 held_place (Queued client) = Held client
 held_place other = other
 
 -- how a message that was taken is completed: its client is told, unless it is discarded
-abbrev pub completion : Place → Option Completion
+abbrev pub completion : MessagePlace → Option Completion
 completion (Held client) = Some (record { client = client; is_told = true })
 completion (Discarded client) = Some (record { client = client; is_told = false })
 completion other = None
 
 -- the message waits or is held, and is of that client
-abbrev pub is_out_of : ℕ → Place → Bool
+abbrev pub is_out_of : ℕ → MessagePlace → Bool
 is_out_of c (Queued client) = client == c
 is_out_of c (Held client) = client == c
 is_out_of c other = false
 
 -- the message waits, and is of that client
-abbrev pub is_waiting_of : ℕ → Place → Bool
+abbrev pub is_waiting_of : ℕ → MessagePlace → Bool
 is_waiting_of c (Queued client) = client == c
 is_waiting_of c other = false

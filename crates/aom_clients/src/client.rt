@@ -2,7 +2,7 @@
 ghost use Rattle.std.specs.Prelude.{◌≡◌};
 ghost use Rattle.aom_clients.specs.Table.{row, session_of, has_cell, released, at_gone};
 
-use crate::Refusal;
+use crate::CommandRefusal;
 
 /// The number of a session whose cell goes: no cell has it.
 pub const NO_CELL: u16 = 65535;
@@ -39,28 +39,28 @@ pub enum Client {
 
 impl Client {
     /// Why a connect is refused whatever the server says.
-    pub(crate) fn connect_refusal(self) -> Option<Refusal>
+    pub(crate) fn connect_refusal(self) -> Option<CommandRefusal>
         ensures { result ≡ (row self).connect }
     {
         match self {
             Client::Unconnected | Client::Gone => None,
             Client::Connecting { .. } | Client::Open { .. } | Client::Closing { .. } => {
-                Some(Refusal::ServerBusy)
+                Some(CommandRefusal::ServerBusy)
             }
-            Client::Dead | Client::Dying { .. } => Some(Refusal::Died),
+            Client::Dead | Client::Dying { .. } => Some(CommandRefusal::Died),
         }
     }
 
     /// Why a send is refused whatever room there is.
-    pub(crate) fn send_refusal(self) -> Option<Refusal>
+    pub(crate) fn send_refusal(self) -> Option<CommandRefusal>
         ensures { result ≡ (row self).send }
     {
         match self {
-            Client::Unconnected => Some(Refusal::NotFound),
+            Client::Unconnected => Some(CommandRefusal::NotFound),
             Client::Open { .. } => None,
-            Client::Connecting { .. } | Client::Closing { .. } => Some(Refusal::ServerBusy),
-            Client::Gone => Some(Refusal::ServerTerminated),
-            Client::Dead | Client::Dying { .. } => Some(Refusal::Died),
+            Client::Connecting { .. } | Client::Closing { .. } => Some(CommandRefusal::ServerBusy),
+            Client::Gone => Some(CommandRefusal::ServerTerminated),
+            Client::Dead | Client::Dying { .. } => Some(CommandRefusal::Died),
         }
     }
 

@@ -2,7 +2,7 @@
 ghost use Rattle.aom_clients.specs.Lists.{IsIn, IsOnce};
 ghost use Rattle.std.specs.Prelude.{ℕ, ◌≡◌, ◌<◌, ◌≤◌, ◌++◌, ◌∷◌, [], true, false, Some, None, IfOk, IfSome, IsSome, IsNone, All, length, option_map, replicate, is_some, slice_get};
 ghost use Rattle.aom_clients.specs.Table.{row, completion, session_of, server_of};
-ghost use Rattle.aom_clients.specs.declared.entry.Entry.{Entry};
+ghost use Rattle.aom_clients.specs.declared.entry.QueueEntry.{QueueEntry};
 ghost use Rattle.aom_clients.specs.Clients.{at_first, IsNumbered, client_at, place_at, queue_at, sessions_at, sent_at, with_client, with_place, with_sent, queued, answer, has_room, connect_refusal, after_connect, has_slot, send_refusal, after_send, leaving, after_close, after_die, freed, first_entry, after_next, opened, after_connected, after_release, parted, after_closed, after_complete, after_next_gone, after_session_gone, first_client, client_after, first_there, taken_entry, MessageBelow};
 ghost use Rattle.aom_clients.specs.Nodes.{is_open_at, named_by};
 ghost use Rattle.aom_clients.specs.Parts.{IsLeft, is_connecting, is_ending, is_apart};
@@ -10,7 +10,7 @@ ghost use Rattle.aom_clients.specs.Parts.{IsLeft, is_connecting, is_ending, is_a
 use crate::entry::{CLIENTS, PLACES, close_node, connect_node};
 use crate::parts::{client_of, free_place, free_slot, give_up, hold, queue_close, take};
 use crate::withdrawal::{SLOTS, release, withdraw_all};
-use crate::{Client, Completion, Entry, Lists, Place, Refusal, Server, Taken};
+use crate::{Client, CommandRefusal, Completion, Lists, MessagePlace, QueueEntry, Server, Taken};
 use arrayvec::ArrayVec;
 use std::alloc::{AllocError, Global};
 use std::marker::Model;
@@ -19,7 +19,7 @@ use std::marker::Model;
 #[derive(Drop)]
 pub struct Clients {
     clients: Vec<Client>,
-    places: Vec<Place>,
+    places: Vec<MessagePlace>,
     /// The queue of each server, by nodes.
     queues: Lists,
     /// The clients of the connects in each queue.
@@ -81,7 +81,7 @@ impl Clients {
     }
 
     /// What a message place has.
-    pub fn place(&self, place: u16) -> Place
+    pub fn place(&self, place: u16) -> MessagePlace
         requires { place < 1024 }
         ensures { result ≡ place_at self.now place }
     {
@@ -122,7 +122,7 @@ impl Clients {
     {
         self.queues.in_order();
         let node = self.queues.at(server, ahead)?;
-        let entry = Entry::of_node(node);
+        let entry = QueueEntry::of_node(node);
         let client = client_of(&self.places, entry);
         Some(Taken { entry, client })
     }
@@ -183,7 +183,7 @@ impl Clients {
     }
 
     /// Why a connect to the server, if one was found, is refused.
-    fn connect_refusal(&self, client: u8, server: Option<Server>) -> Option<Refusal>
+    fn connect_refusal(&self, client: u8, server: Option<Server>) -> Option<CommandRefusal>
         requires client { client < 64 }
         requires server { IfSome server (λ k. k.cell < length self.now.queues) }
         ensures { result ≡ connect_refusal client server self.now }
@@ -193,14 +193,19 @@ impl Clients {
             return refusal;
         }
         match server {
-            None => Some(Refusal::NotFound),
+            None => Some(CommandRefusal::NotFound),
             Some(server) if self.has_room(server) => None,
-            Some(_) => Some(Refusal::ServerBusy),
+            Some(_) => Some(CommandRefusal::ServerBusy),
         }
     }
 
     /// A client asks a server for a session with so many slots; the caller looked for the server. A refusal changes nothing.
-    pub fn connect(&mut self, client: u8, server: Option<Server>, slots: u8) -> Result<(), Refusal>
+    pub fn connect(
+        &mut self,
+        client: u8,
+        server: Option<Server>,
+        slots: u8,
+    ) -> Result<(), CommandRefusal>
         requires client { client < 64 }
         requires server { IfSome server (λ k. k.cell < length self.old.queues) }
         requires slots { slots ≤ 64 }
@@ -222,7 +227,7 @@ impl Clients {
         requires server { server < length self.old.queues }
         requires slots { slots ≤ 64 }
         requires away { (row (client_at self.old client)).connect ≡ None }
-        ensures { self.new ≡ queued server (Entry.Connect client) (with_client client (Client.Connecting server slots) self.old) }
+        ensures { self.new ≡ queued server (QueueEntry.Connect client) (with_client client (Client.Connecting server slots) self.old) }
     {
         self.queues.push_last(server, connect_node(client));
         self.connects.push_last(server, client as u16);
@@ -241,7 +246,7 @@ impl Clients {
     }
 
     /// Why a send is refused that has this message place, if one was found.
-    fn send_refusal(&self, client: u8, place: Option<u16>) -> Option<Refusal>
+    fn send_refusal(&self, client: u8, place: Option<u16>) -> Option<CommandRefusal>
         requires { client < 64 }
         ensures { result ≡ send_refusal client place self.now }
     {
@@ -252,14 +257,14 @@ impl Clients {
         if self.has_slot(client) && place.is_some() {
             None
         } else {
-            Some(Refusal::ServerBusy)
+            Some(CommandRefusal::ServerBusy)
         }
     }
 
     /// A client sends its server a message, which has the place; the caller looked for a free one. A refusal changes nothing.
-    pub fn send(&mut self, client: u8, place: Option<u16>) -> Result<(), Refusal>
+    pub fn send(&mut self, client: u8, place: Option<u16>) -> Result<(), CommandRefusal>
         requires client { client < 64 }
-        requires place { IfSome place (λ m. (m < 1024) × (place_at self.old m ≡ Place.Free)) }
+        requires place { IfSome place (λ m. (m < 1024) × (place_at self.old m ≡ MessagePlace.Free)) }
         ensures answer { result ≡ answer (send_refusal client place self.old) }
         ensures after { self.new ≡ after_send client place self.old }
     {
@@ -280,11 +285,11 @@ impl Clients {
         requires open { is_open_at server (client_at self.old client) ≡ true }
         requires slot { has_slot (length (sent_at self.old client)) (client_at self.old client) ≡ true }
         requires place { place < 1024 }
-        requires free { place_at self.old place ≡ Place.Free }
-        ensures { self.new ≡ queued server (Entry.Message place) (with_sent client (sent_at self.old client ++ place ∷ []) (with_place place (Place.Queued client) self.old)) }
+        requires free { place_at self.old place ≡ MessagePlace.Free }
+        ensures { self.new ≡ queued server (QueueEntry.Message place) (with_sent client (sent_at self.old client ++ place ∷ []) (with_place place (MessagePlace.Queued client) self.old)) }
     {
         self.sent.push_last(client as u16, place);
-        self.places[place as usize] = Place::Queued { client };
+        self.places[place as usize] = MessagePlace::Queued { client };
         self.queues.push_last(server, place);
     }
 
@@ -424,7 +429,7 @@ impl Clients {
     {
         let was = self.places[place as usize];
         self.sent.remove(place);
-        self.places[place as usize] = Place::Free;
+        self.places[place as usize] = MessagePlace::Free;
         was.completion().unwrap()
     }
 
@@ -468,8 +473,8 @@ fn all_unconnected(alloc: Global) -> Result<Vec<Client>, AllocError>
 }
 
 /// All message places, before any has a message.
-fn all_free(alloc: Global) -> Result<Vec<Place>, AllocError>
-    ensures { IfOk result (λ v. v.items ≡ replicate 1024 Place.Free) }
+fn all_free(alloc: Global) -> Result<Vec<MessagePlace>, AllocError>
+    ensures { IfOk result (λ v. v.items ≡ replicate 1024 MessagePlace.Free) }
 {
-    vec![in alloc; Place::Free; PLACES as usize]
+    vec![in alloc; MessagePlace::Free; PLACES as usize]
 }

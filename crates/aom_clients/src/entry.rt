@@ -4,7 +4,7 @@ ghost use Rattle.aom_clients.specs.Nodes.{entry_of};
 
 /// What waits in a server's queue.
 #[derive(Clone, Copy)]
-pub enum Entry {
+pub enum QueueEntry {
     Connect { client: u8 },
     /// The message at the place.
     Message { place: u16 },
@@ -14,7 +14,7 @@ pub enum Entry {
 /// An entry that was taken from a queue, and the client that it is of.
 #[derive(Clone, Copy)]
 pub struct Taken {
-    pub entry: Entry,
+    pub entry: QueueEntry,
     pub client: u8,
 }
 
@@ -24,20 +24,20 @@ pub const CLIENTS: u16 = 64;
 /// How many message places there are.
 pub const PLACES: u16 = 1024;
 
-impl Entry {
+impl QueueEntry {
     /// The entry that a node stands for: a place's number is that of its message, and each client has two nodes after these.
-    pub(crate) fn of_node(node: u16) -> Entry
+    pub(crate) fn of_node(node: u16) -> QueueEntry
         requires { node < 1152 }
         ensures { result ≡ entry_of node }
     {
         if node < PLACES {
-            Entry::Message { place: node }
+            QueueEntry::Message { place: node }
         } else if node < PLACES + CLIENTS {
             let client = (node - PLACES) as u8;
-            Entry::Connect { client }
+            QueueEntry::Connect { client }
         } else {
             let client = (node - PLACES - CLIENTS) as u8;
-            Entry::Close { client }
+            QueueEntry::Close { client }
         }
     }
 }

@@ -25,8 +25,8 @@ mod withdrawal;
 
 pub use client::{Client, NO_CELL};
 pub use clients::Clients;
-pub use entry::{Entry, Taken};
+pub use entry::{QueueEntry, Taken};
 pub use lists::Lists;
-pub use place::{Completion, Place};
-pub use refusal::Refusal;
+pub use place::{Completion, MessagePlace};
+pub use refusal::CommandRefusal;
 pub use server::Server;

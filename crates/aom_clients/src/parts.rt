@@ -5,13 +5,13 @@ ghost use Rattle.aom_clients.specs.Clients.{MessageBelow};
 ghost use Rattle.aom_clients.specs.Parts.{ConnectBelow, CanClose, client_in, taken_of, if_taken, message_in, unlisted, held_by, given_up, slot_freed, place_freed, close_queued};
 
 use crate::entry::close_node;
-use crate::{Client, Entry, Lists, Place, Taken};
+use crate::{Client, Lists, MessagePlace, QueueEntry, Taken};
 
 /// Takes the first entry off a server's queue, with the client that it is of; a connect is listed no more.
 pub fn take(
     queues: &mut Lists,
     connects: &mut Lists,
-    places: &[Place],
+    places: &[MessagePlace],
     server: u16,
 ) -> Option<Taken>
     requires queue { server < length queues.old.lists }
@@ -25,29 +25,29 @@ pub fn take(
     ensures free { IfSome (first_of (list_at queues.old server)) (λ n. IsFree queues.new n) }
 {
     let node = queues.take_first(server)?;
-    let entry = Entry::of_node(node);
+    let entry = QueueEntry::of_node(node);
     let client = client_of(places, entry);
     unlist(connects, server, entry);
     Some(Taken { entry, client })
 }
 
 /// The client that an entry is of.
-pub fn client_of(places: &[Place], entry: Entry) -> u8
+pub fn client_of(places: &[MessagePlace], entry: QueueEntry) -> u8
     requires { MessageBelow (length places.now) entry }
     ensures { result ≡ client_in places.now entry }
 {
     match entry {
-        Entry::Connect { client } | Entry::Close { client } => client,
-        Entry::Message { place } => places[place as usize].sender(),
+        QueueEntry::Connect { client } | QueueEntry::Close { client } => client,
+        QueueEntry::Message { place } => places[place as usize].sender(),
     }
 }
 
 /// A connect that left its server's queue is listed no more.
-fn unlist(connects: &mut Lists, server: u16, entry: Entry)
+fn unlist(connects: &mut Lists, server: u16, entry: QueueEntry)
     requires { server < length connects.old.lists }
     ensures { connects.new ≡ unlisted server entry connects.old }
 {
-    if let Entry::Connect { .. } = entry {
+    if let QueueEntry::Connect { .. } = entry {
         connects.take_first(server);
     }
 }
@@ -57,13 +57,13 @@ fn message_in(taken: Option<Taken>) -> Option<u16>
     ensures { result ≡ message_in taken }
 {
     match taken?.entry {
-        Entry::Message { place } => Some(place),
+        QueueEntry::Message { place } => Some(place),
         _ => None,
     }
 }
 
 /// A message that is taken is held.
-pub fn hold(places: &mut [Place], taken: Option<Taken>)
+pub fn hold(places: &mut [MessagePlace], taken: Option<Taken>)
     requires { IfSome taken (λ t. MessageBelow (length places.old) t.entry) }
     ensures { places.new ≡ if_taken held_by taken places.old }
 {
@@ -78,7 +78,7 @@ pub fn give_up(clients: &mut [Client], taken: Option<Taken>)
     ensures { clients.new ≡ if_taken given_up taken clients.old }
 {
     if let Some(taken) = taken {
-        if let Entry::Connect { client } = taken.entry {
+        if let QueueEntry::Connect { client } = taken.entry {
             clients[client as usize] = Client::Unconnected;
         }
     }
@@ -94,12 +94,12 @@ pub fn free_slot(sent: &mut Lists, taken: Option<Taken>)
 }
 
 /// A message that went has no place.
-pub fn free_place(places: &mut [Place], taken: Option<Taken>)
+pub fn free_place(places: &mut [MessagePlace], taken: Option<Taken>)
     requires { IfSome taken (λ t. MessageBelow (length places.old) t.entry) }
     ensures { places.new ≡ if_taken place_freed taken places.old }
 {
     if let Some(place) = message_in(taken) {
-        places[place as usize] = Place::Free;
+        places[place as usize] = MessagePlace::Free;
     }
 }
 

@@ -4,7 +4,7 @@ ghost use Rattle.aom_clients.specs.Table.{sender, is_queued, closed_place, held_
 
 /// What a message place has.
 #[derive(Clone, Copy)]
-pub enum Place {
+pub enum MessagePlace {
     Free,
     /// A message of the client that waits in its server's queue.
     Queued { client: u8 },
@@ -21,41 +21,42 @@ pub struct Completion {
     pub is_told: bool,
 }
 
-impl Place {
+impl MessagePlace {
     /// The client that sent the message; 0 for none.
     pub fn sender(self) -> u8
         ensures { result ≡ sender self }
     {
         match self {
-            Place::Free => 0,
-            Place::Queued { client } | Place::Held { client } | Place::Discarded { client } =>
-                client,
+            MessagePlace::Free => 0,
+            MessagePlace::Queued { client }
+            | MessagePlace::Held { client }
+            | MessagePlace::Discarded { client } => client,
         }
     }
 
     pub(crate) fn is_queued(self) -> bool
         ensures { result ≡ is_queued self }
     {
-        matches!(self, Place::Queued { .. })
+        matches!(self, MessagePlace::Queued { .. })
     }
 
     /// What is left of it when its client closes or dies.
-    pub(crate) fn closed(self) -> Place
+    pub(crate) fn closed(self) -> MessagePlace
         ensures { result ≡ closed_place self }
     {
         match self {
-            Place::Queued { .. } => Place::Free,
-            Place::Held { client } => Place::Discarded { client },
+            MessagePlace::Queued { .. } => MessagePlace::Free,
+            MessagePlace::Held { client } => MessagePlace::Discarded { client },
             other => other,
         }
     }
 
     /// What is made of it when it is taken from its queue.
-    pub(crate) fn held(self) -> Place
+    pub(crate) fn held(self) -> MessagePlace
         ensures { result ≡ held_place self }
     {
         match self {
-            Place::Queued { client } => Place::Held { client },
+            MessagePlace::Queued { client } => MessagePlace::Held { client },
             other => other,
         }
     }
@@ -65,15 +66,15 @@ impl Place {
         ensures { result ≡ completion self }
     {
         match self {
-            Place::Held { client } => Some(Completion {
+            MessagePlace::Held { client } => Some(Completion {
                 client,
                 is_told: true,
             }),
-            Place::Discarded { client } => Some(Completion {
+            MessagePlace::Discarded { client } => Some(Completion {
                 client,
                 is_told: false,
             }),
-            Place::Free | Place::Queued { .. } => None,
+            MessagePlace::Free | MessagePlace::Queued { .. } => None,
         }
     }
 }

@@ -4,7 +4,7 @@ ghost use Rattle.aom_clients.specs.Table.{code_of};
 
 /// Why a command of a client is refused.
 #[derive(Clone, Copy)]
-pub enum Refusal {
+pub enum CommandRefusal {
     /// There is no such server, or the client has no session: KErrNotFound.
     NotFound,
     /// The client is dead: KErrDied.
@@ -15,16 +15,16 @@ pub enum Refusal {
     ServerBusy,
 }
 
-impl Refusal {
+impl CommandRefusal {
     /// The code that the client is told.
     pub fn code(self) -> i32
         ensures { result ≡ code_of self }
     {
         match self {
-            Refusal::NotFound => -1,
-            Refusal::Died => -13,
-            Refusal::ServerTerminated => -15,
-            Refusal::ServerBusy => -16,
+            CommandRefusal::NotFound => -1,
+            CommandRefusal::Died => -13,
+            CommandRefusal::ServerTerminated => -15,
+            CommandRefusal::ServerBusy => -16,
         }
     }
 }

@@ -5,7 +5,7 @@ ghost use Rattle.aom_clients.specs.Table.{is_queued};
 ghost use Rattle.aom_clients.specs.Withdrawals.{without_each, left_at, left_each, noted};
 
 use crate::entry::{CLIENTS, connect_node};
-use crate::{Lists, Place};
+use crate::{Lists, MessagePlace};
 use arrayvec::ArrayVec;
 
 /// The most slots of a client.
@@ -15,7 +15,7 @@ pub const SLOTS: usize = 64;
 pub fn withdraw_all(
     sent: &mut Lists,
     queues: &mut Lists,
-    places: &mut [Place],
+    places: &mut [MessagePlace],
     client: u8,
 ) -> ArrayVec<u16, SLOTS>
     requires client { client < 64 }
@@ -26,7 +26,7 @@ pub fn withdraw_all(
     ensures sent { sent.new ≡ with_list (64 + client) [] (with_list client [] sent.old) }
     ensures queues { queues.new ≡ record queues.old { lists = map (without (1024 + client)) (without_each (list_at sent.old client) queues.old.lists) } }
     ensures places { places.new ≡ left_each (list_at (with_list client [] sent.old) (64 + client)) (left_each (list_at sent.old client) places.old) }
-    ensures freed { result.items ≡ filter (λ m. is_queued (slice_index_or places.old m Place.Free)) (list_at sent.old client) }
+    ensures freed { result.items ≡ filter (λ m. is_queued (slice_index_or places.old m MessagePlace.Free)) (list_at sent.old client) }
 {
     let list = client as u16;
     let freed = withdraw(sent, queues, places, list);
@@ -39,7 +39,7 @@ pub fn withdraw_all(
 fn withdraw(
     sent: &mut Lists,
     queues: &mut Lists,
-    places: &mut [Place],
+    places: &mut [MessagePlace],
     list: u16,
 ) -> ArrayVec<u16, SLOTS>
     requires list { list < length sent.old.lists }
@@ -48,7 +48,7 @@ fn withdraw(
     ensures sent { sent.new ≡ with_list list [] sent.old }
     ensures queues { queues.new ≡ record queues.old { lists = without_each (list_at sent.old list) queues.old.lists } }
     ensures places { places.new ≡ left_each (list_at sent.old list) places.old }
-    ensures freed { result.items ≡ filter (λ m. is_queued (slice_index_or places.old m Place.Free)) (list_at sent.old list) }
+    ensures freed { result.items ≡ filter (λ m. is_queued (slice_index_or places.old m MessagePlace.Free)) (list_at sent.old list) }
 {
     sent.in_order();
     let mut freed = ArrayVec::new();
@@ -61,9 +61,9 @@ fn withdraw(
 }
 
 /// A message's client leaves it. Answers what was at its place.
-fn leave(places: &mut [Place], place: u16) -> Place
+fn leave(places: &mut [MessagePlace], place: u16) -> MessagePlace
     requires { place < length places.old }
-    ensures was { result ≡ slice_index_or places.old place Place.Free }
+    ensures was { result ≡ slice_index_or places.old place MessagePlace.Free }
     ensures left { places.new ≡ left_at place places.old }
 {
     let was = places[place as usize];
@@ -72,7 +72,7 @@ fn leave(places: &mut [Place], place: u16) -> Place
 }
 
 /// Notes a message that waited.
-fn note(freed: &mut ArrayVec<u16, SLOTS>, place: u16, was: Place)
+fn note(freed: &mut ArrayVec<u16, SLOTS>, place: u16, was: MessagePlace)
     requires { length freed.old.items < 64 }
     ensures { freed.new.items ≡ noted place was freed.old.items }
 {
@@ -82,7 +82,7 @@ fn note(freed: &mut ArrayVec<u16, SLOTS>, place: u16, was: Place)
 }
 
 /// Discards the messages of a list, of which none waits in a queue.
-fn discard(sent: &mut Lists, places: &mut [Place], list: u16)
+fn discard(sent: &mut Lists, places: &mut [MessagePlace], list: u16)
     requires list { list < length sent.old.lists }
     requires within { (m : ℕ) → IsIn m (list_at sent.old list) → m < length places.old }
     ensures sent { sent.new ≡ with_list list [] sent.old }

@@ -6,7 +6,7 @@ ghost use Rattle.aom_codec.specs.Codec.{many, many_from};
 
 use crate::LoadFault;
 use crate::header::class_below;
-use crate::reader::Reader;
+use crate::reader::ByteReader;
 use aom_image::{ClassDecl, ClassKind, ClassNumber, Items, NativeNumber, Provider, Thing, Version};
 use std::alloc::Global;
 
@@ -55,7 +55,7 @@ fn parent_of(number: u16, kind: ClassKind, classes: u16) -> Result<Option<ClassN
     }
 }
 
-impl<'a> Reader<'a> {
+impl<'a> ByteReader<'a> {
     fn thing(&mut self, classes: u16) -> Result<Thing, LoadFault>
         requires { classes ≤ 256 }
         ensures { Reads (λ x. (x, self.new)) result ((thing classes).read self.old) }

@@ -8,13 +8,13 @@ ghost use Rattle.aom_codec.specs.Reads.{ReadsOrNoMemory, DecodesTo};
 ghost use Rattle.aom_codec.specs.declared.fault.LoadFault.TheVariants.{OutOfMemory as NoMemory};
 
 use crate::LoadFault;
-use crate::reader::Reader;
+use crate::reader::ByteReader;
 use aom_image::{ClassDecl, Header, Image, Method};
 use std::alloc::Global;
 
 /// The parts of an image.
 #[derive(Drop)]
-struct Parts {
+struct ImageParts {
     header: Header,
     classes: Vec<ClassDecl>,
     methods: Vec<Method>,
@@ -32,27 +32,27 @@ pub fn decode(alloc: Global, bytes: &[u8]) -> Result<Image, LoadFault>
     Ok(Image::make(parts.header, parts.classes, parts.methods))
 }
 
-fn read_parts(alloc: Global, reader: &mut Reader<'_>) -> Result<Parts, LoadFault>
+fn read_parts(alloc: Global, reader: &mut ByteReader<'_>) -> Result<ImageParts, LoadFault>
     ensures { ReadsOrNoMemory (λ p. (record { header = p.header; classes = p.classes.items; methods = p.methods.items }, reader.new)) result (image_format.read reader.old) }
 {
     let opening = reader.opening()?;
     let version = opening.header.version;
     let classes = reader.classes(alloc, version, opening.classes, opening.header.natives)?;
     let methods = reader.methods(alloc, version, opening.methods, opening.classes)?;
-    Ok(Parts {
+    Ok(ImageParts {
         header: opening.header,
         classes,
         methods,
     })
 }
 
-fn parts_of(alloc: Global, bytes: &[u8]) -> Result<Parts, LoadFault>
+fn parts_of(alloc: Global, bytes: &[u8]) -> Result<ImageParts, LoadFault>
     ensures { ReadsOrNoMemory (λ p. record { header = p.header; classes = p.classes.items; methods = p.methods.items }) result (read_image bytes.now) }
 {
     if bytes.len() > 1 << 20 {
         return Err(LoadFault::LimitPassed);
     }
-    let mut reader = Reader::new(bytes);
+    let mut reader = ByteReader::new(bytes);
     let parts = read_parts(alloc, &mut reader)?;
     if !reader.is_empty() {
         return Err(LoadFault::Trailing);

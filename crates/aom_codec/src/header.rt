@@ -4,7 +4,7 @@ ghost use Rattle.aom_codec.specs.Format.{header_fields, opening, version as vers
 ghost use Rattle.aom_codec.specs.Reads.{Reads};
 
 use crate::LoadFault;
-use crate::reader::Reader;
+use crate::reader::ByteReader;
 use aom_image::{ClassNumber, Header, Version};
 
 /// The header with the counts that an image shows by its lists.
@@ -29,7 +29,7 @@ pub fn class_below(number: u16, classes: u16) -> Result<ClassNumber, LoadFault>
     }
 }
 
-impl<'a> Reader<'a> {
+impl<'a> ByteReader<'a> {
     pub fn class_or_none(&mut self, classes: u16) -> Result<Option<ClassNumber>, LoadFault>
         requires { classes ≤ 256 }
         ensures { Reads (λ x. (x, self.new)) result ((class_or_none classes).read self.old) }

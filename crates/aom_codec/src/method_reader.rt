@@ -8,7 +8,7 @@ ghost use Rattle.aom_codec.specs.Reads.{Reads, ReadsOrNoMemory};
 use crate::LoadFault;
 use crate::class_reader::thing_of;
 use crate::header::class_below;
-use crate::reader::Reader;
+use crate::reader::ByteReader;
 use aom_image::{
     Argument, Gives, Instr, Items, Limits, Method, MethodFlags, MethodNumber, Role, States, Target,
     Thing, Version,
@@ -54,7 +54,7 @@ fn over_of(number: u16, methods: u16) -> Result<Option<MethodNumber>, LoadFault>
     }
 }
 
-impl<'a> Reader<'a> {
+impl<'a> ByteReader<'a> {
     fn argument(&mut self, classes: u16) -> Result<Argument, LoadFault>
         requires { classes ≤ 256 }
         ensures { Reads (λ x. (x, self.new)) result ((argument classes).read self.old) }

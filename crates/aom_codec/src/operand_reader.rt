@@ -4,7 +4,7 @@ ghost use Rattle.aom_codec.specs.Instructions.{Bounded, all_operands, instructio
 ghost use Rattle.aom_codec.specs.Reads.{Reads};
 
 use crate::LoadFault;
-use crate::reader::Reader;
+use crate::reader::ByteReader;
 use aom_image::{
     ClassNumber, EntryDepth, FieldIndex, Instr, Kinds, Large, LargeKind, Limits, LoopDepth,
     MethodNumber, Mnemonic, Operands, Place, Register, Small, SmallKind, Target, Version,
@@ -71,7 +71,7 @@ fn large_of(kind: LargeKind, number: u32, limits: Limits) -> Result<Large, LoadF
     operand.ok_or(LoadFault::BadIndex)
 }
 
-impl<'a> Reader<'a> {
+impl<'a> ByteReader<'a> {
     fn small_operand(&mut self, kind: SmallKind) -> Result<Small, LoadFault>
         ensures { Reads (λ x. (x, self.new)) result ((small_operand kind).read self.old) }
     {

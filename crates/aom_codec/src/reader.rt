@@ -10,11 +10,11 @@ use std::marker::Model;
 
 /// The bytes that are still to be read. After a fault nothing is said of them.
 #[derive(Drop)]
-pub struct Reader<'a> {
+pub struct ByteReader<'a> {
     rest: &'a [u8],
 }
 
-impl<'a> Model for Reader<'a> {
+impl<'a> Model for ByteReader<'a> {
     ghost use Rattle.std.specs.Prelude.{ℕ, List};
 
     ghost Value = { List ℕ };
@@ -30,11 +30,11 @@ fn require(holds: bool, fault: LoadFault) -> Result<(), LoadFault>
     if holds { Ok(()) } else { Err(fault) }
 }
 
-impl<'a> Reader<'a> {
-    pub fn new(bytes: &'a [u8]) -> Reader<'a>
+impl<'a> ByteReader<'a> {
+    pub fn new(bytes: &'a [u8]) -> ByteReader<'a>
         ensures { result ≡ bytes.now }
     {
-        Reader { rest: bytes }
+        ByteReader { rest: bytes }
     }
 
     pub fn is_empty(&self) -> bool

@@ -3,7 +3,7 @@ use Rattle.std.specs.Prelude.{ℕ, ℤ, pos, negsuc, ◌≡◌, ◌≢◌, ◌<�
 use Rattle.std.specs.Int.{w32, int_wrapping_add}
 use Rattle.aom_natives.specs.Delays.{completed, ids_in, is_due}
 use Rattle.aom_natives.specs.Lines.{Queues, first_pair}
-use Rattle.aom_natives.specs.declared.delay.Entry.{Entry}
+use Rattle.aom_natives.specs.declared.delay.OwedRequest.{OwedRequest}
 use Rattle.aom_natives.specs.declared.kind.NativeKind.{NativeKind}
 use Rattle.aom_natives.specs.declared.kind.NativeKind.TheVariants.{Counter, Line, Delay}
 
@@ -36,7 +36,7 @@ line_at l = record {
 }
 
 -- a delay with those entries
-abbrev pub delay_at : List Entry → Stance
+abbrev pub delay_at : List OwedRequest → Stance
 delay_at d = record {
   owed = ids_in d;
   open_may = λ id answer. answer ≡ pos 0;

@@ -15,7 +15,7 @@ use Rattle.aom_injection.specs.Tallies.{Tally, closing_text, tally_of}
 use Rattle.aom_injection.specs.declared.injection.Injection.{Injection}
 use Rattle.aom_injection.specs.declared.tries.Tries.{Tries}
 use Rattle.aom_commands.specs.Headline.{Accepts, HasNatives, ImageWantsMemory, IsNoScript, IsRefused, IsSilent, Runs, Says, Sent, Tells, WantsNatives, outside_of}
-use Rattle.aom_commands.specs.declared.exploring.Last.{Last}
+use Rattle.aom_commands.specs.declared.exploring.RunEnd.{RunEnd}
 use Rattle.aom_run.specs.declared.fault.BootFault.TheVariants.{TooFewNatives}
 use Rattle.aom_commands.specs.declared.faults.Fault.{Fault}
 use Rattle.aom_commands.specs.declared.faults.Fault.TheVariants as faults
@@ -28,7 +28,7 @@ kept_text true text = Some text
 kept_text false text = None
 
 -- a run of the image ended so, and that is its transcript
-pub record IsLast (p : Image) (outside : Environment) (last : Last) (text : List ℕ) : Type 0 where
+pub record IsLast (p : Image) (outside : Environment) (last : RunEnd) (text : List ℕ) : Type 0 where
   pub lines : List Line
   pub state : State
   pub run : Run_of p outside lines state last.ending
@@ -38,7 +38,7 @@ pub record IsLast (p : Image) (outside : Environment) (last : Last) (text : List
 
 -- a run of the image that ended made so many requests, and did something at these times, where they are marked
 pub record HasPlain (p : Image) (outside : Environment) (marks : Bool) (requests : ℕ) (times : List ℕ) : Type 0 where
-  pub last : Last
+  pub last : RunEnd
   pub text : List ℕ
   pub is : IsLast p outside last text
   pub asked : requests ≡ last.requests
@@ -46,7 +46,7 @@ pub record HasPlain (p : Image) (outside : Environment) (marks : Bool) (requests
 
 -- what is tried: what is planned by a run under the script as it is
 pub record Plans (p : Image) (script : Script) (limit natives : ℕ) (tries : Tries) (injections : List Injection) (left : Option Injection) : Type 0 where
-  pub last : Last
+  pub last : RunEnd
   pub text : List ℕ
   pub plain : IsLast p (outside_of script limit natives) last text
   pub injections_are : injections ≡ planned tries natives script.timed last.requests (times_in text)

@@ -28,7 +28,7 @@ use std::alloc::{AllocError, Global};
 
 /// How a run ended, how many cells were left, and how many allocation requests it made.
 #[derive(Clone, Copy)]
-struct Last {
+struct RunEnd {
     ending: Ending,
     cells: usize,
     requests: u64,
@@ -70,7 +70,7 @@ fn last_booted(
     trial: &Trial<'_>,
     machine: &mut Machine,
     kept: &mut Keeper,
-) -> Result<Last, Fault>
+) -> Result<RunEnd, Fault>
     requires limit { (1 ≤ trial.now.limit) × (trial.now.limit ≤ 1000000000) }
     requires timely { IsTimely trial.now.script.now.timed }
     requires agree { AllAgree (λ l. l.ids) (λ l. (⟦<dyn Native as Native>⟧ l.native.vtable).owed l.native.value) machine.old.natives.slots.items }
@@ -84,7 +84,7 @@ fn last_booted(
     let Some(ending) = ending_of(outcome) else {
         return Err(Fault::Memory);
     };
-    Ok(Last {
+    Ok(RunEnd {
         ending,
         cells: machine.core.count(),
         requests: machine.core.requests(),
@@ -97,7 +97,7 @@ fn last_beside(
     trial: &Trial<'_>,
     boxes: Vec<Box<dyn Native>>,
     kept: &mut Keeper,
-) -> Result<Last, Fault>
+) -> Result<RunEnd, Fault>
     requires limit { (1 ≤ trial.now.limit) × (trial.now.limit ≤ 1000000000) }
     requires timely { IsTimely trial.now.script.now.timed }
     requires new { AreNew (λ b. record { owed = (⟦<dyn Native as Native>⟧ b.vtable).owed b.value; open_may = (⟦<dyn Native as Native>⟧ b.vtable).open_may b.value; start_may = (⟦<dyn Native as Native>⟧ b.vtable).start_may b.value; call_may = (⟦<dyn Native as Native>⟧ b.vtable).call_may b.value; poll_may = (⟦<dyn Native as Native>⟧ b.vtable).poll_may b.value }) trial.now.kinds.now boxes.items }
@@ -112,7 +112,7 @@ fn last_beside(
 }
 
 /// Makes the natives of one run, and runs the image beside them to its end.
-fn last_of(alloc: Global, trial: &Trial<'_>, kept: &mut Keeper) -> Result<Last, Fault>
+fn last_of(alloc: Global, trial: &Trial<'_>, kept: &mut Keeper) -> Result<RunEnd, Fault>
     requires limit { (1 ≤ trial.now.limit) × (trial.now.limit ≤ 1000000000) }
     requires timely { IsTimely trial.now.script.now.timed }
     ensures ok { IfOk result (λ last. (text : List ℕ) × IsLast trial.now.accepted.now (outside_of trial.now.script.now trial.now.limit (length trial.now.kinds.now)) last text × (kept_text kept.new.keeps kept.new.text.items ≡ after (kept_text kept.old.keeps kept.old.text.items) text)) }
@@ -171,7 +171,7 @@ fn plan_of(alloc: Global, trial: &Trial<'_>, tries: Tries) -> Result<Plan, Fault
 }
 
 /// Runs the image under the script that says what befalls it too.
-fn last_injected(alloc: Global, trial: &Trial<'_>, injection: Injection) -> Result<Last, Fault>
+fn last_injected(alloc: Global, trial: &Trial<'_>, injection: Injection) -> Result<RunEnd, Fault>
     requires limit { (1 ≤ trial.now.limit) × (trial.now.limit ≤ 1000000000) }
     requires timely { IsTimely trial.now.script.now.timed }
     requires can { CanInject injection }

@@ -19,7 +19,7 @@ use Rattle.aom_debug.specs.Movers.{outside_of}
 use Rattle.aom_debug.specs.Debugging.{Answer, CountsNot, Declined, Goes, GoesNamed, LacksQueue, LacksWords, Looks, LooksAt, Marks, NamesNot, Outgoing}
 use Rattle.aom_debug.specs.Debugging.{Sees, SeesQueue, SeesWords, Steps, Untils, goes_of, has_ended, overs_of, places_of, runs_of, steps_of, turns_of}
 use Rattle.aom_debug_moves.specs.declared.courses.Course.{Course}
-use Rattle.aom_debug_moves.specs.declared.over.Scope.TheVariants as scopes
+use Rattle.aom_debug_moves.specs.declared.over.Awaited.TheVariants as scopes
 use Rattle.aom_debug_moves.specs.declared.courses.Course.TheVariants as ways
 use Rattle.aom_debug.specs.Obeying.{Obeys}
 use Rattle.aom_debug.specs.declared.debugger.Debugger.{Debugger}

@@ -16,7 +16,7 @@ use Rattle.aom_debug_words.specs.declared.answer.Answer.TheVariants.{Done}
 use Rattle.aom_debug_words.specs.Answers.{answer_text}
 use Rattle.aom_debug_moves.specs.Courses.{Courses, course_of}
 use Rattle.aom_debug_moves.specs.declared.courses.Course.{Course}
-use Rattle.aom_debug_moves.specs.declared.over.Scope.{Scope}
+use Rattle.aom_debug_moves.specs.declared.over.Awaited.{Awaited}
 use Rattle.aom_debug_moves.specs.declared.courses.Course.TheVariants as course
 use Rattle.aom_debug_views.specs.Telling.{Tells, TellsPart}
 use Rattle.aom_debug_paths.specs.Paths.{queue_answers, words_answers}
@@ -114,10 +114,10 @@ module _ {X : Type 0} {B : X → Type 0} where
   Runs old new out answer = Goes runs_of old new out answer
 
   -- until that is over
-  abbrev pub overs_of : Scope → Debugger X B → Courses
+  abbrev pub overs_of : Awaited → Debugger X B → Courses
   overs_of scope = goes_of (course.Over scope)
 
-  abbrev pub GoesOver : Scope → Debugger X B → Debugger X B → Outgoing → Answer → Type 0
+  abbrev pub GoesOver : Awaited → Debugger X B → Debugger X B → Outgoing → Answer → Type 0
   GoesOver scope old new out answer = Goes (overs_of scope) old new out answer
 
   -- no place of the image

@@ -7,7 +7,7 @@ use Rattle.aom_debug_words.specs.declared.fault.DebugFault.TheVariants.{Ended}
 use Rattle.aom_debug.specs.Debugging.{Answer, Declined, GoesOver, LacksQueue, LacksWords, Looks, LooksAt, Outgoing, Runs, Sees, SeesQueue, SeesWords, Sets, Steps, Turns, Unsets, Untils}
 use Rattle.aom_debug.specs.declared.debugger.Debugger.{Debugger}
 use Rattle.aom_debug.specs.declared.looking.Look.TheVariants as look
-use Rattle.aom_debug_moves.specs.declared.over.Scope.TheVariants as scopes
+use Rattle.aom_debug_moves.specs.declared.over.Awaited.TheVariants as scopes
 
 module _ {X : Type 0} {B : X → Type 0} where
   -- a command by its call

@@ -19,7 +19,7 @@ use Rattle.aom_debug_words.specs.declared.answer.Answer.TheVariants.{Done, Fault
 use Rattle.aom_debug_words.specs.Answers.{answer_text}
 use Rattle.aom_debug_paths.specs.Paths.{queue_answers, words_answers}
 use Rattle.aom_debug.specs.Courses.{Courses, GoesBy, GoesOver, GoesToBreakpoint, GoesToPlace, ToLimit, TurnsOver}
-use Rattle.aom_debug_moves.specs.declared.over.Scope.TheVariants as scopes
+use Rattle.aom_debug_moves.specs.declared.over.Awaited.TheVariants as scopes
 use Rattle.aom_debug.specs.Commands.{NamesNoMark, NamesNoRoom, ShowsActives, ShowsBreaks, ShowsCells, ShowsCleanup, ShowsClock, ShowsFrames, ShowsHelp, ShowsOwners, ShowsQueue, ShowsRecent, ShowsTimers, ShowsWords, is_count, moved_text, spot_named}
 
 -- where a session stands: at a state, with these breakpoints, these were the latest instructions, and all is told by the names and the lines of a text, where there is one

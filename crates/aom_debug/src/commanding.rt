@@ -6,7 +6,7 @@ ghost use Rattle.aom_debug_moves.specs.Movers.{IsReady, Keeps};
 ghost use Rattle.aom_debug.specs.Obeying.{Heeds, Obeys};
 
 use crate::Debugger;
-use aom_debug_moves::{Scope, Sink};
+use aom_debug_moves::{Awaited, Sink};
 use aom_debug_names::read_named;
 use aom_debug_words::{Command, DebugFault};
 use aom_natives::Native;
@@ -40,8 +40,8 @@ impl<'a> Debugger<'a> {
     {
         match command {
             Command::Step(steps) => self.step(steps, out),
-            Command::Next => self.over(Scope::Step, out),
-            Command::Finish => self.over(Scope::Method, out),
+            Command::Next => self.over(Awaited::Step, out),
+            Command::Finish => self.over(Awaited::Method, out),
             Command::Turn => self.turn(out),
             Command::Go => self.go(out),
             Command::Until(method, place) => self.until(method, place, out),

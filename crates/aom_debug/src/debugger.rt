@@ -11,7 +11,7 @@ ghost use Rattle.aom_debug.specs.Debugging.{GivesUp, Goes, Runs, Sets, SetsAt, S
 use crate::marking::spot_named;
 use crate::showing::tell_place;
 use aom_debug_moves::{Course, Mover, Progress, Sink, go};
-use aom_debug_names::Names;
+use aom_debug_names::SourceNames;
 use aom_debug_views::tell;
 use aom_debug_words::{Answer, Breakpoints, DebugFault, Recent, Spot};
 use aom_machine_state::LineBuffer;
@@ -30,7 +30,7 @@ const MOST_STEPS: u32 = 1_000_000;
 pub struct Debugger<'a> {
     pub mover: Mover<'a>,
     /// The names and the lines by which all is told, where there are some.
-    pub names: Names<'a>,
+    pub names: SourceNames<'a>,
     pub breakpoints: Breakpoints,
     /// Whether what was told could not be written.
     pub has_failed: bool,
@@ -46,7 +46,7 @@ impl<'a> Debugger<'a> {
         script: Script,
         turn: LineBuffer,
         limit: u32,
-        names: Names<'a>,
+        names: SourceNames<'a>,
     ) -> Result<Debugger<'a>, DebugFault>
         requires agree { AllAgree (λ l. l.ids) (λ l. (⟦<dyn Native as Native>⟧ l.native.vtable).owed l.native.value) machine.natives.slots.items }
         requires stands { Stands machine }

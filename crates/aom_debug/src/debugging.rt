@@ -19,7 +19,7 @@ use crate::conversing::converse;
 use crate::{Debugger, Reader, Sink};
 use aom_budget::Accepted;
 use aom_commands::{ExitStatus, Fault, accept_bytes, tell};
-use aom_debug_names::Names;
+use aom_debug_names::SourceNames;
 use aom_machine_state::LineBuffer;
 use aom_natives::Native;
 use aom_run::Machine;
@@ -47,7 +47,7 @@ pub fn debug_bytes<R: Reader, W: Sink, E: Sink>(
         image,
         script,
         limit,
-        Names::none(),
+        SourceNames::none(),
         boxes,
         reader,
         reads,
@@ -64,7 +64,7 @@ pub fn try_debug<R: Reader, W: Sink>(
     image: &[u8],
     script: &[u8],
     limit: u32,
-    names: Names,
+    names: SourceNames,
     boxes: Vec<Box<dyn Native>>,
     reader: &mut R,
     reads: u64,
@@ -87,7 +87,7 @@ fn debug_text<R: Reader, W: Sink>(
     accepted: &Accepted,
     text: &[u8],
     limit: u32,
-    names: Names,
+    names: SourceNames,
     boxes: Vec<Box<dyn Native>>,
     reader: &mut R,
     reads: u64,
@@ -111,7 +111,7 @@ fn debug_script<R: Reader, W: Sink>(
     accepted: &Accepted,
     script: Script,
     limit: u32,
-    names: Names,
+    names: SourceNames,
     boxes: Vec<Box<dyn Native>>,
     reader: &mut R,
     reads: u64,
@@ -149,7 +149,7 @@ fn begin<'a>(
     accepted: &'a Accepted,
     script: Script,
     limit: u32,
-    names: Names<'a>,
+    names: SourceNames<'a>,
     boxes: Vec<Box<dyn Native>>,
 ) -> Result<Debugger<'a>, Fault>
     requires owed { OweNothing (λ b. (⟦<dyn Native as Native>⟧ b.vtable).owed b.value) boxes.items }
@@ -173,7 +173,7 @@ fn begun<'a>(
     machine: Machine<'a>,
     script: Script,
     limit: u32,
-    names: Names<'a>,
+    names: SourceNames<'a>,
 ) -> Result<Debugger<'a>, Fault>
     requires agree { AllAgree (λ l. l.ids) (λ l. (⟦<dyn Native as Native>⟧ l.native.vtable).owed l.native.value) machine.natives.slots.items }
     requires image { machine.core.image ≡ accepted.now }

@@ -25,8 +25,8 @@ mod reaching;
 mod showing;
 mod unbreaking;
 
-pub use aom_debug_moves::{Mover, Scope, Sink};
-pub use aom_debug_names::Names;
+pub use aom_debug_moves::{Awaited, Mover, Sink};
+pub use aom_debug_names::SourceNames;
 pub use aom_debug_views::{Holding, Owner, tell};
 pub use aom_run::Reader;
 pub use debugger::Debugger;

@@ -6,14 +6,14 @@ ghost use Rattle.aom_debug.specs.Debugging.{GoesOver, Untils};
 
 use crate::Debugger;
 use crate::marking::spot_named;
-use aom_debug_moves::{Course, Scope, Sink};
+use aom_debug_moves::{Awaited, Course, Sink};
 use aom_debug_words::DebugFault;
 use aom_natives::Native;
 use aom_text::Number;
 
 impl<'a> Debugger<'a> {
     /// Goes on until that is over, or an instruction with a breakpoint is next, or to the end of the run.
-    pub fn over<W: Sink>(&mut self, scope: Scope, out: &mut W) -> Result<(), DebugFault>
+    pub fn over<W: Sink>(&mut self, scope: Awaited, out: &mut W) -> Result<(), DebugFault>
         requires agree { AllAgree (λ l. l.ids) (λ l. (⟦<dyn Native as Native>⟧ l.native.vtable).owed l.native.value) self.old.mover.machine.natives.slots.items }
         requires ready { IsReady self.old.mover }
         ensures agree { AllAgree (λ l. l.ids) (λ l. (⟦<dyn Native as Native>⟧ l.native.vtable).owed l.native.value) self.new.mover.machine.natives.slots.items }

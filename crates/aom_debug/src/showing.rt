@@ -12,7 +12,7 @@ ghost use Rattle.aom_debug_views.specs.Telling.{Tells, TellsPart, answers_by};
 ghost use Rattle.aom_debug.specs.Commands.{end_by, place_text};
 
 use aom_debug_moves::{Machine, Progress, Sink, next_of};
-use aom_debug_names::Names;
+use aom_debug_names::SourceNames;
 use aom_debug_views::{send, tell_by, tell_cells, tell_frames, tell_owners};
 use aom_debug_words::DebugFault;
 use aom_transcript::Page;
@@ -29,7 +29,11 @@ fn end_page(machine: &Machine) -> Page
 }
 
 /// Writes how many cells live, and how many of each class.
-pub fn show_cells<W: Sink>(machine: &Machine, names: &Names, out: &mut W) -> Result<(), DebugFault>
+pub fn show_cells<W: Sink>(
+    machine: &Machine,
+    names: &SourceNames,
+    out: &mut W,
+) -> Result<(), DebugFault>
     ensures ok { IfOk result (λ _. Tells machine.now.core (λ s. answers_by names.now (cells_answers machine.now.core.image s)) (W.out out.old) (W.out out.new)) }
     ensures err { IfErr result (λ fault. TellsPart machine.now.core (λ s. answers_by names.now (cells_answers machine.now.core.image s)) fault (W.failed out.new) (W.out out.old) (W.out out.new)) }
 {
@@ -42,7 +46,11 @@ pub fn show_cells<W: Sink>(machine: &Machine, names: &Names, out: &mut W) -> Res
 }
 
 /// Writes what each place owns.
-pub fn show_owners<W: Sink>(machine: &Machine, names: &Names, out: &mut W) -> Result<(), DebugFault>
+pub fn show_owners<W: Sink>(
+    machine: &Machine,
+    names: &SourceNames,
+    out: &mut W,
+) -> Result<(), DebugFault>
     ensures ok { IfOk result (λ _. Tells machine.now.core (λ s. owners_text names.now (owners s)) (W.out out.old) (W.out out.new)) }
     ensures err { IfErr result (λ fault. TellsPart machine.now.core (λ s. owners_text names.now (owners s)) fault (W.failed out.new) (W.out out.old) (W.out out.new)) }
 {
@@ -50,7 +58,11 @@ pub fn show_owners<W: Sink>(machine: &Machine, names: &Names, out: &mut W) -> Re
 }
 
 /// Writes the methods at hand.
-pub fn show_frames<W: Sink>(machine: &Machine, names: &Names, out: &mut W) -> Result<(), DebugFault>
+pub fn show_frames<W: Sink>(
+    machine: &Machine,
+    names: &SourceNames,
+    out: &mut W,
+) -> Result<(), DebugFault>
     ensures stands { CoreStands machine.now.core }
     ensures ok { IfOk result (λ _. (t : Typing) → IsStrongest machine.now.core.image t → Tells machine.now.core (λ s. answers_by names.now (frames_answers t s)) (W.out out.old) (W.out out.new)) }
     ensures err { IfErr result (λ fault. (t : Typing) → IsStrongest machine.now.core.image t → TellsPart machine.now.core (λ s. answers_by names.now (frames_answers t s)) fault (W.failed out.new) (W.out out.old) (W.out out.new)) }
@@ -59,7 +71,11 @@ pub fn show_frames<W: Sink>(machine: &Machine, names: &Names, out: &mut W) -> Re
 }
 
 /// Writes the run's last line where it is over, and then the step that is next.
-pub fn tell_place<W: Sink>(machine: &Machine, names: &Names, out: &mut W) -> Result<(), DebugFault>
+pub fn tell_place<W: Sink>(
+    machine: &Machine,
+    names: &SourceNames,
+    out: &mut W,
+) -> Result<(), DebugFault>
     requires { Stands machine.now }
     ensures ok { IfOk result (λ _. Tells machine.now.core (λ s. place_text names.now machine.now.core.image s) (W.out out.old) (W.out out.new)) }
     ensures err { IfErr result (λ fault. TellsPart machine.now.core (λ s. place_text names.now machine.now.core.image s) fault (W.failed out.new) (W.out out.old) (W.out out.new)) }

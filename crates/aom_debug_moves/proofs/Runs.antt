@@ -15,7 +15,7 @@ use Rattle.aom_debug_moves.specs.Courses.{way_of}
 use Rattle.aom_debug_moves.specs.declared.courses.Course.{Course}
 use Rattle.aom_debug_moves.specs.declared.courses.Course.TheVariants as course
 use Rattle.aom_debug_moves.specs.Over.{depth_of}
-use Rattle.aom_debug_moves.specs.declared.over.Scope.{Scope}
+use Rattle.aom_debug_moves.specs.declared.over.Awaited.{Awaited}
 use Rattle.aom_debug_moves.specs.declared.walking.Until.TheVariants.{Breakpoint, Depth, Place}
 use Rattle.aom_debug_moves.proofs.Going.{reaches_goes, run_of}
 use Rattle.aom_debug_moves.proofs.Passing.{reaches_passed}
@@ -48,7 +48,7 @@ moving_there p refused stays old new s lines u x = moving_walk p refused stays o
 pub reaches_over : (p : Image) (outside : Environment) (old new : List Spot) (s : State) (lines : List Line) (u : State) → TurnsOver p outside old new s lines u → Reaches p outside s lines u
 reaches_over p outside = reaches_in p outside (WalksThere p outside.refused (λ s. root_is_due p s)) (moving_there p outside.refused (λ s. root_is_due p s))
 
-pub reaches_step_over : (p : Image) (outside : Environment) (scope : Scope) (spots : List Spot)
+pub reaches_step_over : (p : Image) (outside : Environment) (scope : Awaited) (spots : List Spot)
     (old new : List Spot) (s : State) (lines : List Line) (u : State) → GoesOver p outside scope spots old new s lines u → Reaches p outside s lines u
 reaches_step_over p outside scope spots = reaches_in p outside
     (WalksOver p outside.refused scope spots) (λ old new s. moving_there p outside.refused (λ v. stays_at p (Depth (depth_of scope s.tasks)) spots v) old new s)

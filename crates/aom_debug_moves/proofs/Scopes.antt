@@ -14,7 +14,7 @@ use Rattle.aom_debug_words.specs.declared.spot.Spot.{Spot}
 use Rattle.aom_debug_moves.specs.Sends.{Machine, Sends}
 use Rattle.aom_debug_moves.specs.Courses.{WalksOver, WalksThere, stays_at}
 use Rattle.aom_debug_moves.specs.Over.{depth_of, is_method, last_run, runs_there, under_method}
-use Rattle.aom_debug_moves.specs.declared.over.Scope.{Scope}
+use Rattle.aom_debug_moves.specs.declared.over.Awaited.{Awaited}
 use Rattle.aom_debug_moves.specs.declared.walking.Until.TheVariants.{Depth}
 
 -- ---- the last method from the bottom is the first from the top
@@ -69,7 +69,7 @@ under_told ms us same = last_under ms ∙ same_under ms us same
 
 -- ---- a walk by that depth
 
-pub walks_over : {X : Type 0} {B : X → Type 0} (p : Image) (refused : List ℕ) (scope : Scope) (spots old new : List Spot)
+pub walks_over : {X : Type 0} {B : X → Type 0} (p : Image) (refused : List ℕ) (scope : Awaited) (spots old new : List Spot)
     (depth : ℕ) (a c : Machine X B) (before out : Option (List ℕ)) → ((s : State) → StandsFor a s → depth ≡ depth_of scope s.tasks) →
     Sends (WalksThere p refused (λ v. stays_at p (Depth depth) spots v) old new) a before out c → Sends (WalksOver p refused scope spots old new) a before out c
 walks_over p refused scope spots old new depth a c before out told x s stands =

@@ -7,7 +7,7 @@ use Rattle.aom_transcript.specs.declared.line.Line.{Line}
 use Rattle.aom_debug_words.specs.declared.spot.Spot.{Spot}
 use Rattle.aom_debug_moves.specs.Courses.{Courses, GoesBy, GoesOn, GoesOver, TurnsOver, course_of}
 use Rattle.aom_debug_moves.specs.declared.courses.Course.{Course}
-use Rattle.aom_debug_moves.specs.declared.over.Scope.{Scope}
+use Rattle.aom_debug_moves.specs.declared.over.Awaited.{Awaited}
 
 -- what leads so is a run, with the same lines
 abbrev pub AreRuns : Image → Environment → Courses → Type 0
@@ -23,7 +23,7 @@ abbrev pub GoingRuns : Type 0
 GoingRuns = (p : Image) (outside : Environment) (stays : State → Bool) → AreRuns p outside (GoesOn p outside stays)
 
 abbrev pub OverRuns : Type 0
-OverRuns = (p : Image) (outside : Environment) (scope : Scope) (spots : List Spot) → AreRuns p outside (GoesOver p outside scope spots)
+OverRuns = (p : Image) (outside : Environment) (scope : Awaited) (spots : List Spot) → AreRuns p outside (GoesOver p outside scope spots)
 
 -- and so is each course, with which the run may end by its limit
 abbrev pub CoursesRun : Type 0

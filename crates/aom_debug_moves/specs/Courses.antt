@@ -13,7 +13,7 @@ use Rattle.aom_debug_moves.specs.Next.{next_of, root_is_due, spot_of}
 use Rattle.aom_debug_moves.specs.Moves.{Arrives, EndsByLimit, Strides, is_at_limit}
 use Rattle.aom_debug_moves.specs.Sends.{Leads, Then, Where}
 use Rattle.aom_debug_moves.specs.Over.{depth_of}
-use Rattle.aom_debug_moves.specs.declared.over.Scope.{Scope}
+use Rattle.aom_debug_moves.specs.declared.over.Awaited.{Awaited}
 use Rattle.aom_debug_moves.specs.declared.courses.Course.{Course}
 use Rattle.aom_debug_moves.specs.declared.courses.Course.TheVariants as course
 use Rattle.aom_debug_moves.specs.declared.walking.Until.{Until}
@@ -89,10 +89,10 @@ TurnsOver p outside = InDispatch p outside (WalksThere p outside.refused (λ s. 
 -- ---- until something is over
 
 -- one step at least, until no more tasks are at hand than may be where it is over, or an instruction with a breakpoint is next
-abbrev pub WalksOver : Image → List ℕ → Scope → List Spot → Courses
+abbrev pub WalksOver : Image → List ℕ → Awaited → List Spot → Courses
 WalksOver p refused scope spots old new s = WalksThere p refused (λ v. stays_at p (Depth (depth_of scope s.tasks)) spots v) old new s
 
-abbrev pub GoesOver : Image → Environment → Scope → List Spot → Courses
+abbrev pub GoesOver : Image → Environment → Awaited → List Spot → Courses
 GoesOver p outside scope spots = InDispatch p outside (WalksOver p outside.refused scope spots)
 
 -- ---- so many steps

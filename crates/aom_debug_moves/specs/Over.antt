@@ -3,8 +3,8 @@ use Rattle.std.specs.Prelude.{ℕ, zero, suc, Bool, true, false, cond, List, [],
 use Rattle.aom_frames.specs.declared.task.Task.{Task as Machine_task}
 use Rattle.aom_frames.specs.declared.task.Task.TheVariants.{Run as Runs_frame}
 use Rattle.aom_semantics.specs.State.{Run, Task}
-use Rattle.aom_debug_moves.specs.declared.over.Scope.{Scope}
-use Rattle.aom_debug_moves.specs.declared.over.Scope.TheVariants as scopes
+use Rattle.aom_debug_moves.specs.declared.over.Awaited.{Awaited}
+use Rattle.aom_debug_moves.specs.declared.over.Awaited.TheVariants as scopes
 
 abbrev pub is_method : Task → Bool
 is_method (Run fr) = true
@@ -16,7 +16,7 @@ under_method [] = 0
 under_method (t ∷ ts) = cond (is_method t) (length ts) (under_method ts)
 
 -- how many may be at hand where that is over
-abbrev pub depth_of : Scope → List Task → ℕ
+abbrev pub depth_of : Awaited → List Task → ℕ
 depth_of scopes.Step tasks = length tasks
 depth_of scopes.Method tasks = under_method tasks
 

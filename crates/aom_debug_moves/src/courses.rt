@@ -7,7 +7,7 @@ ghost use Rattle.aom_debug_moves.specs.Courses.{GoesBy, GoesOn, InDispatch, Turn
 use crate::limit::cut_at_limit;
 use crate::over::go_over;
 use crate::walking::{Until, is_idle, is_there, walk, walk_unless};
-use crate::{Mover, Scope, arrive, stride};
+use crate::{Awaited, Mover, arrive, stride};
 use aom_debug_words::{Breakpoints, Spot};
 use aom_machine::Progress;
 use aom_natives::Native;
@@ -23,7 +23,7 @@ pub enum Course {
     /// Until an instruction with a breakpoint is next, but for where it begins.
     Breakpoint,
     /// Until that is over, or an instruction with a breakpoint is next.
-    Over(Scope),
+    Over(Awaited),
     /// Until that instruction is next, or one with a breakpoint, but for where it begins.
     Place(Spot),
 }

@@ -37,6 +37,6 @@ pub use ends::{is_due, pauses};
 pub use laws::{courses_are_a_run, moves_are_a_run};
 pub use mover::Mover;
 pub use next::{next_of, spot_at};
-pub use over::Scope;
+pub use over::Awaited;
 pub use stepping::stride;
 pub use walking::{Until, walk};

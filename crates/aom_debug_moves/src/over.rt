@@ -22,7 +22,7 @@ use aom_run::{Machine, Sink};
 
 /// What is to be over.
 #[derive(Clone, Copy)]
-pub enum Scope {
+pub enum Awaited {
     /// The step that is next, with all that it calls, traps or destroys.
     Step,
     /// The innermost method at hand.
@@ -50,12 +50,12 @@ fn under_method(parts: &Parts) -> usize
 }
 
 /// How many tasks may be at hand where that is over.
-fn depth_of(machine: &Machine, scope: Scope) -> usize
+fn depth_of(machine: &Machine, scope: Awaited) -> usize
     ensures { (s : State) → StandsFor machine.now s → result ≡ depth_of scope s.tasks }
 {
     match scope {
-        Scope::Step => machine.core.parts().stack.len(),
-        Scope::Method => under_method(machine.core.parts()),
+        Awaited::Step => machine.core.parts().stack.len(),
+        Awaited::Method => under_method(machine.core.parts()),
     }
 }
 
@@ -80,7 +80,7 @@ pub(crate) fn is_next(machine: &Machine, spot: Spot) -> bool
 /// Until that is over, in the dispatch at hand or in the next, or an instruction with a breakpoint is next.
 pub(crate) fn go_over<W: Sink>(
     mover: &mut Mover,
-    scope: Scope,
+    scope: Awaited,
     breakpoints: &Breakpoints,
     out: &mut W,
 ) -> Option<Progress>

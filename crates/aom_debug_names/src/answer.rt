@@ -5,7 +5,7 @@ ghost use Rattle.aom_debug_words.specs.Answers.{answer_text};
 ghost use Rattle.aom_debug_names.specs.Names.{class_by, method_by};
 ghost use Rattle.aom_debug_names.specs.Answers.{active_by, answer_by, content_by, head_by, place_by, server_by, hearer_by, shown_at, shown_spot as spot_shown, tells_class};
 
-use crate::Names;
+use crate::SourceNames;
 use aom_buffers::Text;
 use aom_debug_words::{Answer, Content, Phase, Source, Spot};
 use aom_text::Statement;
@@ -17,7 +17,7 @@ const LONGEST: usize = 128;
 pub type NamedLine = Text<LONGEST>;
 
 /// Adds the name of a class or, where it has none, its number.
-pub fn add_class_name<const N: usize>(line: &mut Text<N>, names: &Names, class: u16)
+pub fn add_class_name<const N: usize>(line: &mut Text<N>, names: &SourceNames, class: u16)
     requires { length line.old + 32 ≤ N }
     ensures text { line.new ≡ line.old ++ class_by names.now class }
     ensures short { length line.new ≤ length line.old + 32 }
@@ -29,7 +29,7 @@ pub fn add_class_name<const N: usize>(line: &mut Text<N>, names: &Names, class: 
 }
 
 /// Adds the name of a method or, where it has none, its number.
-fn add_method_name(line: &mut NamedLine, names: &Names, method: u16)
+fn add_method_name(line: &mut NamedLine, names: &SourceNames, method: u16)
     requires { length line.old ≤ 64 }
     ensures text { line.new ≡ line.old ++ method_by names.now method }
     ensures short { length line.new ≤ length line.old + 32 }
@@ -41,7 +41,7 @@ fn add_method_name(line: &mut NamedLine, names: &Names, method: u16)
 }
 
 /// Adds a method and a place.
-fn add_place(line: &mut NamedLine, names: &Names, spot: Spot)
+fn add_place(line: &mut NamedLine, names: &SourceNames, spot: Spot)
     requires { length line.old ≤ 64 }
     ensures text { line.new ≡ line.old ++ place_by names.now spot }
 {
@@ -51,7 +51,7 @@ fn add_place(line: &mut NamedLine, names: &Names, spot: Spot)
 
 fn add_active(
     line: &mut NamedLine,
-    names: &Names,
+    names: &SourceNames,
     class: u16,
     priority: i32,
     phase: Phase,
@@ -66,7 +66,7 @@ fn add_active(
     line.add_number(status);
 }
 
-fn add_server(line: &mut NamedLine, names: &Names, class: u16, priority: i32, queued: usize)
+fn add_server(line: &mut NamedLine, names: &SourceNames, class: u16, priority: i32, queued: usize)
     requires { line.old ≡ [] }
     ensures { line.new ≡ server_by names.now class priority queued }
 {
@@ -76,7 +76,7 @@ fn add_server(line: &mut NamedLine, names: &Names, class: u16, priority: i32, qu
 }
 
 /// Adds a class and a number behind it.
-fn add_counted(line: &mut NamedLine, names: &Names, class: u16, number: u64)
+fn add_counted(line: &mut NamedLine, names: &SourceNames, class: u16, number: u64)
     requires { line.old ≡ [] }
     ensures { line.new ≡ class_by names.now class ++ codes " " ++ decimal number }
 {
@@ -85,7 +85,7 @@ fn add_counted(line: &mut NamedLine, names: &Names, class: u16, number: u64)
 }
 
 /// Adds who hears when a message is completed, with a space before it.
-fn add_source(line: &mut NamedLine, names: &Names, source: Source)
+fn add_source(line: &mut NamedLine, names: &SourceNames, source: Source)
     requires { length line.old ≤ 32 }
     ensures { line.new ≡ line.old ++ (codes " " ++ hearer_by names.now source) }
 {
@@ -99,7 +99,7 @@ fn add_source(line: &mut NamedLine, names: &Names, source: Source)
 }
 
 /// Adds what a register has, with a space before it.
-fn add_content(line: &mut NamedLine, names: &Names, content: Content)
+fn add_content(line: &mut NamedLine, names: &SourceNames, content: Content)
     requires { length line.old ≤ 32 }
     ensures { line.new ≡ line.old ++ content_by names.now content }
 {
@@ -115,7 +115,7 @@ fn add_content(line: &mut NamedLine, names: &Names, content: Content)
 }
 
 /// Adds words, and a class behind them.
-fn add_of_class(line: &mut NamedLine, names: &Names, words: &[u8], class: u16)
+fn add_of_class(line: &mut NamedLine, names: &SourceNames, words: &[u8], class: u16)
     requires empty { line.old ≡ [] }
     requires short { length words.now ≤ 16 }
     ensures { line.new ≡ words.now ++ class_by names.now class }
@@ -125,7 +125,7 @@ fn add_of_class(line: &mut NamedLine, names: &Names, words: &[u8], class: u16)
 }
 
 /// Adds a method that is on the cleanup stack, and its word.
-fn add_operation(line: &mut NamedLine, names: &Names, method: u16, word: i32)
+fn add_operation(line: &mut NamedLine, names: &SourceNames, method: u16, word: i32)
     requires { line.old ≡ [] }
     ensures { line.new ≡ codes "op " ++ method_by names.now method ++ codes " " ++ signed_decimal word }
 {
@@ -135,7 +135,7 @@ fn add_operation(line: &mut NamedLine, names: &Names, method: u16, word: i32)
 }
 
 /// Adds words, and a method and a place behind them.
-fn add_at(line: &mut NamedLine, names: &Names, words: &[u8], spot: Spot)
+fn add_at(line: &mut NamedLine, names: &SourceNames, words: &[u8], spot: Spot)
     requires empty { line.old ≡ [] }
     requires short { length words.now ≤ 16 }
     ensures { line.new ≡ words.now ++ place_by names.now spot }
@@ -145,7 +145,7 @@ fn add_at(line: &mut NamedLine, names: &Names, words: &[u8], spot: Spot)
 }
 
 /// What the line of an answer begins with that tells a class.
-fn classed_line(names: &Names, answer: Answer) -> Option<NamedLine>
+fn classed_line(names: &SourceNames, answer: Answer) -> Option<NamedLine>
     ensures some { IfSome result (λ line. line ≡ head_by names.now answer) }
     ensures none { IfNone result (tells_class answer ≡ false) }
 {
@@ -171,7 +171,7 @@ fn classed_line(names: &Names, answer: Answer) -> Option<NamedLine>
 }
 
 /// What the line of an answer begins with, up to its statement, where it tells a class or a method. All others are as ever.
-pub fn named_line(names: &Names, answer: Answer) -> Option<NamedLine>
+pub fn named_line(names: &SourceNames, answer: Answer) -> Option<NamedLine>
     ensures some { IfSome result (λ line. line ≡ head_by names.now answer) }
     ensures none { IfNone result (answer_by names.now answer ≡ answer_text answer) }
 {
@@ -197,7 +197,7 @@ fn shown_spot(answer: Answer) -> Option<Spot>
 }
 
 /// The statement of a text that stands behind an answer.
-pub fn shown_statement<'a>(names: &Names<'a>, answer: Answer) -> Option<Statement<'a>>
+pub fn shown_statement<'a>(names: &SourceNames<'a>, answer: Answer) -> Option<Statement<'a>>
     ensures { result ≡ shown_at names.now (spot_shown answer) }
 {
     match shown_spot(answer) {

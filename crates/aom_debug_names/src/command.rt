@@ -6,9 +6,9 @@ ghost use Rattle.aom_debug_names.specs.Commands.{command_by, is_mark, mark_at, m
 ghost use Rattle.aom_debug_names.specs.Names.{method_named};
 ghost use Rattle.aom_debug_words.specs.Commands.{command_said};
 
-use crate::Names;
+use crate::SourceNames;
 use aom_debug_words::{Command, DebugFault, Pending, Spot, read_command};
-use aom_text::{Number, Words};
+use aom_text::{Number, WordCursor};
 
 /// The most bytes of a line, its line feed aside.
 const MOST_BYTES: usize = 256;
@@ -56,7 +56,11 @@ fn mark_there(verb: &[u8], spot: Option<Spot>) -> Result<Option<Command>, DebugF
 }
 
 /// In a line, if that is the number of one.
-fn mark_in(names: &Names, verb: &[u8], line: Option<u32>) -> Result<Option<Command>, DebugFault>
+fn mark_in(
+    names: &SourceNames,
+    verb: &[u8],
+    line: Option<u32>,
+) -> Result<Option<Command>, DebugFault>
     ensures { result ≡ mark_in names.now verb.now line }
 {
     match line {
@@ -67,7 +71,7 @@ fn mark_in(names: &Names, verb: &[u8], line: Option<u32>) -> Result<Option<Comma
 
 /// At a place of the method of that name; or where none has it, at an instruction by its line.
 fn mark_named(
-    names: &Names,
+    names: &SourceNames,
     verb: &[u8],
     name: &[u8],
     number: Number,
@@ -82,7 +86,7 @@ fn mark_named(
 }
 
 fn mark_numbered(
-    names: &Names,
+    names: &SourceNames,
     verb: &[u8],
     name: &[u8],
     number: &[u8],
@@ -103,7 +107,7 @@ fn is_mark(verb: &[u8]) -> bool
 }
 
 /// What the words of a line say by the names and the lines of a text.
-fn read_mark(names: &Names, mut words: Words) -> Result<Option<Command>, DebugFault>
+fn read_mark(names: &SourceNames, mut words: WordCursor) -> Result<Option<Command>, DebugFault>
     ensures { result ≡ mark_said names.now words.entry }
 {
     match (words.next(), words.next(), words.next()) {
@@ -115,20 +119,20 @@ fn read_mark(names: &Names, mut words: Words) -> Result<Option<Command>, DebugFa
 }
 
 /// What a line says, which is given without its line feed; nothing where it has no word.
-pub fn read_named(names: &Names, line: &[u8]) -> Result<Option<Command>, DebugFault>
+pub fn read_named(names: &SourceNames, line: &[u8]) -> Result<Option<Command>, DebugFault>
     ensures { result ≡ command_by names.now line.now }
 {
     match read_command(line) {
         Ok(said) => Ok(said),
         Err(_) if line.len() <= MOST_BYTES && names.has_text() => {
-            read_mark(names, Words::of(line))
+            read_mark(names, WordCursor::of(line))
         }
         Err(fault) => Err(fault),
     }
 }
 
 /// What the line says that has come. The next line begins.
-pub fn take_named(names: &Names, pending: &mut Pending) -> Result<Option<Command>, DebugFault>
+pub fn take_named(names: &SourceNames, pending: &mut Pending) -> Result<Option<Command>, DebugFault>
     ensures said { (line : List ℕ) → pending.old ≡ pending_of line → result ≡ command_by names.now line }
     ensures anew { pending.new ≡ pending_of [] }
 {
@@ -137,7 +141,7 @@ pub fn take_named(names: &Names, pending: &mut Pending) -> Result<Option<Command
     said
 }
 
-fn read_pending(names: &Names, pending: &Pending) -> Result<Option<Command>, DebugFault>
+fn read_pending(names: &SourceNames, pending: &Pending) -> Result<Option<Command>, DebugFault>
     ensures { (line : List ℕ) → pending.now ≡ pending_of line → result ≡ command_by names.now line }
 {
     match pending.line() {

@@ -1,6 +1,6 @@
 //! The names and the lines of a program's text, in what a debugger tells and in what it is told.
 //!
-//! `Names` are those of a text beside its image, or none. `named_line` spells an answer with them as `specs/Answers.antt` does, up to the
+//! `SourceNames` are those of a text beside its image, or none. `named_line` spells an answer with them as `specs/Answers.antt` does, up to the
 //! statement of the text that `shown_statement` finds for it; `read_named` answers just what a line says by `specs/Commands.antt`: all that
 //! `read_command` reads, and places by the names of methods and by lines. Without a text both are as ever (`no_text_is_as_ever`).
 //! Nothing here takes memory, by signature. It knows nothing of machines, and not where a line goes.
@@ -15,4 +15,4 @@ mod names;
 pub use answer::{NamedLine, add_class_name, named_line, shown_statement};
 pub use command::{read_named, take_named};
 pub use laws::{found_in_its_line, no_text_is_as_ever};
-pub use names::Names;
+pub use names::SourceNames;

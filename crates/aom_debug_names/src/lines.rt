@@ -5,7 +5,7 @@ ghost use Rattle.aom_debug_names.specs.Lines.{next_of, place_in, spot_in};
 use aom_debug_words::Spot;
 use aom_explain::begins_with;
 use aom_syntax::Keyword;
-use aom_text::Text;
+use aom_text::StatementCursor;
 
 /// No image has so many methods, or so many instructions in one.
 const MOST: usize = 65_536;
@@ -36,7 +36,7 @@ pub fn spot_in(text: &[u8], line: u32) -> Option<Spot>
     requires { length text.now ≤ 2 ^ 20 }
     ensures { result ≡ spot_in text.now line }
 {
-    let mut rest = Text::of(text);
+    let mut rest = StatementCursor::of(text);
     let mut methods = 0;
     let mut place = 0;
     while let Some(statement) = rest.next() {

@@ -18,13 +18,13 @@ const LONGEST_NAME: usize = 32;
 
 /// The names of classes and of methods, that of number 0 first, and the text in which they stand.
 #[derive(Drop)]
-pub struct Names<'a> {
+pub struct SourceNames<'a> {
     classes: &'a [&'a [u8]],
     methods: &'a [&'a [u8]],
     text: &'a [u8],
 }
 
-impl<'a> Model for Names<'a> {
+impl<'a> Model for SourceNames<'a> {
     ghost use Rattle.std.specs.Prelude.{◌≤◌, ◌^◌, length};
     ghost use Rattle.aom_run.specs.Naming.{lent};
     ghost use Rattle.aom_debug_names.specs.Names.{Names as NamesRecord};
@@ -55,13 +55,13 @@ fn index_of(names: &[&[u8]], name: &[u8]) -> Option<usize>
     names.iter().position(|other| *other == name)
 }
 
-impl<'a> Names<'a> {
+impl<'a> SourceNames<'a> {
     /// The names that stand in a text.
-    pub fn new(classes: &'a [&'a [u8]], methods: &'a [&'a [u8]], text: &'a [u8]) -> Names<'a>
+    pub fn new(classes: &'a [&'a [u8]], methods: &'a [&'a [u8]], text: &'a [u8]) -> SourceNames<'a>
         requires { length text.now ≤ 2 ^ 20 }
         ensures { result ≡ record { classes = lent classes.entry.now; methods = lent methods.entry.now; text = text.entry.now } }
     {
-        Names {
+        SourceNames {
             classes,
             methods,
             text,
@@ -69,10 +69,10 @@ impl<'a> Names<'a> {
     }
 
     /// There is no text: all is told by numbers.
-    pub fn none() -> Names<'a>
+    pub fn none() -> SourceNames<'a>
         ensures { result ≡ unnamed }
     {
-        Names {
+        SourceNames {
             classes: &[],
             methods: &[],
             text: &[],

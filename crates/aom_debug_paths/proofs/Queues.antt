@@ -4,8 +4,8 @@ use Rattle.std.specs.Prelude.{map, option_map, slice_get}
 use Rattle.std.proofs.lemmas.Option.{none-some}
 use Rattle.aom_clients.specs.Clients.{queue_at, taken_entry}
 use Rattle.aom_clients.specs.Clients as kept
-use Rattle.aom_clients.specs.declared.entry.Entry.{Entry}
-use Rattle.aom_clients.specs.declared.entry.Entry.TheVariants.{Connect, Message, Close}
+use Rattle.aom_clients.specs.declared.entry.QueueEntry.{QueueEntry}
+use Rattle.aom_clients.specs.declared.entry.QueueEntry.TheVariants.{Connect, Message, Close}
 use Rattle.aom_image.specs.Image.{Image}
 use Rattle.aom_image.specs.declared.method.Thing.{Thing}
 use Rattle.aom_image.specs.declared.method.Thing.TheVariants.{Object as An_object_of, Message as A_message}
@@ -22,12 +22,12 @@ use Rattle.aom_debug_paths.specs.declared.following.Found.{Found}
 use Rattle.aom_debug_paths.specs.Paths.{IsFound, asked_answer, object_queue, queue_in, taken_answer, waiting_lines}
 
 -- one entry
-entry_told : (k : kept.State) (e : Entry) → taken_answer (taken_entry k e) ≡ asked_answer (asked_by k.places e)
+entry_told : (k : kept.State) (e : QueueEntry) → taken_answer (taken_entry k e) ≡ asked_answer (asked_by k.places e)
 entry_told k (Connect c) = refl
 entry_told k (Message m) = refl
 entry_told k (Close c) = refl
 
-entries_told : (k : kept.State) (es : List Entry) → map (λ e. taken_answer (taken_entry k e)) es ≡ map asked_answer (map (asked_by k.places) es)
+entries_told : (k : kept.State) (es : List QueueEntry) → map (λ e. taken_answer (taken_entry k e)) es ≡ map asked_answer (map (asked_by k.places) es)
 entries_told k [] = refl
 entries_told k (e ∷ es) = ap (λ a. a ∷ map (λ x. taken_answer (taken_entry k x)) es) (entry_told k e) ∙ ap (λ ys. asked_answer (asked_by k.places e) ∷ ys) (entries_told k es)
 

@@ -6,8 +6,8 @@ use Rattle.aom_image.specs.declared.method.Thing.{Thing}
 use Rattle.aom_image.specs.declared.method.Thing.TheVariants.{Object as An_object_of, Message as A_message}
 use Rattle.aom_classes.specs.Roles.{or_else}
 use Rattle.aom_roles.specs.Things.{words_of}
-use Rattle.aom_clients.specs.declared.entry.Entry.{Entry as Queue_entry}
-use Rattle.aom_clients.specs.declared.entry.Entry.TheVariants as entries
+use Rattle.aom_clients.specs.declared.entry.QueueEntry.{QueueEntry}
+use Rattle.aom_clients.specs.declared.entry.QueueEntry.TheVariants as entries
 use Rattle.aom_clients.specs.declared.entry.Taken.{Taken}
 use Rattle.aom_semantics.specs.Owned.{over}
 use Rattle.aom_semantics.specs.Places.{Asked, Cell, Close_of, Connect_of, Elsewhere, Entry, Field, Going, In_service, Message_of, Object, Place, Register, Root, Session, held, service_of, word_field}
@@ -151,7 +151,7 @@ abbrev pub queue_answers : State → Way → Option (List Answer)
 queue_answers s w = queue_in s.cells (owned_at s w)
 
 -- an entry of the machine's queue, with the client that it is of
-abbrev pub entry_answer : Queue_entry → ℕ → Answer
+abbrev pub entry_answer : QueueEntry → ℕ → Answer
 entry_answer (entries.Connect c) client = Connect client
 entry_answer (entries.Message place) client = Message client
 entry_answer (entries.Close c) client = Close client

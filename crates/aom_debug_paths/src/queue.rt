@@ -9,7 +9,7 @@ ghost use Rattle.aom_debug_views.specs.Telling.{Tells, TellsPart, answers_text};
 ghost use Rattle.aom_debug_paths.specs.Paths.{taken_answer, waiting_lines};
 
 use crate::Found;
-use aom_clients::{Entry, Taken};
+use aom_clients::{QueueEntry, Taken};
 use aom_debug_views::tell_any;
 use aom_debug_words::{Answer, DebugFault};
 use aom_machine_state::Parts;
@@ -20,9 +20,9 @@ fn taken_answer(taken: Taken) -> Answer
     ensures { result ≡ taken_answer taken }
 {
     match taken.entry {
-        Entry::Connect { .. } => Answer::Connect(taken.client),
-        Entry::Message { .. } => Answer::Message(taken.client),
-        Entry::Close { .. } => Answer::Close(taken.client),
+        QueueEntry::Connect { .. } => Answer::Connect(taken.client),
+        QueueEntry::Message { .. } => Answer::Message(taken.client),
+        QueueEntry::Close { .. } => Answer::Close(taken.client),
     }
 }
 

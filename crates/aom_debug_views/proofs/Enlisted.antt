@@ -14,7 +14,7 @@ use Rattle.aom_clients.specs.Clients.{queue_at}
 use Rattle.aom_scheduler.specs.Requests.{IsEnlisted, is_server as is_served, request_at, state_at, state_of, status_at, status_of}
 use Rattle.aom_scheduler.specs.declared.request.State.{State as Machine_state}
 use Rattle.aom_scheduler.specs.declared.request.Request.{Request as Machine_request}
-use Rattle.aom_scheduler.specs.declared.entry.Entry.{Entry}
+use Rattle.aom_scheduler.specs.declared.entry.ScheduleEntry.{ScheduleEntry}
 use Rattle.aom_active.specs.Agrees.{GoesBefore, HasPriority, Tells as Tells_request, phase_of, queue_in, queued}
 use Rattle.aom_scheduler.proofs.Items.{IsAt, at_head, in_tail, pairs-head, pairs-nil, pairs-tail, place-at, some_is}
 use Rattle.aom_scheduler.specs.Roster.{place}
@@ -93,7 +93,7 @@ module _ (p : Image) (m : Parts) (s : State) (st : StandsFor (record { image = p
 
 module _ (p : Image) (m : Parts) (s : State) (st : StandsFor (record { image = p; parts = m }) s) where
   -- an entry has the priority of the request of its object
-  pub has_priority : (place : ℕ) (e : Entry) → Some e ≡ slice_get m.active.roster.entries place → HasPriority e.priority (requested s.cells e.id)
+  pub has_priority : (place : ℕ) (e : ScheduleEntry) → Some e ≡ slice_get m.active.roster.entries place → HasPriority e.priority (requested s.cells e.id)
   has_priority place e is = grind (arith, slice_get_within m.active.roster.entries place e, get_or_from_slice_get m.active.roster.entries place e e)
 
 -- ---- all entries
@@ -112,7 +112,7 @@ pairs_by R f (x ∷ xs) pairs = AllPairs-cons R (f x) (map f xs) (All-map (R (f 
 listed_by : (q : Option Machine_request) (r : Option Request) (w : Option Bool) → Tells_request q r w → IsSome r → IsSome q
 listed_by q r w tells some = grind arith
 
-at_contains : (n : ℕ) (xs : List Entry) (i : ℕ) → IsAt (λ e. e.id) n xs i → Contains (map (λ e. e.id) xs) n
+at_contains : (n : ℕ) (xs : List ScheduleEntry) (i : ℕ) → IsAt (λ e. e.id) n xs i → Contains (map (λ e. e.id) xs) n
 at_contains n _ _ (at_head x xs same) = (0, omega arith, same)
 at_contains n _ _ (in_tail {i} x xs other rest) = let there = at_contains n xs i rest in let within = there.1 in (suc there.0, omega (arith, within), there.2)
 

@@ -14,7 +14,7 @@ use Rattle.aom_image.specs.declared.method.Thing.TheVariants.{Object as An_objec
 use Rattle.aom_roles.specs.Things.{is_object}
 use Rattle.aom_cells.specs.Heap.{Lives, class_at, field_at}
 use Rattle.aom_clients.specs.Clients.{client_at, place_at, sessions_at}
-use Rattle.aom_clients.specs.declared.place.Place.{Place as Message_place}
+use Rattle.aom_clients.specs.declared.place.MessagePlace.{MessagePlace}
 use Rattle.aom_transcript.specs.Text.{ended}
 use Rattle.aom_semantics.proofs.Maps.{held_lives}
 use Rattle.aom_semantics.specs.Places.{Cell, Elsewhere, Field, Object, Place, Register, Sender, Session, Token, held, named, service_of}
@@ -69,7 +69,7 @@ tree_none cs x w o none = grind arith
 -- ---- who hears when a message is completed
 
 -- where a place is told to have nothing, it has no token and no client's message
-unsourced : (c : Option ℕ) (x : Message_place) → source_of c x ≡ None → (c ≡ None) × (is_taken x ≡ false)
+unsourced : (c : Option ℕ) (x : MessagePlace) → source_of c x ≡ None → (c ≡ None) × (is_taken x ≡ false)
 unsourced x y none = grind arith
 
 -- no message is without either
@@ -77,12 +77,12 @@ uncounted : (sd : Option Sender) (t : Option Token) → is_some sd ≡ false →
 uncounted x t unsent untold one = grind arith
 
 -- what is told of a place is who hears of the message there
-told_source : (c : Option ℕ) (slot : Bool) (x : Message_place) (sd : Option Sender) (t : Option Token) (source : Source) →
+told_source : (c : Option ℕ) (slot : Bool) (x : MessagePlace) (sd : Option Sender) (t : Option Token) (source : Source) →
     class_of_token t ≡ c → sent_by slot x ≡ sd → one_if_some sd + one_if_some t ≡ 1 → source_of c x ≡ Some source → source_by sd t ≡ Some source
 told_source x slot y sd z source class sent one is = grind (arith, nat_tests, same_Some)
 
 -- and where there is neither, nothing is told
-untold_source : (c : Option ℕ) (slot : Bool) (x : Message_place) (source : Source) → c ≡ None → sent_by slot x ≡ None → source_of c x ≡ Some source → ⊥
+untold_source : (c : Option ℕ) (slot : Bool) (x : MessagePlace) (source : Source) → c ≡ None → sent_by slot x ≡ None → source_of c x ≡ Some source → ⊥
 untold_source x slot y source none unsent is = grind arith
 
 -- of each message it is told

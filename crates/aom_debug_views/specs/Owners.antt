@@ -5,8 +5,8 @@ use Rattle.aom_image.specs.declared.method.Thing.{Thing}
 use Rattle.aom_image.specs.declared.method.Thing.TheVariants.{Object as An_object_of, Message}
 use Rattle.aom_cells.specs.Heap.{null}
 use Rattle.aom_clients.specs.Clients.{place_at}
-use Rattle.aom_clients.specs.declared.place.Place.{Place as Message_place}
-use Rattle.aom_clients.specs.declared.place.Place.TheVariants.{Discarded, Free, Held, Queued}
+use Rattle.aom_clients.specs.declared.place.MessagePlace.{MessagePlace}
+use Rattle.aom_clients.specs.declared.place.MessagePlace.TheVariants.{Discarded, Free, Held, Queued}
 use Rattle.aom_frames.specs.declared.item.Item.{Item as Machine_item}
 use Rattle.aom_frames.specs.declared.item.Item.TheVariants.{Object as Holds_object, Operation as Holds_operation, Mark as Is_mark}
 use Rattle.aom_frames.specs.declared.frame.Frame.{Frame as Machine_frame}
@@ -138,14 +138,14 @@ message_text ns way None = []
 message_text ns way (Some source) = ended (way ++ codes " " ++ hearer_by ns source)
 
 -- the client that sent what a message place has
-abbrev pub sender_of : Message_place → Option Source
+abbrev pub sender_of : MessagePlace → Option Source
 sender_of Free = None
 sender_of (Queued client) = Some (sources.Client client)
 sender_of (Held client) = Some (sources.Client client)
 sender_of (Discarded client) = Some (sources.Client client)
 
 -- a place that has a token has no client's message
-abbrev pub source_of : Option ℕ → Message_place → Option Source
+abbrev pub source_of : Option ℕ → MessagePlace → Option Source
 source_of (Some class) place = Some (sources.Token class)
 source_of None place = sender_of place
 

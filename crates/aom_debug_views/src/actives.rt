@@ -9,11 +9,11 @@ ghost use Rattle.aom_debug_views.specs.Actives.{TellsActives, TellsActivesPart, 
 
 use crate::cleanup::class_of;
 use crate::sending::tell_any_by;
-use aom_debug_names::Names;
+use aom_debug_names::SourceNames;
 use aom_debug_words::{Answer, DebugFault, Phase};
 use aom_machine_state::Parts;
 use aom_run::Sink;
-use aom_scheduler::{Entry, State};
+use aom_scheduler::{ScheduleEntry, State};
 
 /// How far a request has come, as it is told.
 fn phase_of(state: State) -> Phase
@@ -27,7 +27,7 @@ fn phase_of(state: State) -> Phase
 }
 
 /// An enlisted object, as it is told.
-fn entry_answer(parts: &Parts, entry: Entry) -> Option<Answer>
+fn entry_answer(parts: &Parts, entry: ScheduleEntry) -> Option<Answer>
     requires { (p : Image) × Stands (record { image = p; parts = parts.now }) }
     ensures { (p : Image) (s : StateRecord) → StandsFor (record { image = p; parts = parts.now }) s → HasPriority entry.priority (requested s.cells entry.id) → result ≡ active_answer p s.cells entry.id }
 {
@@ -53,7 +53,11 @@ fn place_answer(parts: &Parts, place: usize) -> Option<Answer>
 }
 
 /// Tells the enlisted objects, and of a server how much waits in its queue, in the order of choice: one of a higher priority first, and of two of the same the one that was enlisted first.
-pub fn tell_actives<W: Sink>(parts: &Parts, names: &Names, out: &mut W) -> Result<(), DebugFault>
+pub fn tell_actives<W: Sink>(
+    parts: &Parts,
+    names: &SourceNames,
+    out: &mut W,
+) -> Result<(), DebugFault>
     requires { (p : Image) × Stands (record { image = p; parts = parts.now }) }
     ensures ok { IfOk result (λ _. (p : Image) → TellsActives names.now (record { image = p; parts = parts.now }) (W.out out.old) (W.out out.new)) }
     ensures err { IfErr result (λ fault. (p : Image) → TellsActivesPart names.now (record { image = p; parts = parts.now }) fault (W.failed out.new) (W.out out.old) (W.out out.new)) }

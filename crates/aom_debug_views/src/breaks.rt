@@ -6,7 +6,7 @@ ghost use Rattle.aom_debug_views.specs.Sights.{breaks_answers};
 ghost use Rattle.aom_debug_views.specs.Telling.{IsCut, answers_by};
 
 use crate::sending::tell_any_by;
-use aom_debug_names::Names;
+use aom_debug_names::SourceNames;
 use aom_debug_words::{Answer, Breakpoints, DebugFault};
 use aom_run::Sink;
 
@@ -23,7 +23,7 @@ fn break_answer(breakpoints: &Breakpoints, index: usize) -> Option<Answer>
 /// Tells the breakpoints, in the order in which they were set, each as the command that sets it.
 pub fn tell_breaks<W: Sink>(
     breakpoints: &Breakpoints,
-    names: &Names,
+    names: &SourceNames,
     out: &mut W,
 ) -> Result<(), DebugFault>
     ensures ok { IfOk result (λ _. W.out out.new ≡ after (W.out out.old) (answers_by names.now (breaks_answers breakpoints.now))) }

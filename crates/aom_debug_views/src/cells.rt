@@ -9,7 +9,7 @@ ghost use Rattle.aom_debug_views.specs.Telling.{Tells, TellsPart, answers_by};
 
 use crate::cleanup::class_of;
 use crate::sending::{tell_any_by, tell_by};
-use aom_debug_names::Names;
+use aom_debug_names::SourceNames;
 use aom_debug_words::{Answer, DebugFault};
 use aom_linked::Linked;
 use aom_machine_state::Parts;
@@ -53,7 +53,7 @@ fn class_answer(parts: &Parts, class: u16) -> Option<Answer>
 fn tell_classes<W: Sink>(
     parts: &Parts,
     classes: usize,
-    names: &Names,
+    names: &SourceNames,
     out: &mut W,
 ) -> Result<(), DebugFault>
     requires { classes ≤ 256 }
@@ -70,7 +70,7 @@ fn tell_classes<W: Sink>(
 pub fn tell_cells<W: Sink>(
     parts: &Parts,
     linked: &Linked,
-    names: &Names,
+    names: &SourceNames,
     out: &mut W,
 ) -> Result<(), DebugFault>
     ensures ok { IfOk result (λ _. (p : Image) → Tells (record { image = p; parts = parts.now }) (λ s. answers_by names.now (cells_answers linked.now s)) (W.out out.old) (W.out out.new)) }

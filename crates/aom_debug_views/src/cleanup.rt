@@ -10,7 +10,7 @@ ghost use Rattle.aom_debug_views.specs.Sights.{cleanup_answers, held_answer, ite
 ghost use Rattle.aom_debug_views.specs.Telling.{Tells, TellsPart, answers_by};
 
 use crate::sending::tell_any_by;
-use aom_debug_names::Names;
+use aom_debug_names::SourceNames;
 use aom_debug_words::{Answer, DebugFault};
 use aom_frames::Item;
 use aom_machine_state::Parts;
@@ -70,7 +70,11 @@ fn item_answer(parts: &Parts, height: usize) -> Option<Answer>
 }
 
 /// Tells the items of the cleanup stack, the lowest first.
-pub fn tell_cleanup<W: Sink>(parts: &Parts, names: &Names, out: &mut W) -> Result<(), DebugFault>
+pub fn tell_cleanup<W: Sink>(
+    parts: &Parts,
+    names: &SourceNames,
+    out: &mut W,
+) -> Result<(), DebugFault>
     ensures ok { IfOk result (λ _. (p : Image) → Tells (record { image = p; parts = parts.now }) (λ s. answers_by names.now (cleanup_answers s)) (W.out out.old) (W.out out.new)) }
     ensures err { IfErr result (λ fault. (p : Image) → TellsPart (record { image = p; parts = parts.now }) (λ s. answers_by names.now (cleanup_answers s)) fault (W.failed out.new) (W.out out.old) (W.out out.new)) }
 {

@@ -23,7 +23,7 @@ use crate::sending::tell_any_by;
 use crate::tree::source_at;
 use aom_budget::Accepted;
 use aom_cells::NULL;
-use aom_debug_names::Names;
+use aom_debug_names::SourceNames;
 use aom_debug_words::{Answer, Content, DebugFault, Spot};
 use aom_frames::{Frame, Task};
 use aom_machine_state::Parts;
@@ -94,7 +94,7 @@ fn tell_contents<W: Sink>(
     parts: &Parts,
     shape: &Shape<'_>,
     frame: &Frame,
-    names: &Names,
+    names: &SourceNames,
     out: &mut W,
 ) -> Result<(), DebugFault>
     requires { (p : Image) × Stands (record { image = p; parts = parts.now }) }
@@ -118,7 +118,7 @@ fn loop_answer(number: u8, rounds: u16) -> Option<Answer>
 }
 
 /// Tells the loops of a frame that have rounds left, the outermost first.
-fn tell_loops<W: Sink>(frame: &Frame, names: &Names, out: &mut W) -> Result<(), DebugFault>
+fn tell_loops<W: Sink>(frame: &Frame, names: &SourceNames, out: &mut W) -> Result<(), DebugFault>
     ensures ok { IfOk result (λ _. (m : Machine) (sh : ShapeRecord) (depth : ℕ) → ShowsFrame m sh frame.now depth → Tells m (λ s. answers_by names.now (loops_in (over s.tasks depth) 4)) (W.out out.old) (W.out out.new)) }
     ensures err { IfErr result (λ fault. (m : Machine) (sh : ShapeRecord) (depth : ℕ) → ShowsFrame m sh frame.now depth → TellsPart m (λ s. answers_by names.now (loops_in (over s.tasks depth) 4)) fault (W.failed out.new) (W.out out.old) (W.out out.new)) }
 {
@@ -152,7 +152,7 @@ fn trap_under(parts: &Parts, depth: usize) -> Option<Answer>
 fn tell_trap<W: Sink>(
     parts: &Parts,
     depth: usize,
-    names: &Names,
+    names: &SourceNames,
     out: &mut W,
 ) -> Result<(), DebugFault>
     ensures ok { IfOk result (λ _. (p : Image) (sh : ShapeRecord) (f : FrameOf) → ShowsFrame (record { image = p; parts = parts.now }) sh f depth → Tells (record { image = p; parts = parts.now }) (λ s. answers_by names.now (listed (trap_in s.tasks depth (over s.tasks depth)))) (W.out out.old) (W.out out.new)) }
@@ -162,7 +162,7 @@ fn tell_trap<W: Sink>(
 }
 
 /// Tells where a frame stands.
-fn tell_head<W: Sink>(frame: &Frame, names: &Names, out: &mut W) -> Result<(), DebugFault>
+fn tell_head<W: Sink>(frame: &Frame, names: &SourceNames, out: &mut W) -> Result<(), DebugFault>
     ensures ok { IfOk result (λ _. (m : Machine) (sh : ShapeRecord) (depth : ℕ) → ShowsFrame m sh frame.now depth → Tells m (λ s. answers_by names.now (listed (place_in (over s.tasks depth)))) (W.out out.old) (W.out out.new)) }
     ensures err { IfErr result (λ fault. (m : Machine) (sh : ShapeRecord) (depth : ℕ) → ShowsFrame m sh frame.now depth → TellsPart m (λ s. answers_by names.now (listed (place_in (over s.tasks depth)))) fault (W.failed out.new) (W.out out.old) (W.out out.new)) }
 {
@@ -179,7 +179,7 @@ fn tell_lines<W: Sink>(
     shape: &Shape<'_>,
     frame: &Frame,
     depth: usize,
-    names: &Names,
+    names: &SourceNames,
     out: &mut W,
 ) -> Result<(), DebugFault>
     requires { (p : Image) × Stands (record { image = p; parts = parts.now }) }
@@ -197,7 +197,7 @@ fn tell_method<W: Sink>(
     parts: &Parts,
     checked: &Checked,
     depth: usize,
-    names: &Names,
+    names: &SourceNames,
     out: &mut W,
 ) -> Result<(), DebugFault>
     requires stands { Stands (record { image = checked.now; parts = parts.now }) }
@@ -219,7 +219,7 @@ fn tell_method<W: Sink>(
 pub fn tell_frames<W: Sink>(
     parts: &Parts,
     accepted: &Accepted,
-    names: &Names,
+    names: &SourceNames,
     out: &mut W,
 ) -> Result<(), DebugFault>
     requires stands { Stands (record { image = accepted.now; parts = parts.now }) }

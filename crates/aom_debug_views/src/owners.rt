@@ -19,7 +19,7 @@ use crate::tree::tell_place;
 use crate::way;
 use aom_budget::Accepted;
 use aom_cells::NULL;
-use aom_debug_names::Names;
+use aom_debug_names::SourceNames;
 use aom_debug_words::DebugFault;
 use aom_frames::{Frame, Item, Task};
 use aom_machine_state::Parts;
@@ -45,7 +45,7 @@ fn tell_register<W: Sink>(
     frame: &Frame,
     frames: usize,
     register: u8,
-    names: &Names,
+    names: &SourceNames,
     out: &mut W,
 ) -> Result<(), DebugFault>
     requires register { register < 16 }
@@ -72,7 +72,7 @@ fn tell_frame<W: Sink>(
     shape: &Shape<'_>,
     frame: &Frame,
     frames: usize,
-    names: &Names,
+    names: &SourceNames,
     out: &mut W,
 ) -> Result<(), DebugFault>
     requires stands { (p : Image) × Stands (record { image = p; parts = parts.now }) }
@@ -122,7 +122,7 @@ fn tell_task<W: Sink>(
     checked: &Checked,
     depth: usize,
     frames: usize,
-    names: &Names,
+    names: &SourceNames,
     out: &mut W,
 ) -> Result<(), DebugFault>
     requires stands { Stands (record { image = checked.now; parts = parts.now }) }
@@ -143,7 +143,7 @@ fn tell_task<W: Sink>(
 fn tell_registers<W: Sink>(
     parts: &Parts,
     checked: &Checked,
-    names: &Names,
+    names: &SourceNames,
     out: &mut W,
 ) -> Result<(), DebugFault>
     requires stands { Stands (record { image = checked.now; parts = parts.now }) }
@@ -203,7 +203,7 @@ pub fn entries_at(parts: &Parts, height: usize) -> usize
 }
 
 /// Tells what hangs from the entries of the cleanup stack, the lowest first.
-fn tell_entries<W: Sink>(parts: &Parts, names: &Names, out: &mut W) -> Result<(), DebugFault>
+fn tell_entries<W: Sink>(parts: &Parts, names: &SourceNames, out: &mut W) -> Result<(), DebugFault>
     requires stands { (p : Image) × Stands (record { image = p; parts = parts.now }) }
     ensures ok { IfOk result (λ _. (p : Image) → Tells (record { image = p; parts = parts.now }) (λ s. owners_text names.now (entries_map s (length s.items))) (W.out out.old) (W.out out.new)) }
     ensures err { IfErr result (λ fault. (p : Image) → TellsPart (record { image = p; parts = parts.now }) (λ s. owners_text names.now (entries_map s (length s.items))) fault (W.failed out.new) (W.out out.old) (W.out out.new)) }
@@ -264,7 +264,7 @@ pub fn goings_at(parts: &Parts, depth: usize) -> usize
 }
 
 /// Tells what hangs from the destructions at hand, the outermost first.
-fn tell_goings<W: Sink>(parts: &Parts, names: &Names, out: &mut W) -> Result<(), DebugFault>
+fn tell_goings<W: Sink>(parts: &Parts, names: &SourceNames, out: &mut W) -> Result<(), DebugFault>
     requires stands { (p : Image) × Stands (record { image = p; parts = parts.now }) }
     ensures ok { IfOk result (λ _. (p : Image) → Tells (record { image = p; parts = parts.now }) (λ s. owners_text names.now (goings_map s (length s.tasks))) (W.out out.old) (W.out out.new)) }
     ensures err { IfErr result (λ fault. (p : Image) → TellsPart (record { image = p; parts = parts.now }) (λ s. owners_text names.now (goings_map s (length s.tasks))) fault (W.failed out.new) (W.out out.old) (W.out out.new)) }
@@ -289,7 +289,7 @@ fn tell_goings<W: Sink>(parts: &Parts, names: &Names, out: &mut W) -> Result<(),
 pub fn tell_owners<W: Sink>(
     parts: &Parts,
     accepted: &Accepted,
-    names: &Names,
+    names: &SourceNames,
     out: &mut W,
 ) -> Result<(), DebugFault>
     requires stands { Stands (record { image = accepted.now; parts = parts.now }) }

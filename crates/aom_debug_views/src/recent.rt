@@ -6,7 +6,7 @@ ghost use Rattle.aom_debug_views.specs.Sights.{recent_answers};
 ghost use Rattle.aom_debug_views.specs.Telling.{IsCut, answers_by};
 
 use crate::sending::tell_any_by;
-use aom_debug_names::Names;
+use aom_debug_names::SourceNames;
 use aom_debug_words::{Answer, DebugFault, Recent};
 use aom_run::Sink;
 
@@ -21,7 +21,11 @@ fn recent_answer(recent: &Recent, index: usize) -> Option<Answer>
 }
 
 /// Tells the latest instructions, the oldest first.
-pub fn tell_recent<W: Sink>(recent: &Recent, names: &Names, out: &mut W) -> Result<(), DebugFault>
+pub fn tell_recent<W: Sink>(
+    recent: &Recent,
+    names: &SourceNames,
+    out: &mut W,
+) -> Result<(), DebugFault>
     ensures ok { IfOk result (λ _. W.out out.new ≡ after (W.out out.old) (answers_by names.now (recent_answers recent.now))) }
     ensures err { IfErr result (λ fault. IsCut (answers_by names.now (recent_answers recent.now)) fault (W.failed out.new) (W.out out.old) (W.out out.new)) }
 {

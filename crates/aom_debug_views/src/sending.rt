@@ -8,10 +8,10 @@ ghost use Rattle.aom_debug_names.specs.Answers.{answer_by, behind, lead_text, st
 ghost use Rattle.aom_debug_views.specs.Telling.{IsCut, answers_by, answers_text, listed, tail_text};
 
 use aom_buffers::Text;
-use aom_debug_names::{Names, named_line, shown_statement};
+use aom_debug_names::{SourceNames, named_line, shown_statement};
 use aom_debug_words::{Answer, DebugFault, line_of};
 use aom_run::{Sink, write_text};
-use aom_text::{Statement, Words};
+use aom_text::{Statement, WordCursor};
 
 /// What stands before the words of a statement.
 type Lead = Text<32>;
@@ -49,7 +49,7 @@ pub fn tell_any<W: Sink>(answer: Option<Answer>, out: &mut W) -> Result<(), Debu
 }
 
 /// Writes words, each behind a space.
-fn send_words<W: Sink>(mut words: Words, out: &mut W) -> Result<(), DebugFault>
+fn send_words<W: Sink>(mut words: WordCursor, out: &mut W) -> Result<(), DebugFault>
     ensures ok { IfOk result (λ _. W.out out.new ≡ after (W.out out.old) (spaced words.entry)) }
     ensures err { IfErr result (λ fault. IsCut (spaced words.entry) fault (W.failed out.new) (W.out out.old) (W.out out.new)) }
 {
@@ -104,7 +104,7 @@ fn send_shown<W: Sink>(head: &[u8], found: Option<Statement>, out: &mut W) -> Re
 }
 
 /// Writes an answer on a line by the names and the lines of a text, where there is one.
-pub fn tell_by<W: Sink>(names: &Names, answer: Answer, out: &mut W) -> Result<(), DebugFault>
+pub fn tell_by<W: Sink>(names: &SourceNames, answer: Answer, out: &mut W) -> Result<(), DebugFault>
     ensures ok { IfOk result (λ _. W.out out.new ≡ after (W.out out.old) (ended (answer_by names.now answer))) }
     ensures err { IfErr result (λ fault. IsCut (ended (answer_by names.now answer)) fault (W.failed out.new) (W.out out.old) (W.out out.new)) }
 {
@@ -116,7 +116,7 @@ pub fn tell_by<W: Sink>(names: &Names, answer: Answer, out: &mut W) -> Result<()
 
 /// Writes it if there is one.
 pub fn tell_any_by<W: Sink>(
-    names: &Names,
+    names: &SourceNames,
     answer: Option<Answer>,
     out: &mut W,
 ) -> Result<(), DebugFault>

@@ -9,7 +9,7 @@ ghost use Rattle.aom_debug_views.specs.Timers.{TellsTimers, TellsTimersPart, tim
 
 use crate::cleanup::class_of;
 use crate::sending::tell_any_by;
-use aom_debug_names::Names;
+use aom_debug_names::SourceNames;
 use aom_debug_words::{Answer, DebugFault};
 use aom_machine_state::Parts;
 use aom_run::Sink;
@@ -36,7 +36,11 @@ fn place_answer(parts: &Parts, place: usize) -> Option<Answer>
 }
 
 /// Tells the timers that run, and when each is due: the sooner before the later, and of two at one time the one that was set first.
-pub fn tell_timers<W: Sink>(parts: &Parts, names: &Names, out: &mut W) -> Result<(), DebugFault>
+pub fn tell_timers<W: Sink>(
+    parts: &Parts,
+    names: &SourceNames,
+    out: &mut W,
+) -> Result<(), DebugFault>
     requires { (p : Image) × Stands (record { image = p; parts = parts.now }) }
     ensures ok { IfOk result (λ _. (p : Image) → TellsTimers names.now (record { image = p; parts = parts.now }) (W.out out.old) (W.out out.new)) }
     ensures err { IfErr result (λ fault. (p : Image) → TellsTimersPart names.now (record { image = p; parts = parts.now }) fault (W.failed out.new) (W.out out.old) (W.out out.new)) }

@@ -15,10 +15,10 @@ ghost use Rattle.aom_debug_views.specs.Owners.{Outer, Shows, Way as WayRecord, g
 ghost use Rattle.aom_debug_views.specs.Telling.{IsCut, Tells, TellsPart};
 
 use crate::sending::send;
-use crate::way::{Way, add_class, add_message, enter, enter_session};
+use crate::way::{PathText, add_class, add_message, enter, enter_session};
 use aom_cells::{CellId, MessageId, NULL};
-use aom_clients::{Client, NO_CELL, Place};
-use aom_debug_names::Names;
+use aom_clients::{Client, MessagePlace, NO_CELL};
+use aom_debug_names::SourceNames;
 use aom_debug_words::{DebugFault, Source};
 use aom_machine_state::Parts;
 use aom_run::Sink;
@@ -28,9 +28,9 @@ const GENERATIONS: usize = 257;
 
 /// Writes the line of an object of a class.
 fn tell_owned<W: Sink>(
-    way: &mut Way,
+    way: &mut PathText,
     class: u16,
-    names: &Names,
+    names: &SourceNames,
     out: &mut W,
 ) -> Result<(), DebugFault>
     requires { length way.old + 34 ≤ 1536 }
@@ -47,9 +47,9 @@ fn tell_owned<W: Sink>(
 
 /// Writes the line of a message.
 fn tell_sent<W: Sink>(
-    way: &mut Way,
+    way: &mut PathText,
     source: Source,
-    names: &Names,
+    names: &SourceNames,
     out: &mut W,
 ) -> Result<(), DebugFault>
     requires { length way.old + 40 ≤ 1536 }
@@ -65,14 +65,14 @@ fn tell_sent<W: Sink>(
 }
 
 /// Who sent what a message place has.
-fn sender_of(place: Place) -> Option<Source>
+fn sender_of(place: MessagePlace) -> Option<Source>
     ensures { result ≡ sender_of place }
 {
     match place {
-        Place::Free => None,
-        Place::Queued { client } | Place::Held { client } | Place::Discarded { client } => {
-            Some(Source::Client(client))
-        }
+        MessagePlace::Free => None,
+        MessagePlace::Queued { client }
+        | MessagePlace::Held { client }
+        | MessagePlace::Discarded { client } => { Some(Source::Client(client)) }
     }
 }
 
@@ -94,9 +94,9 @@ pub(crate) fn source_at(parts: &Parts, number: u32) -> Option<Source>
 /// Writes the line of the message of that number, if there is one.
 fn tell_message<W: Sink>(
     parts: &Parts,
-    way: &mut Way,
+    way: &mut PathText,
     number: u32,
-    names: &Names,
+    names: &SourceNames,
     out: &mut W,
 ) -> Result<(), DebugFault>
     requires room { length way.old + 40 ≤ 1536 }
@@ -165,10 +165,10 @@ fn session_number(parts: &Parts, id: CellId, client: u8) -> u32
 /// Writes the line of what has that number, if it is one's, and so many generations of what hangs from it.
 fn tell_tree<W: Sink>(
     parts: &Parts,
-    way: &mut Way,
+    way: &mut PathText,
     number: u32,
     depth: usize,
-    names: &Names,
+    names: &SourceNames,
     out: &mut W,
 ) -> Result<(), DebugFault>
     requires room { length way.old + 5 * depth + 40 ≤ 1536 }
@@ -218,9 +218,9 @@ fn tell_tree<W: Sink>(
 /// Writes all that hangs from an outer place that has that number.
 pub(crate) fn tell_place<W: Sink>(
     parts: &Parts,
-    mut way: Way,
+    mut way: PathText,
     number: u32,
-    names: &Names,
+    names: &SourceNames,
     out: &mut W,
 ) -> Result<(), DebugFault>
     requires short { length way ≤ 48 }

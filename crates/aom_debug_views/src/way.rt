@@ -7,17 +7,17 @@ ghost use Rattle.aom_debug_views.specs.Owners.{branch_text, outer_text};
 ghost use Rattle.aom_debug_views.specs.Owners.{At_root, At_service, By_field, By_session, In_entry, In_going, In_register};
 
 use aom_buffers::Text;
-use aom_debug_names::{Names, add_class_name};
+use aom_debug_names::{SourceNames, add_class_name};
 use aom_debug_words::Source;
 
 /// An outer place takes at most 48 bytes, each of 257 fields or sessions at most 5, and what is there at most 40.
 const LONGEST: usize = 1536;
 
 /// The text of a way, with room for any.
-pub(crate) type Way = Text<LONGEST>;
+pub(crate) type PathText = Text<LONGEST>;
 
 /// The root.
-pub(crate) fn root() -> Way
+pub(crate) fn root() -> PathText
     ensures text { result ≡ outer_text At_root }
     ensures short { length result ≤ 48 }
 {
@@ -25,7 +25,7 @@ pub(crate) fn root() -> Way
 }
 
 /// A register of the frame over so many others.
-pub(crate) fn register(frames: usize, register: u8) -> Way
+pub(crate) fn register(frames: usize, register: u8) -> PathText
     ensures text { result ≡ outer_text (In_register frames register) }
     ensures short { length result ≤ 48 }
 {
@@ -35,7 +35,7 @@ pub(crate) fn register(frames: usize, register: u8) -> Way
 }
 
 /// The cleanup entry over so many others.
-pub(crate) fn entry(entries: usize) -> Way
+pub(crate) fn entry(entries: usize) -> PathText
     ensures text { result ≡ outer_text (In_entry entries) }
     ensures short { length result ≤ 48 }
 {
@@ -43,7 +43,7 @@ pub(crate) fn entry(entries: usize) -> Way
 }
 
 /// The destruction over so many others.
-pub(crate) fn going(goings: usize) -> Way
+pub(crate) fn going(goings: usize) -> PathText
     ensures text { result ≡ outer_text (In_going goings) }
     ensures short { length result ≤ 48 }
 {
@@ -51,34 +51,34 @@ pub(crate) fn going(goings: usize) -> Way
 }
 
 /// The message that is served.
-pub(crate) fn service() -> Way
+pub(crate) fn service() -> PathText
     ensures text { result ≡ outer_text At_service }
     ensures short { length result ≤ 48 }
 {
     plain(b"service")
 }
 
-fn plain(words: &[u8]) -> Way
+fn plain(words: &[u8]) -> PathText
     requires { length words.now ≤ 8 }
     ensures { result ≡ words.now }
 {
-    let mut way = Way::new();
+    let mut way = PathText::new();
     way.add(words);
     way
 }
 
-fn numbered(words: &[u8], number: usize) -> Way
+fn numbered(words: &[u8], number: usize) -> PathText
     requires { length words.now ≤ 8 }
     ensures text { result ≡ words.now ++ decimal number }
     ensures short { length result ≤ length words.now + 20 }
 {
-    let mut way = Way::new();
+    let mut way = PathText::new();
     way.add_count(words, number);
     way
 }
 
 /// On to a field.
-pub(crate) fn enter(way: &mut Way, field: u8)
+pub(crate) fn enter(way: &mut PathText, field: u8)
     requires { length way.old + 7 ≤ 1536 }
     ensures text { way.new ≡ way.old ++ branch_text (By_field field) }
     ensures short { length way.new ≤ length way.old + 5 }
@@ -87,7 +87,7 @@ pub(crate) fn enter(way: &mut Way, field: u8)
 }
 
 /// On to the session of a client.
-pub(crate) fn enter_session(way: &mut Way, client: u8)
+pub(crate) fn enter_session(way: &mut PathText, client: u8)
     requires { length way.old + 7 ≤ 1536 }
     ensures text { way.new ≡ way.old ++ branch_text (By_session client) }
     ensures short { length way.new ≤ length way.old + 5 }
@@ -96,7 +96,7 @@ pub(crate) fn enter_session(way: &mut Way, client: u8)
 }
 
 /// Who hears when the message that is there is completed, behind the way, and the end of its line.
-pub(crate) fn add_message(way: &mut Way, names: &Names, source: Source)
+pub(crate) fn add_message(way: &mut PathText, names: &SourceNames, source: Source)
     requires { length way.old + 40 ≤ 1536 }
     ensures { way.new ≡ ended (way.old ++ codes " " ++ hearer_by names.now source) }
 {
@@ -111,7 +111,7 @@ pub(crate) fn add_message(way: &mut Way, names: &Names, source: Source)
 }
 
 /// The class of what is there, behind the way, and the end of its line.
-pub(crate) fn add_class(way: &mut Way, names: &Names, class: u16)
+pub(crate) fn add_class(way: &mut PathText, names: &SourceNames, class: u16)
     requires { length way.old + 34 ≤ 1536 }
     ensures { way.new ≡ ended (way.old ++ codes " " ++ class_by names.now class) }
 {

@@ -6,7 +6,7 @@ ghost use Rattle.aom_debug_words.specs.Commands.{break_says, breaks_at, command_
 use crate::DebugFault;
 use crate::path::Path;
 use crate::reading::read_path;
-use aom_text::{Number, Words};
+use aom_text::{Number, WordCursor};
 
 /// The most bytes of a line, its line feed aside.
 const MOST_BYTES: usize = 256;
@@ -57,11 +57,11 @@ pub fn read_command(line: &[u8]) -> Result<Option<Command>, DebugFault>
     if line.len() > MOST_BYTES {
         return Err(DebugFault::BadCommand);
     }
-    read_line(Words::of(line))
+    read_line(WordCursor::of(line))
 }
 
 /// What the words of a line say.
-fn read_line(mut words: Words) -> Result<Option<Command>, DebugFault>
+fn read_line(mut words: WordCursor) -> Result<Option<Command>, DebugFault>
     ensures { result ≡ line_says words.entry }
 {
     let Some(name) = words.next() else {
@@ -81,7 +81,7 @@ fn known(command: Option<Command>) -> Result<Option<Command>, DebugFault>
 }
 
 /// What a command's name and the words behind it say.
-fn read_words(name: &[u8], words: Words) -> Option<Command>
+fn read_words(name: &[u8], words: WordCursor) -> Option<Command>
     ensures { result ≡ words_say name.now words.entry }
 {
     if name == b"step".as_slice() {
@@ -160,7 +160,7 @@ fn command_named(name: &[u8]) -> Option<Command>
     }
 }
 
-fn read_step(mut words: Words) -> Option<Command>
+fn read_step(mut words: WordCursor) -> Option<Command>
     ensures { result ≡ step_says words.entry }
 {
     match words.next() {
@@ -175,7 +175,7 @@ fn step_by(steps: &[u8]) -> Option<Command>
     Some(Command::Step(Number::of(steps)?.within(1, 1_000_000)?))
 }
 
-fn read_break(mut words: Words) -> Option<Command>
+fn read_break(mut words: WordCursor) -> Option<Command>
     ensures { result ≡ break_says words.entry }
 {
     match (words.next(), words.next()) {
@@ -193,7 +193,7 @@ fn break_at(method: &[u8], place: &[u8]) -> Option<Command>
     }
 }
 
-fn read_unbreak(mut words: Words) -> Option<Command>
+fn read_unbreak(mut words: WordCursor) -> Option<Command>
     ensures { result ≡ unbreak_says words.entry }
 {
     match (words.next(), words.next()) {
@@ -211,7 +211,7 @@ fn unbreak_at(method: &[u8], place: &[u8]) -> Option<Command>
     }
 }
 
-fn read_until(mut words: Words) -> Option<Command>
+fn read_until(mut words: WordCursor) -> Option<Command>
     ensures { result ≡ until_says words.entry }
 {
     match (words.next(), words.next()) {

@@ -7,10 +7,10 @@ ghost use Rattle.aom_debug_words.specs.Ways.{branch_said, branches_said, field_s
 use crate::path::Path;
 use crate::way::{Branch, ClientNumber, Outer};
 use aom_instructions::{FieldIndex, Register};
-use aom_text::{Number, Words};
+use aom_text::{Number, WordCursor};
 
 /// The way that words spell.
-pub fn read_path(mut words: Words) -> Option<Path>
+pub fn read_path(mut words: WordCursor) -> Option<Path>
     ensures { result ≡ path_said words.entry }
 {
     match (words.next(), words.next(), words.next()) {

@@ -10,7 +10,7 @@ use Rattle.aom_image.specs.declared.method.Role.TheVariants.{Accept as Accepts_r
 use Rattle.aom_clients.specs.Nodes.{is_connecting_at}
 use Rattle.aom_clients.specs.declared.client.Client.{Client}
 use Rattle.aom_clients.specs.declared.client.Client.TheVariants.{Connecting, Open}
-use Rattle.aom_clients.specs.declared.refusal.Refusal.{Refusal}
+use Rattle.aom_clients.specs.declared.refusal.CommandRefusal.{CommandRefusal}
 use Rattle.aom_safety.proofs.ClientsLeave.{service_left}
 use Rattle.aom_safety.proofs.ClientsAsk.{asked_there}
 use Rattle.aom_safety.proofs.ClientsTurn.{Same, on_none, same_requested}
@@ -18,7 +18,7 @@ use Rattle.aom_safety.proofs.Guarded.{goes_same}
 use Rattle.aom_safety.proofs.Queues.{client_here, client_there}
 use Rattle.aom_safety.proofs.Services.{held_served, service_here, service_moved, service_there, service_unnamed}
 use Rattle.aom_safety.proofs.Turned.{dispatched_so}
-use Rattle.aom_transcript.specs.declared.event.Command.{Command}
+use Rattle.aom_transcript.specs.declared.event.ClientCommand.{ClientCommand}
 use Rattle.aom_semantics.specs.Clients.{Listed, asked_server, client_at, commanded, connecting, leaving, own, sending, told, with_client, with_message}
 use Rattle.aom_semantics.specs.Enlisted.{part_of}
 use Rattle.aom_safety.specs.Kept.{ClientsFit, is_connect_of}
@@ -122,7 +122,7 @@ module _ (p : Image) (client : ℕ) (s : State) (tidy : Tidy s.cells) (fit : Cli
   abbrev StillWait : State → Type 0
   StillWait u = AllWait u.clients u.cells
 
-  connecting_waits : (r : Option Refusal) (class : ℕ) (l : Option Listed) → asked_server p class s.cells ≡ l → (slots : ℕ) → StillWait (connecting p client s r l slots)
+  connecting_waits : (r : Option CommandRefusal) (class : ℕ) (l : Option Listed) → asked_server p class s.cells ≡ l → (slots : ℕ) → StillWait (connecting p client s r l slots)
   connecting_waits (Some r) class l listed slots n d e = all n d e
   connecting_waits None class None listed slots n d e = all n d e
   connecting_waits None class (Some x) listed slots n d e = go (client == d) refl
@@ -154,7 +154,7 @@ module _ (p : Image) (client : ℕ) (s : State) (tidy : Tidy s.cells) (fit : Cli
           its_own (eqb-true x.name n (ap (is_connecting_at n) (sym now) ∙ e)) at
       go false other = calm.connects n d (all n d (ap (is_connecting_at n) (sym (client_there client d (Connecting x.name slots) s.clients other)) ∙ e))
 
-  sending_waits : (r : Option Refusal) (x : Client) (name : ℕ) → named s.cells name ≡ None → (words : List ℤ) → StillWait (sending p client s r x name words)
+  sending_waits : (r : Option CommandRefusal) (x : Client) (name : ℕ) → named s.cells name ≡ None → (words : List ℤ) → StillWait (sending p client s r x name words)
   sending_waits (Some r) x name free words = all
   sending_waits None (Open server session slots) name free words = λ n d e. go n d (name == n) refl (all n d e)
     where
@@ -188,5 +188,5 @@ module _ (p : Image) (client : ℕ) (s : State) (tidy : Tidy s.cells) (fit : Cli
           let left = service_left p s.clients s.cells tidy fit client waiting n in
           told_keeps (own p client s) (withdrawn client s.cells) (grind (arith, nat_tests, stays_connects client d))
 
-  pub commanded_waits : (command : Command) (name : ℕ) → named s.cells name ≡ None → StillWait (commanded p client s command name)
+  pub commanded_waits : (command : ClientCommand) (name : ℕ) → named s.cells name ≡ None → StillWait (commanded p client s command name)
   commanded_waits x name free = grind (arith, nat_tests, connecting_waits, sending_waits, leaving_waits)

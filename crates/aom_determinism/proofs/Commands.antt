@@ -8,9 +8,9 @@ use Rattle.aom_roles.specs.Things.{is_object}
 use Rattle.aom_clients.specs.Table.{row}
 use Rattle.aom_clients.specs.declared.client.Client.{Client}
 use Rattle.aom_clients.specs.declared.client.Client.TheVariants.{Connecting}
-use Rattle.aom_clients.specs.declared.refusal.Refusal.{Refusal}
-use Rattle.aom_transcript.specs.declared.event.Command.{Command}
-use Rattle.aom_transcript.specs.declared.event.Command.TheVariants.{Close, Connect, Die, Send}
+use Rattle.aom_clients.specs.declared.refusal.CommandRefusal.{CommandRefusal}
+use Rattle.aom_transcript.specs.declared.event.ClientCommand.{ClientCommand}
+use Rattle.aom_transcript.specs.declared.event.ClientCommand.TheVariants.{Close, Connect, Die, Send}
 use Rattle.aom_semantics.specs.Clients.{Listed, asked_of, asked_server, commanded, connecting, count_messages}
 use Rattle.aom_semantics.specs.Clients.{first_listed, leaving, own, refusal, room, sending, told, with_message}
 use Rattle.aom_semantics.specs.Places.{Asked, Cell, Close_of, Connect_of, Message_of, Service}
@@ -67,7 +67,7 @@ module _ (names : ℕ → ℕ) where
   dies_renamed x = grind arith
 
 module _ (names : ℕ → ℕ) (one_to_one : IsOneToOne names) where
-  asked_kept : (r : Option Refusal) (most : ℕ) (l : Option Listed) (cs : List Cell) → asked_of r most (option_map (renamed_listed names) l) (renamed_cells names cs) ≡ asked_of r most l cs
+  asked_kept : (r : Option CommandRefusal) (most : ℕ) (l : Option Listed) (cs : List Cell) → asked_of r most (option_map (renamed_listed names) l) (renamed_cells names cs) ≡ asked_of r most l cs
   asked_kept None most (Some x) cs = grind (arith, nat_tests, service_renamed names one_to_one cs x.name, seats_kept names)
   asked_kept _ most _ cs = refl
 
@@ -78,13 +78,13 @@ module _ (names : ℕ → ℕ) (one_to_one : IsOneToOne names) where
     own_renamed : own p client s' ≡ renamed_client names (own p client s)
     own_renamed = client_renamed names s.clients client
 
-    room_kept : (r : Option Refusal) → room p client s' r ≡ room p client s r
+    room_kept : (r : Option CommandRefusal) → room p client s' r ≡ room p client s r
     room_kept x = grind (arith, nat_tests, slots_kept names client s.cells, own_renamed, messages_kept names s.cells)
 
-    pub refusal_kept : (command : Command) → refusal p client s' command ≡ refusal p client s command
+    pub refusal_kept : (command : ClientCommand) → refusal p client s' command ≡ refusal p client s command
     refusal_kept x = grind (arith, nat_tests, own_renamed, server_renamed names p, asked_kept, room_kept)
 
-    connecting_renamed : (r : Option Refusal) (l : Option Listed) (slots : ℕ) → connecting p client s' r (option_map (renamed_listed names) l) slots ≡ renamed names (connecting p client s r l slots)
+    connecting_renamed : (r : Option CommandRefusal) (l : Option Listed) (slots : ℕ) → connecting p client s' r (option_map (renamed_listed names) l) slots ≡ renamed names (connecting p client s r l slots)
     connecting_renamed None (Some x) slots = grind (
       arith,
       nat_tests,
@@ -96,7 +96,7 @@ module _ (names : ℕ → ℕ) (one_to_one : IsOneToOne names) where
     message_renamed : (name : ℕ) (words : List ℤ) (server : ℕ) → with_message p client s' (names name) words (names server) ≡ renamed_cells names (with_message p client s name words server)
     message_renamed name words server = search (arith, nat_tests, asks_renamed names one_to_one (Message_of client name) server s.cells)
 
-    sending_renamed : (r : Option Refusal) (x : Client) (name : ℕ) (words : List ℤ) →
+    sending_renamed : (r : Option CommandRefusal) (x : Client) (name : ℕ) (words : List ℤ) →
         sending p client s' r (renamed_client names x) (names name) words ≡ renamed names (sending p client s r x name words)
     sending_renamed x y name words = grind (arith, nat_tests, message_renamed name words)
 
@@ -106,7 +106,7 @@ module _ (names : ℕ → ℕ) (one_to_one : IsOneToOne names) where
     leaving_renamed : (to : Option Client) → leaving p client s' (option_map (renamed_client names) to) ≡ renamed names (leaving p client s to)
     leaving_renamed x = grind (arith, nat_tests, own_renamed, withdrawn_renamed names client s.cells, told_renamed, with_client_renamed names client)
 
-    pub commanded_renamed : (command : Command) (name : ℕ) → commanded p client s' command (names name) ≡ renamed names (commanded p client s command name)
+    pub commanded_renamed : (command : ClientCommand) (name : ℕ) → commanded p client s' command (names name) ≡ renamed names (commanded p client s command name)
     commanded_renamed (Connect class slots) name =
         grind (arith, nat_tests, refusal_kept (Connect class slots), server_renamed names p class s.cells, connecting_renamed)
     commanded_renamed (Send words) name = grind (arith, nat_tests, refusal_kept (Send words), own_renamed, sending_renamed)

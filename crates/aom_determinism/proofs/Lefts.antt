@@ -14,7 +14,7 @@ use Rattle.aom_semantics.specs.Natives.{all_bereaved, is_served_by, terminated_r
 use Rattle.aom_semantics.specs.Places.{Cell, Object, Request, Service, Tidy, requested, set_request, set_service}
 use Rattle.aom_semantics.specs.State.{State}
 use Rattle.aom_semantics.specs.World.{Environment, Timed, due_of, event_at, first_due, first_living, next_event, next_time, time_of, with_request}
-use Rattle.aom_transcript.specs.declared.event.Command.{Command}
+use Rattle.aom_transcript.specs.declared.event.ClientCommand.{ClientCommand}
 use Rattle.aom_transcript.specs.declared.event.TimedEvent.{TimedEvent}
 use Rattle.aom_determinism.specs.Endings.{one_where}
 use Rattle.aom_determinism.proofs.Spending.{one_at_most}
@@ -69,7 +69,7 @@ module _ (p : Image) (client : ℕ) (s : State) where
   leaving_no_more : (to : Option Client) → StartsNone (leaving p client s to)
   leaving_no_more x = grind (arith, nat_tests, served_timers, withdrawn_no_more client s.cells)
 
-  pub commanded_no_more : (command : Command) (name : ℕ) → StartsNone (commanded p client s command name)
+  pub commanded_no_more : (command : ClientCommand) (name : ℕ) → StartsNone (commanded p client s command name)
   commanded_no_more x name = grind (arith, nat_tests, served_timers, leaving_no_more)
 
 -- ---- what has come by a time

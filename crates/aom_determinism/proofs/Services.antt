@@ -3,7 +3,7 @@ use Rattle.std.proofs.lemmas.Bool.Decides.{nat_tests}
 use Rattle.std.proofs.Common.{Bool, List, None, Option, Some, [], ap, cond, false, refl, subst, sym, true, ℕ, ℤ, ◌&&◌, ◌==◌, ◌∙◌, ◌∷◌, ◌≡◌, arith}
 use Rattle.std.proofs.lemmas.Bool.{and_parts}
 use Rattle.aom_clients.specs.declared.client.Client.{Client}
-use Rattle.aom_clients.specs.declared.refusal.Refusal.{Refusal}
+use Rattle.aom_clients.specs.declared.refusal.CommandRefusal.{CommandRefusal}
 use Rattle.aom_image.specs.Image.{Image}
 use Rattle.aom_image.specs.declared.method.Thing.{Thing}
 use Rattle.aom_image.specs.declared.method.Thing.TheVariants.{Message}
@@ -17,7 +17,7 @@ use Rattle.aom_safety.proofs.Services.{named_served, requested_served}
 use Rattle.aom_safety.proofs.Sifted.{a_cell_of, cell_in, cell_in_sifted, cell_lives, cell_of, cell_of_sifted, cell_owner, cell_placed, held_cell, kept}
 use Rattle.aom_safety.proofs.Sifted.{named_cell, object_in, request_in, requested_cell, sifted, tidy_sifted, unqueued_so, unslotted_so, withdrawn_so}
 use Rattle.aom_safety.specs.Claims.{Layer}
-use Rattle.aom_transcript.specs.declared.event.Command.{Command}
+use Rattle.aom_transcript.specs.declared.event.ClientCommand.{ClientCommand}
 use Rattle.aom_semantics.specs.Clients.{commanded, each_unslotted, leaving, sending}
 use Rattle.aom_semantics.specs.Natives.{is_owed, is_served_by}
 use Rattle.aom_semantics.specs.Places.{Cell, Going, Object, Place, Service, Tidy, held, in_session, named, same_place, set_service, without}
@@ -147,7 +147,7 @@ unchanged_unslotted p (c ∷ clients) cs tidy =
 -- ---- a client's command
 
 module _ (p : Image) (t : Typing) (s : State) (ls : List Layer) (good : Good p t s.cells ls) (client name : ℕ) (unused : named s.cells name ≡ None) where
-  sending_same : (refused : Option Refusal) (c : Client) (words : List ℤ) → Unchanged p s.cells (sending p client s refused c name words).cells
+  sending_same : (refused : Option CommandRefusal) (c : Client) (words : List ℤ) → Unchanged p s.cells (sending p client s refused c name words).cells
   sending_same x y words = grind (
     arith,
     nat_tests,
@@ -171,7 +171,7 @@ module _ (p : Image) (t : Typing) (s : State) (ls : List Layer) (good : Good p t
     unchanged_itself p,
   )
 
-  pub unchanged_commanded : (command : Command) → Unchanged p s.cells (commanded p client s command name).cells
+  pub unchanged_commanded : (command : ClientCommand) → Unchanged p s.cells (commanded p client s command name).cells
   unchanged_commanded x = grind (arith, nat_tests, unchanged_served, unchanged_itself, sending_same, leaving_same)
 
 -- it kills no native
@@ -179,5 +179,5 @@ module _ (p : Image) (s : State) (client name : ℕ) where
   leaving_killed : (to : Option Client) → (leaving p client s to).killed ≡ s.killed
   leaving_killed x = grind arith
 
-  pub commanded_killed : (command : Command) → (commanded p client s command name).killed ≡ s.killed
+  pub commanded_killed : (command : ClientCommand) → (commanded p client s command name).killed ≡ s.killed
   commanded_killed x = grind (arith, nat_tests, leaving_killed)

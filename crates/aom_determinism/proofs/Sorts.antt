@@ -7,7 +7,7 @@ use Rattle.aom_semantics.specs.State.{State}
 use Rattle.aom_semantics.specs.World.{Candidate, Completes, Completion, Cuts, Heard, Hears, Kills, Obeys, Environment, Passes, Picks}
 use Rattle.aom_semantics.specs.World.{Polls, Strays, Timed, Turning, Waits, by_event, by_timer, due_of, first_due, first_ready}
 use Rattle.aom_semantics.specs.World.{has_signal, next_event, next_native, next_time, picks, polls, time_of, turning}
-use Rattle.aom_transcript.specs.declared.event.Command.{Command}
+use Rattle.aom_transcript.specs.declared.event.ClientCommand.{ClientCommand}
 use Rattle.aom_transcript.specs.declared.event.TimedEvent.{TimedEvent}
 use Rattle.aom_determinism.proofs.Lefts.{early_both, is_late, living_within, reached}
 
@@ -16,7 +16,7 @@ pub data Kind (outside : Environment) (s : State) : Turning → Type 0 where
   completes_one : (x : Timed) → first_due s.cells ≡ Some x → Kind outside s (Completes x.object)
   hears_one : (e : TimedEvent) → next_event outside s ≡ Some e → Kind outside s Hears
   kills_one : (e : TimedEvent) (n : ℕ) → next_event outside s ≡ Some e → Kind outside s (Kills n)
-  obeys_one : (e : TimedEvent) (c : ℕ) (command : Command) (name : ℕ) → next_event outside s ≡ Some e → Kind outside s (Obeys c command name)
+  obeys_one : (e : TimedEvent) (c : ℕ) (command : ClientCommand) (name : ℕ) → next_event outside s ≡ Some e → Kind outside s (Obeys c command name)
   polls_one : (n : ℕ) (answer : Option Completion) → s.rest.polled ≤ n → n < s.rest.polled + (outside.natives - s.rest.polled) → is_late outside s ≡ false → Kind outside s (Polls n answer)
   picks_one : (x : Candidate) → s.rest.dispatches < outside.limit → Kind outside s (Picks x.seat)
   strays : Kind outside s Strays

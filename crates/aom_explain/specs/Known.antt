@@ -13,8 +13,8 @@ use Rattle.aom_shape.specs.declared.kind.Age.{Age}
 use Rattle.aom_shape.specs.declared.kind.Age.TheVariants.{Fresh, Ready}
 use Rattle.aom_shape.specs.declared.kind.Delivery.{Delivery}
 use Rattle.aom_shape.specs.declared.kind.Delivery.TheVariants.{Here, Gone}
-use Rattle.aom_shape.specs.declared.kind.Entry.{Entry}
-use Rattle.aom_shape.specs.declared.kind.Entry.TheVariants.{Object as An_object, Operation}
+use Rattle.aom_shape.specs.declared.kind.CleanupEntry.{CleanupEntry}
+use Rattle.aom_shape.specs.declared.kind.CleanupEntry.TheVariants.{Object as An_object, Operation}
 use Rattle.aom_shape.specs.declared.kind.Filling.{Filling}
 use Rattle.aom_shape.specs.declared.kind.Kind.{Kind}
 use Rattle.aom_shape.specs.declared.kind.Kind.TheVariants.{Unset, Word, Null, Own, Maybe}
@@ -103,15 +103,15 @@ fields_line p m sh = words_where (is_some (field_thing p (holder_of p m) 0)) (fi
 
 -- ---- cleanup entries
 
-abbrev pub pushed_words : Entry → List ℕ
+abbrev pub pushed_words : CleanupEntry → List ℕ
 pushed_words (An_object c a) = class_words c ++ age_words a
 pushed_words Operation = codes "an operation"
 
-abbrev pub entry_words : List ℕ → ℕ → Entry → List ℕ
+abbrev pub entry_words : List ℕ → ℕ → CleanupEntry → List ℕ
 entry_words lead k e = (lead ++ decimal k) ++ (codes " " ++ pushed_words e)
 
 -- a cleanup entry, counted from the last one that was pushed, if it is there
-abbrev pub entry_part : ℕ → Option Entry → List ℕ
+abbrev pub entry_part : ℕ → Option CleanupEntry → List ℕ
 entry_part k None = []
 entry_part k (Some e) = entry_words (lead_of k (codes " c") (codes "; c")) k e
 

@@ -3,11 +3,16 @@ ghost use Rattle.std.specs.Prelude.{◌≡◌, ◌++◌, OnOk};
 ghost use Rattle.aom_explain.specs.Compared.{compared_text, over_text};
 
 use aom_budget::{BudgetFault, Payer};
-use aom_figures::Writer;
+use aom_figures::FigureWriter;
 use std::alloc::AllocError;
 
 /// Writes what a dispatch may take, and what is declared of it.
-fn put_over(out: &mut Writer, payer: Payer, price: u64, declared: u32) -> Result<(), AllocError>
+fn put_over(
+    out: &mut FigureWriter,
+    payer: Payer,
+    price: u64,
+    declared: u32,
+) -> Result<(), AllocError>
     ensures { OnOk result (out.new ≡ out.old ++ over_text payer price declared) }
 {
     out.words(b"Compared: ")?;
@@ -18,7 +23,7 @@ fn put_over(out: &mut Writer, payer: Payer, price: u64, declared: u32) -> Result
 }
 
 /// Writes what has been compared.
-pub fn put_compared(out: &mut Writer, fault: &BudgetFault) -> Result<(), AllocError>
+pub fn put_compared(out: &mut FigureWriter, fault: &BudgetFault) -> Result<(), AllocError>
     ensures { OnOk result (out.new ≡ out.old ++ compared_text fault.now) }
 {
     match *fault {

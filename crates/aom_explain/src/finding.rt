@@ -4,10 +4,10 @@ ghost use Rattle.std.specs.List.{filter};
 ghost use Rattle.aom_explain.specs.Declarations.{begins_with, begins, class_statement, image_statement, instruction_statement, method_statement, part};
 
 use aom_syntax::Keyword;
-use aom_text::{Statement, Text, Words};
+use aom_text::{Statement, StatementCursor, WordCursor};
 
 /// Whether the first word is that keyword.
-pub fn begins_with(key: Keyword, words: &Words) -> bool
+pub fn begins_with(key: Keyword, words: &WordCursor) -> bool
     ensures { result ≡ begins_with key words.now }
 {
     match words.peek() {
@@ -19,9 +19,9 @@ pub fn begins_with(key: Keyword, words: &Words) -> bool
 /// The statement that begins with a keyword and has so many of its like before it, and the statements behind it.
 fn declaration<'a>(
     key: Keyword,
-    mut text: Text<'a>,
+    mut text: StatementCursor<'a>,
     number: usize,
-) -> Option<(Statement<'a>, Text<'a>)>
+) -> Option<(Statement<'a>, StatementCursor<'a>)>
     ensures statement { option_map (λ p. p.0) result ≡ slice_get (filter (begins key) text.entry) number }
     ensures behind { unwrap_or (option_map (λ p. part (begins key) p.1 0) result) [] ≡ part (begins key) text.entry (number + 1) }
 {
@@ -38,7 +38,7 @@ fn declaration<'a>(
 }
 
 /// The statement at a place, of those before the next that begins with a keyword.
-fn at_place<'a>(key: Keyword, mut text: Text<'a>, place: usize) -> Option<Statement<'a>>
+fn at_place<'a>(key: Keyword, mut text: StatementCursor<'a>, place: usize) -> Option<Statement<'a>>
     ensures { result ≡ slice_get (part (begins key) text.entry 0) place }
 {
     let mut before = place;
@@ -59,7 +59,7 @@ pub fn image_statement(text: &[u8]) -> Option<Statement>
     requires { length text.now ≤ 2 ^ 20 }
     ensures { result ≡ image_statement text.now }
 {
-    let mut text = Text::of(text);
+    let mut text = StatementCursor::of(text);
     text.next()
 }
 
@@ -68,7 +68,7 @@ pub fn class_statement(text: &[u8], number: usize) -> Option<Statement>
     requires { length text.now ≤ 2 ^ 20 }
     ensures { result ≡ class_statement text.now number }
 {
-    let (statement, _) = declaration(Keyword::Class, Text::of(text), number)?;
+    let (statement, _) = declaration(Keyword::Class, StatementCursor::of(text), number)?;
     Some(statement)
 }
 
@@ -77,7 +77,7 @@ pub fn method_statement(text: &[u8], number: usize) -> Option<Statement>
     requires { length text.now ≤ 2 ^ 20 }
     ensures { result ≡ method_statement text.now number }
 {
-    let (statement, _) = declaration(Keyword::Method, Text::of(text), number)?;
+    let (statement, _) = declaration(Keyword::Method, StatementCursor::of(text), number)?;
     Some(statement)
 }
 
@@ -86,6 +86,6 @@ pub fn instruction_statement(text: &[u8], number: usize, place: usize) -> Option
     requires { length text.now ≤ 2 ^ 20 }
     ensures { result ≡ instruction_statement text.now number place }
 {
-    let (_, behind) = declaration(Keyword::Method, Text::of(text), number)?;
+    let (_, behind) = declaration(Keyword::Method, StatementCursor::of(text), number)?;
     at_place(Keyword::Method, behind, place)
 }

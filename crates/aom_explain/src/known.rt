@@ -6,10 +6,10 @@ ghost use Rattle.aom_shape.specs.Tests.{is_unset};
 ghost use Rattle.aom_roles.specs.Things.{field_thing, holder_of};
 ghost use Rattle.aom_explain.specs.Known.{age_words, any_known, class_words, delivery_line, entries_line, entry_line, entry_part, entry_parts, entry_words, field_line, field_part, field_parts, fields_line, held_words, kind_words, known_text, lead_of, more_words, owned_words, pushed_words, register_part, register_parts, registers_line, rest_words, set_part, state_line, state_parts, states_line, thing_words, words_where};
 
-use aom_figures::Writer;
+use aom_figures::FigureWriter;
 use aom_image::{ClassNumber, FieldIndex, MethodNumber, States, Thing};
 use aom_linked::Linked;
-use aom_shape::{Age, Delivery, Entry, Filling, Kind, Shape};
+use aom_shape::{Age, CleanupEntry, Delivery, Filling, Kind, Shape};
 use aom_site::field_thing;
 use bitflags::Flags;
 use std::alloc::AllocError;
@@ -25,13 +25,13 @@ struct Standing<'a> {
     shape: &'a Shape<'a>,
 }
 
-fn put_class(out: &mut Writer, class: ClassNumber) -> Result<(), AllocError>
+fn put_class(out: &mut FigureWriter, class: ClassNumber) -> Result<(), AllocError>
     ensures { OnOk result (out.new ≡ out.old ++ class_words class) }
 {
     out.count(b"an object of class ", u64::from(class.number()))
 }
 
-fn put_thing(out: &mut Writer, thing: Thing) -> Result<(), AllocError>
+fn put_thing(out: &mut FigureWriter, thing: Thing) -> Result<(), AllocError>
     ensures { OnOk result (out.new ≡ out.old ++ thing_words thing) }
 {
     match thing {
@@ -40,7 +40,7 @@ fn put_thing(out: &mut Writer, thing: Thing) -> Result<(), AllocError>
     }
 }
 
-fn put_age(out: &mut Writer, age: Age) -> Result<(), AllocError>
+fn put_age(out: &mut FigureWriter, age: Age) -> Result<(), AllocError>
     ensures { OnOk result (out.new ≡ out.old ++ age_words age) }
 {
     match age {
@@ -49,7 +49,7 @@ fn put_age(out: &mut Writer, age: Age) -> Result<(), AllocError>
     }
 }
 
-fn put_owned(out: &mut Writer, lead: &[u8], thing: Thing, age: Age) -> Result<(), AllocError>
+fn put_owned(out: &mut FigureWriter, lead: &[u8], thing: Thing, age: Age) -> Result<(), AllocError>
     ensures { OnOk result (out.new ≡ out.old ++ owned_words lead.now thing age) }
 {
     out.words(lead)?;
@@ -57,7 +57,7 @@ fn put_owned(out: &mut Writer, lead: &[u8], thing: Thing, age: Age) -> Result<()
     put_age(out, age)
 }
 
-fn put_kind(out: &mut Writer, kind: Kind) -> Result<(), AllocError>
+fn put_kind(out: &mut FigureWriter, kind: Kind) -> Result<(), AllocError>
     ensures { OnOk result (out.new ≡ out.old ++ kind_words kind) }
 {
     match kind {
@@ -69,14 +69,14 @@ fn put_kind(out: &mut Writer, kind: Kind) -> Result<(), AllocError>
     }
 }
 
-fn put_number(out: &mut Writer, lead: &[u8], number: u8) -> Result<(), AllocError>
+fn put_number(out: &mut FigureWriter, lead: &[u8], number: u8) -> Result<(), AllocError>
     ensures { OnOk result (out.new ≡ out.old ++ (lead.now ++ decimal number)) }
 {
     out.count(lead, u64::from(number))
 }
 
 /// Writes a place by its number, and what it holds.
-fn put_held(out: &mut Writer, lead: &[u8], number: u8, kind: Kind) -> Result<(), AllocError>
+fn put_held(out: &mut FigureWriter, lead: &[u8], number: u8, kind: Kind) -> Result<(), AllocError>
     ensures { OnOk result (out.new ≡ out.old ++ held_words lead.now number kind) }
 {
     out.count(lead, u64::from(number))?;
@@ -118,7 +118,7 @@ fn any_known(shape: &Shape<'_>) -> bool
     any
 }
 
-fn put_set(out: &mut Writer, number: u8, kind: Kind) -> Result<(), AllocError>
+fn put_set(out: &mut FigureWriter, number: u8, kind: Kind) -> Result<(), AllocError>
     ensures { OnOk result (out.new ≡ out.old ++ set_part number kind) }
 {
     put_held(out, b" r", number, kind)?;
@@ -126,7 +126,7 @@ fn put_set(out: &mut Writer, number: u8, kind: Kind) -> Result<(), AllocError>
 }
 
 /// Writes what a register holds, if anything is known of it.
-fn put_register(out: &mut Writer, number: u8, kind: Kind) -> Result<(), AllocError>
+fn put_register(out: &mut FigureWriter, number: u8, kind: Kind) -> Result<(), AllocError>
     ensures { OnOk result (out.new ≡ out.old ++ register_part number kind) }
 {
     match kind {
@@ -136,7 +136,7 @@ fn put_register(out: &mut Writer, number: u8, kind: Kind) -> Result<(), AllocErr
 }
 
 #[tactic(auto, using(crate::proofs::Parts::one_part_more), unfolding(crate::specs::Known::register_parts))]
-fn put_register_parts(out: &mut Writer, shape: &Shape<'_>) -> Result<(), AllocError>
+fn put_register_parts(out: &mut FigureWriter, shape: &Shape<'_>) -> Result<(), AllocError>
     ensures { OnOk result (out.new ≡ out.old ++ register_parts shape.now) }
 {
     for number in 0..NAMED {
@@ -147,7 +147,7 @@ fn put_register_parts(out: &mut Writer, shape: &Shape<'_>) -> Result<(), AllocEr
 }
 
 /// Writes what is known of those that have no part, some others having one or none.
-fn put_rest(out: &mut Writer, any: bool) -> Result<(), AllocError>
+fn put_rest(out: &mut FigureWriter, any: bool) -> Result<(), AllocError>
     ensures { OnOk result (out.new ≡ out.old ++ rest_words any) }
 {
     if any {
@@ -157,7 +157,7 @@ fn put_rest(out: &mut Writer, any: bool) -> Result<(), AllocError>
     }
 }
 
-fn put_registers(out: &mut Writer, shape: &Shape<'_>) -> Result<(), AllocError>
+fn put_registers(out: &mut FigureWriter, shape: &Shape<'_>) -> Result<(), AllocError>
     ensures { OnOk result (out.new ≡ out.old ++ registers_line shape.now) }
 {
     out.words(b"Known of registers:")?;
@@ -168,7 +168,7 @@ fn put_registers(out: &mut Writer, shape: &Shape<'_>) -> Result<(), AllocError>
 
 /// Writes what a field holds, if it is declared.
 fn put_field(
-    out: &mut Writer,
+    out: &mut FigureWriter,
     number: FieldIndex,
     declared: Option<Thing>,
     filling: Filling,
@@ -197,7 +197,7 @@ fn field_at(number: u8) -> FieldIndex
 }
 
 #[tactic(auto, using(crate::proofs::Parts::one_part_more), unfolding(crate::specs::Known::field_parts))]
-fn put_field_parts(out: &mut Writer, at: &Standing<'_>) -> Result<(), AllocError>
+fn put_field_parts(out: &mut FigureWriter, at: &Standing<'_>) -> Result<(), AllocError>
     requires { IsSome (method_at at.now.linked.now at.now.method) }
     ensures { OnOk result (out.new ≡ out.old ++ field_parts at.now.linked.now at.now.method at.now.shape.now) }
 {
@@ -209,7 +209,7 @@ fn put_field_parts(out: &mut Writer, at: &Standing<'_>) -> Result<(), AllocError
     Ok(())
 }
 
-fn put_field_line(out: &mut Writer, at: &Standing<'_>) -> Result<(), AllocError>
+fn put_field_line(out: &mut FigureWriter, at: &Standing<'_>) -> Result<(), AllocError>
     requires { IsSome (method_at at.now.linked.now at.now.method) }
     ensures { OnOk result (out.new ≡ out.old ++ field_line at.now.linked.now at.now.method at.now.shape.now) }
 {
@@ -219,7 +219,7 @@ fn put_field_line(out: &mut Writer, at: &Standing<'_>) -> Result<(), AllocError>
 }
 
 /// Writes what the fields hold that the method works on, if there are any.
-fn put_fields(out: &mut Writer, at: &Standing<'_>) -> Result<(), AllocError>
+fn put_fields(out: &mut FigureWriter, at: &Standing<'_>) -> Result<(), AllocError>
     requires { IsSome (method_at at.now.linked.now at.now.method) }
     ensures { OnOk result (out.new ≡ out.old ++ fields_line at.now.linked.now at.now.method at.now.shape.now) }
 {
@@ -229,24 +229,29 @@ fn put_fields(out: &mut Writer, at: &Standing<'_>) -> Result<(), AllocError>
     }
 }
 
-fn put_object(out: &mut Writer, class: ClassNumber, age: Age) -> Result<(), AllocError>
+fn put_object(out: &mut FigureWriter, class: ClassNumber, age: Age) -> Result<(), AllocError>
     ensures { OnOk result (out.new ≡ out.old ++ (class_words class ++ age_words age)) }
 {
     put_class(out, class)?;
     put_age(out, age)
 }
 
-fn put_pushed(out: &mut Writer, entry: Entry) -> Result<(), AllocError>
+fn put_pushed(out: &mut FigureWriter, entry: CleanupEntry) -> Result<(), AllocError>
     ensures { OnOk result (out.new ≡ out.old ++ pushed_words entry) }
 {
     match entry {
-        Entry::Object(class, age) => put_object(out, class, age),
-        Entry::Operation => out.words(b"an operation"),
+        CleanupEntry::Object(class, age) => put_object(out, class, age),
+        CleanupEntry::Operation => out.words(b"an operation"),
     }
 }
 
 /// Writes a cleanup entry by its number, and what it is.
-fn put_numbered(out: &mut Writer, lead: &[u8], number: u8, entry: Entry) -> Result<(), AllocError>
+fn put_numbered(
+    out: &mut FigureWriter,
+    lead: &[u8],
+    number: u8,
+    entry: CleanupEntry,
+) -> Result<(), AllocError>
     ensures { OnOk result (out.new ≡ out.old ++ entry_words lead.now number entry) }
 {
     put_number(out, lead, number)?;
@@ -255,7 +260,11 @@ fn put_numbered(out: &mut Writer, lead: &[u8], number: u8, entry: Entry) -> Resu
 }
 
 /// Writes a cleanup entry, if it is there.
-fn put_entry_part(out: &mut Writer, number: u8, entry: Option<Entry>) -> Result<(), AllocError>
+fn put_entry_part(
+    out: &mut FigureWriter,
+    number: u8,
+    entry: Option<CleanupEntry>,
+) -> Result<(), AllocError>
     ensures { OnOk result (out.new ≡ out.old ++ entry_part number entry) }
 {
     match entry {
@@ -265,7 +274,7 @@ fn put_entry_part(out: &mut Writer, number: u8, entry: Option<Entry>) -> Result<
 }
 
 #[tactic(auto, using(crate::proofs::Parts::one_part_more), unfolding(crate::specs::Known::entry_parts))]
-fn put_entry_parts(out: &mut Writer, shape: &Shape<'_>) -> Result<(), AllocError>
+fn put_entry_parts(out: &mut FigureWriter, shape: &Shape<'_>) -> Result<(), AllocError>
     ensures { OnOk result (out.new ≡ out.old ++ entry_parts shape.now) }
 {
     for number in 0..NAMED {
@@ -275,7 +284,7 @@ fn put_entry_parts(out: &mut Writer, shape: &Shape<'_>) -> Result<(), AllocError
 }
 
 /// Writes that there are more than are named, where that is so.
-fn put_more(out: &mut Writer, height: usize) -> Result<(), AllocError>
+fn put_more(out: &mut FigureWriter, height: usize) -> Result<(), AllocError>
     ensures { OnOk result (out.new ≡ out.old ++ more_words height) }
 {
     if height > NAMED as usize {
@@ -285,7 +294,7 @@ fn put_more(out: &mut Writer, height: usize) -> Result<(), AllocError>
     }
 }
 
-fn put_entry_line(out: &mut Writer, shape: &Shape<'_>) -> Result<(), AllocError>
+fn put_entry_line(out: &mut FigureWriter, shape: &Shape<'_>) -> Result<(), AllocError>
     ensures { OnOk result (out.new ≡ out.old ++ entry_line shape.now) }
 {
     out.words(b"Known of cleanup entries:")?;
@@ -295,7 +304,7 @@ fn put_entry_line(out: &mut Writer, shape: &Shape<'_>) -> Result<(), AllocError>
 }
 
 /// Writes the method's own cleanup entries, if there are any.
-fn put_entries(out: &mut Writer, shape: &Shape<'_>) -> Result<(), AllocError>
+fn put_entries(out: &mut FigureWriter, shape: &Shape<'_>) -> Result<(), AllocError>
     ensures { OnOk result (out.new ≡ out.old ++ entries_line shape.now) }
 {
     if shape.height() == 0 {
@@ -305,7 +314,12 @@ fn put_entries(out: &mut Writer, shape: &Shape<'_>) -> Result<(), AllocError>
 }
 
 /// Writes words, where that state is in the set.
-fn put_state(out: &mut Writer, set: States, state: States, words: &[u8]) -> Result<(), AllocError>
+fn put_state(
+    out: &mut FigureWriter,
+    set: States,
+    state: States,
+    words: &[u8],
+) -> Result<(), AllocError>
     ensures { OnOk result (out.new ≡ out.old ++ words_where (has set.0 state.0) words.now) }
 {
     if set.contains(state) {
@@ -315,7 +329,7 @@ fn put_state(out: &mut Writer, set: States, state: States, words: &[u8]) -> Resu
     }
 }
 
-fn put_state_parts(out: &mut Writer, set: States) -> Result<(), AllocError>
+fn put_state_parts(out: &mut FigureWriter, set: States) -> Result<(), AllocError>
     ensures { OnOk result (out.new ≡ out.old ++ state_parts set.0) }
 {
     put_state(out, set, States::UNLISTED, b" not enlisted (u);")?;
@@ -326,7 +340,7 @@ fn put_state_parts(out: &mut Writer, set: States) -> Result<(), AllocError>
     put_state(out, set, States::DONE, b" being cancelled, done (d);")
 }
 
-fn put_state_line(out: &mut Writer, set: States) -> Result<(), AllocError>
+fn put_state_line(out: &mut FigureWriter, set: States) -> Result<(), AllocError>
     ensures { OnOk result (out.new ≡ out.old ++ state_line set.0) }
 {
     out.words(b"Known of request states:")?;
@@ -335,7 +349,7 @@ fn put_state_line(out: &mut Writer, set: States) -> Result<(), AllocError>
 }
 
 /// Writes in which request states the object may be, if its class has any.
-fn put_states(out: &mut Writer, set: States) -> Result<(), AllocError>
+fn put_states(out: &mut FigureWriter, set: States) -> Result<(), AllocError>
     ensures { OnOk result (out.new ≡ out.old ++ states_line set.0) }
 {
     if set.bits() == 0 {
@@ -344,7 +358,7 @@ fn put_states(out: &mut Writer, set: States) -> Result<(), AllocError>
     put_state_line(out, set)
 }
 
-fn put_delivery(out: &mut Writer, delivery: Delivery) -> Result<(), AllocError>
+fn put_delivery(out: &mut FigureWriter, delivery: Delivery) -> Result<(), AllocError>
     ensures { OnOk result (out.new ≡ out.old ++ delivery_line delivery) }
 {
     match delivery {
@@ -355,7 +369,7 @@ fn put_delivery(out: &mut Writer, delivery: Delivery) -> Result<(), AllocError>
 
 /// Writes all that is known where a method stands, each part on its line.
 pub fn put_known(
-    out: &mut Writer,
+    out: &mut FigureWriter,
     linked: &Linked,
     method: MethodNumber,
     shape: &Shape<'_>,

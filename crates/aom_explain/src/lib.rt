@@ -34,7 +34,7 @@ mod verify;
 mod word;
 
 pub use compared::put_compared;
-pub use entry::{Entry, put_entry};
+pub use entry::{Explanation, put_entry};
 pub use finding::{begins_with, instruction_statement};
 pub use known::put_known;
 pub use laws::statements_declare;

@@ -2,14 +2,14 @@
 ghost use Rattle.std.specs.Prelude.{◌≡◌, ◌≤◌, ◌++◌, ◌^◌, IfOk, OnOk, length};
 ghost use Rattle.aom_explain.specs.Lines.{budget_line, class_lines, image_line, line_of, lined_text, lines_in, method_lines, refusal_line};
 
-use crate::Entry;
+use crate::Explanation;
 use crate::finding::{begins_with, image_statement, instruction_statement, method_statement};
 use crate::source::budget_statement;
 use aom_budget::BudgetFault;
-use aom_figures::Writer;
+use aom_figures::FigureWriter;
 use aom_image::MethodNumber;
 use aom_syntax::Keyword;
-use aom_text::{Statement, Text};
+use aom_text::{Statement, StatementCursor};
 use std::alloc::{AllocError, Global};
 
 fn line_of(found: Option<Statement>) -> Option<u32>
@@ -53,7 +53,7 @@ pub fn image_line(text: &[u8]) -> Option<u32>
 }
 
 /// The lines of the statements that begin with a keyword.
-fn lines_in(alloc: Global, key: Keyword, mut text: Text) -> Result<Vec<u32>, AllocError>
+fn lines_in(alloc: Global, key: Keyword, mut text: StatementCursor) -> Result<Vec<u32>, AllocError>
     ensures { IfOk result (λ lines. lines.items ≡ lines_in key text.entry) }
 {
     let mut lines = Vec::new(alloc);
@@ -70,7 +70,7 @@ pub fn class_lines(alloc: Global, text: &[u8]) -> Result<Vec<u32>, AllocError>
     requires { length text.now ≤ 2 ^ 20 }
     ensures { IfOk result (λ lines. lines.items ≡ class_lines text.now) }
 {
-    lines_in(alloc, Keyword::Class, Text::of(text))
+    lines_in(alloc, Keyword::Class, StatementCursor::of(text))
 }
 
 /// The lines that declare a text's methods, that of method 0 first.
@@ -78,17 +78,17 @@ pub fn method_lines(alloc: Global, text: &[u8]) -> Result<Vec<u32>, AllocError>
     requires { length text.now ≤ 2 ^ 20 }
     ensures { IfOk result (λ lines. lines.items ≡ method_lines text.now) }
 {
-    lines_in(alloc, Keyword::Method, Text::of(text))
+    lines_in(alloc, Keyword::Method, StatementCursor::of(text))
 }
 
 /// Writes a fault in one line: the name of the file, the number of the line where there is one, how the fault is told, and what
 /// it is called.
 pub fn put_lined(
-    out: &mut Writer,
+    out: &mut FigureWriter,
     file: &[u8],
     line: Option<u32>,
     told: &[u8],
-    entry: &Entry,
+    entry: &Explanation,
 ) -> Result<(), AllocError>
     ensures { OnOk result (out.new ≡ out.old ++ lined_text file.now line told.now entry.now.name) }
 {

@@ -1,56 +1,56 @@
 //! Bytes that are no image.
 
-use crate::Entry;
+use crate::Explanation;
 
-pub(crate) const BAD_MAGIC: Entry = Entry {
+pub(crate) const BAD_MAGIC: Explanation = Explanation {
     name: b"wrong magic",
     meaning: b"The first four bytes are not AOIM. An assembly text is refused so.",
     mend: b"Assemble the text first, and name the image.",
 };
 
-pub(crate) const BAD_VERSION: Entry = Entry {
+pub(crate) const BAD_VERSION: Explanation = Explanation {
     name: b"wrong version",
     meaning: b"The version is neither 1 nor 2.",
     mend: b"Make the image in one of these versions.",
 };
 
-pub(crate) const TRUNCATED: Entry = Entry {
+pub(crate) const TRUNCATED: Explanation = Explanation {
     name: b"cut off",
     meaning: b"The bytes end within a field. An empty file is refused so.",
     mend: b"Copy the whole file; look at the counts of classes, methods and instructions.",
 };
 
-pub(crate) const TRAILING: Entry = Entry {
+pub(crate) const TRAILING: Explanation = Explanation {
     name: b"bytes left over",
     meaning: b"Bytes stand behind the last method.",
     mend: b"Take them away; look at the count of methods.",
 };
 
-pub(crate) const LIMIT_PASSED: Entry = Entry {
+pub(crate) const LIMIT_PASSED: Explanation = Explanation {
     name: b"past a limit",
     meaning: b"A count or a limit is out of its range, there is a ninth server class, or the file has more than 1 MiB.",
     mend: b"Declare less.",
 };
 
-pub(crate) const BAD_OPCODE: Entry = Entry {
+pub(crate) const BAD_OPCODE: Explanation = Explanation {
     name: b"no instruction",
     meaning: b"An opcode is none of the table.",
     mend: b"Take an opcode from 01 to 30, in version 2 to 31; look whether an instruction has its 8 bytes.",
 };
 
-pub(crate) const BAD_OPERAND: Entry = Entry {
+pub(crate) const BAD_OPERAND: Explanation = Explanation {
     name: b"no operand",
     meaning: b"An operand, a kind, a role, a flag or a set of states is none, or not for this kind.",
     mend: b"Look up the range of the field.",
 };
 
-pub(crate) const BAD_INDEX: Entry = Entry {
+pub(crate) const BAD_INDEX: Explanation = Explanation {
     name: b"no such number",
     meaning: b"A class, method, place or native of that number is not there.",
     mend: b"Count from 0; write ffff where there is no class.",
 };
 
-pub(crate) const NOT_ZERO: Entry = Entry {
+pub(crate) const NOT_ZERO: Explanation = Explanation {
     name: b"unused byte",
     meaning: b"A byte that is not used here is not zero.",
     mend: b"Write zero.",

@@ -4,11 +4,11 @@ ghost use Rattle.aom_explain.specs.Declarations.{class_names, method_names, name
 
 use crate::finding::begins_with;
 use aom_syntax::Keyword;
-use aom_text::{Text, Words};
+use aom_text::{StatementCursor, WordCursor};
 use std::alloc::{AllocError, Global};
 
 /// The second word of a statement, or an empty one.
-fn name_in<'a>(mut words: Words<'a>) -> &'a [u8]
+fn name_in<'a>(mut words: WordCursor<'a>) -> &'a [u8]
     ensures { result.now ≡ name_in words.entry }
 {
     match words.next() {
@@ -24,7 +24,7 @@ fn name_in<'a>(mut words: Words<'a>) -> &'a [u8]
 fn names_in<'a>(
     alloc: Global,
     key: Keyword,
-    mut text: Text<'a>,
+    mut text: StatementCursor<'a>,
 ) -> Result<Vec<&'a [u8]>, AllocError>
     ensures { IfOk result (λ names. map (λ n. n.now) names.items ≡ names_in key text.entry) }
 {
@@ -42,7 +42,7 @@ pub fn class_names(alloc: Global, text: &[u8]) -> Result<Vec<&[u8]>, AllocError>
     requires { length text.now ≤ 2 ^ 20 }
     ensures { IfOk result (λ names. map (λ n. n.now) names.items ≡ class_names text.now) }
 {
-    names_in(alloc, Keyword::Class, Text::of(text))
+    names_in(alloc, Keyword::Class, StatementCursor::of(text))
 }
 
 /// The names of a text's methods, that of method 0 first.
@@ -50,5 +50,5 @@ pub fn method_names(alloc: Global, text: &[u8]) -> Result<Vec<&[u8]>, AllocError
     requires { length text.now ≤ 2 ^ 20 }
     ensures { IfOk result (λ names. map (λ n. n.now) names.items ≡ method_names text.now) }
 {
-    names_in(alloc, Keyword::Method, Text::of(text))
+    names_in(alloc, Keyword::Method, StatementCursor::of(text))
 }

@@ -2,7 +2,7 @@
 ghost use Rattle.std.specs.Prelude.{◌≡◌, ◌≤◌, ◌++◌, OnOk, length, map, take};
 ghost use Rattle.aom_explain.specs.Places.{heading_text, instruction_text, line_text, method_text, numbered_line, shown_byte};
 
-use aom_figures::Writer;
+use aom_figures::FigureWriter;
 use aom_image::{Image, Method, MethodNumber};
 use aom_listing::{heading_line, line_at};
 use aom_text::split_line;
@@ -38,7 +38,7 @@ fn shown_byte(byte: u8) -> u8
     }
 }
 
-fn put_shown(out: &mut Writer, bytes: &[u8]) -> Result<(), AllocError>
+fn put_shown(out: &mut FigureWriter, bytes: &[u8]) -> Result<(), AllocError>
     ensures { OnOk result (out.new ≡ out.old ++ map shown_byte bytes.now) }
 {
     for byte in bytes {
@@ -55,7 +55,7 @@ fn beginning(line: &[u8]) -> &[u8]
 }
 
 /// Writes a line of a text, of a long one its beginning.
-pub fn put_line(out: &mut Writer, text: &[u8], number: u32) -> Result<(), AllocError>
+pub fn put_line(out: &mut FigureWriter, text: &[u8], number: u32) -> Result<(), AllocError>
     ensures { OnOk result (out.new ≡ out.old ++ line_text text.now number) }
 {
     out.count(b"Line ", u64::from(number))?;
@@ -67,7 +67,7 @@ pub fn put_line(out: &mut Writer, text: &[u8], number: u32) -> Result<(), AllocE
 /// Writes the line of a listing that declares a method.
 fn put_heading(
     alloc: Global,
-    out: &mut Writer,
+    out: &mut FigureWriter,
     number: MethodNumber,
     method: &Method,
 ) -> Result<(), AllocError>
@@ -81,7 +81,7 @@ fn put_heading(
 /// Writes the line of a listing that has the instruction at a place.
 fn put_instruction(
     alloc: Global,
-    out: &mut Writer,
+    out: &mut FigureWriter,
     method: &Method,
     place: usize,
 ) -> Result<(), AllocError>
@@ -97,7 +97,7 @@ fn put_instruction(
 /// Writes what a listing says of a method and of one of its places.
 pub fn put_method(
     alloc: Global,
-    out: &mut Writer,
+    out: &mut FigureWriter,
     image: &Image,
     number: MethodNumber,
     place: usize,

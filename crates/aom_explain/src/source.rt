@@ -4,13 +4,13 @@ ghost use Rattle.aom_explain.specs.Sources.{budget_statement, declared_text, fou
 
 use crate::finding::{class_statement, image_statement, instruction_statement, method_statement};
 use aom_budget::{BudgetFault, Payer};
-use aom_figures::Writer;
+use aom_figures::FigureWriter;
 use aom_image::MethodNumber;
-use aom_text::{Statement, Words};
+use aom_text::{Statement, WordCursor};
 use std::alloc::AllocError;
 
 /// Writes words, each behind a space.
-fn put_words(out: &mut Writer, words: Words) -> Result<(), AllocError>
+fn put_words(out: &mut FigureWriter, words: WordCursor) -> Result<(), AllocError>
     ensures { OnOk result (out.new ≡ out.old ++ spaced words.entry) }
 {
     let mut words = words;
@@ -21,7 +21,11 @@ fn put_words(out: &mut Writer, words: Words) -> Result<(), AllocError>
     Ok(())
 }
 
-fn put_statement(out: &mut Writer, lead: &[u8], statement: Statement) -> Result<(), AllocError>
+fn put_statement(
+    out: &mut FigureWriter,
+    lead: &[u8],
+    statement: Statement,
+) -> Result<(), AllocError>
     ensures { OnOk result (out.new ≡ out.old ++ statement_text lead.now statement.entry) }
 {
     out.count(lead, u64::from(statement.line))?;
@@ -31,7 +35,11 @@ fn put_statement(out: &mut Writer, lead: &[u8], statement: Statement) -> Result<
 }
 
 /// Writes a statement with its line, where there is one.
-fn put_found(out: &mut Writer, lead: &[u8], found: Option<Statement>) -> Result<(), AllocError>
+fn put_found(
+    out: &mut FigureWriter,
+    lead: &[u8],
+    found: Option<Statement>,
+) -> Result<(), AllocError>
     ensures { OnOk result (out.new ≡ out.old ++ found_text lead.now found.entry) }
 {
     match found {
@@ -42,7 +50,7 @@ fn put_found(out: &mut Writer, lead: &[u8], found: Option<Statement>) -> Result<
 
 /// Writes the statement of a text that declares a method, and the one that holds the instruction at a place of it.
 pub fn put_source(
-    out: &mut Writer,
+    out: &mut FigureWriter,
     text: &[u8],
     number: MethodNumber,
     place: usize,
@@ -67,7 +75,11 @@ pub(crate) fn budget_statement(text: &[u8], payer: Payer) -> Option<Statement>
 }
 
 /// Writes the statement of a text that declares the budget that is too low.
-pub fn put_declared(out: &mut Writer, text: &[u8], fault: &BudgetFault) -> Result<(), AllocError>
+pub fn put_declared(
+    out: &mut FigureWriter,
+    text: &[u8],
+    fault: &BudgetFault,
+) -> Result<(), AllocError>
     requires { length text.now ≤ 2 ^ 20 }
     ensures { OnOk result (out.new ≡ out.old ++ declared_text text.now fault.now) }
 {

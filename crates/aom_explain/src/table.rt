@@ -2,7 +2,7 @@
 ghost use Rattle.std.specs.Prelude.{◌≡◌};
 ghost use Rattle.aom_explain.specs.Table.{asm_texts, boot_texts, budget_texts, link_texts, load_texts, script_texts, verify_texts, word_texts};
 
-use crate::{Entry, Unnumbered, asm, boot, budget, link, load, script, verify, word};
+use crate::{Explanation, Unnumbered, asm, boot, budget, link, load, script, verify, word};
 use aom_budget::BudgetFault;
 use aom_classes::LinkFault;
 use aom_codec::LoadFault;
@@ -12,7 +12,7 @@ use aom_shape::Why;
 use aom_text::AsmFaultKind;
 
 /// What is told of a fault that has no number.
-pub fn word_entry(fault: Unnumbered) -> Entry
+pub fn word_entry(fault: Unnumbered) -> Explanation
     ensures { result ≡ word_texts fault }
 {
     match fault {
@@ -25,7 +25,7 @@ pub fn word_entry(fault: Unnumbered) -> Entry
 }
 
 /// What is told of bytes that are no image.
-pub fn load_entry(fault: LoadFault) -> Entry
+pub fn load_entry(fault: LoadFault) -> Explanation
     ensures { result ≡ load_texts fault }
 {
     match fault {
@@ -43,7 +43,7 @@ pub fn load_entry(fault: LoadFault) -> Entry
 }
 
 /// What is told of a text that denotes no image.
-pub fn asm_entry(kind: AsmFaultKind) -> Entry
+pub fn asm_entry(kind: AsmFaultKind) -> Explanation
     ensures { result ≡ asm_texts kind }
 {
     match kind {
@@ -59,7 +59,7 @@ pub fn asm_entry(kind: AsmFaultKind) -> Entry
 }
 
 /// What is told of an image whose parts do not go together.
-pub fn link_entry(fault: LinkFault) -> Entry
+pub fn link_entry(fault: LinkFault) -> Explanation
     ensures { result ≡ link_texts fault }
 {
     match fault {
@@ -78,7 +78,7 @@ pub fn link_entry(fault: LinkFault) -> Entry
 }
 
 /// What is told of a method without a typing.
-pub fn verify_entry(why: Why) -> Entry
+pub fn verify_entry(why: Why) -> Explanation
     ensures { result ≡ verify_texts why }
 {
     match why {
@@ -107,7 +107,7 @@ pub fn verify_entry(why: Why) -> Entry
 }
 
 /// What is told of an image that may come to too much.
-pub fn budget_entry(fault: BudgetFault) -> Entry
+pub fn budget_entry(fault: BudgetFault) -> Explanation
     ensures { result ≡ budget_texts fault }
 {
     match fault {
@@ -119,7 +119,7 @@ pub fn budget_entry(fault: BudgetFault) -> Entry
 }
 
 /// What is told of a text that is no script.
-pub fn script_entry(kind: ScriptFaultKind) -> Entry
+pub fn script_entry(kind: ScriptFaultKind) -> Explanation
     ensures { result ≡ script_texts kind }
 {
     match kind {
@@ -133,7 +133,7 @@ pub fn script_entry(kind: ScriptFaultKind) -> Entry
 }
 
 /// What is told of a machine that is not made.
-pub fn boot_entry(fault: BootFault) -> Entry
+pub fn boot_entry(fault: BootFault) -> Explanation
     ensures { result ≡ boot_texts fault }
 {
     match fault {

@@ -1,6 +1,6 @@
 //! Faults that have no number.
 
-use crate::Entry;
+use crate::Explanation;
 
 /// A fault that is told by its word alone.
 #[derive(Clone, Copy)]
@@ -16,31 +16,31 @@ pub enum Unnumbered {
     Memory,
 }
 
-pub(crate) const NATIVE: Entry = Entry {
+pub(crate) const NATIVE: Explanation = Explanation {
     name: b"native",
     meaning: b"A word behind the script names no native that there is, or there are more than sixteen words.",
     mend: b"Write counter, line or delay; a native of one's own is for a program of one's own, as natives.md says.",
 };
 
-pub(crate) const FILE: Entry = Entry {
+pub(crate) const FILE: Explanation = Explanation {
     name: b"file",
     meaning: b"A file that the words name cannot be read.",
     mend: b"Look at the name, and whether it is a file that may be read.",
 };
 
-pub(crate) const TEXT: Entry = Entry {
+pub(crate) const TEXT: Explanation = Explanation {
     name: b"text",
     meaning: b"The text that --text names denotes an image, and another one than is named beside it.",
     mend: b"Name the text that the image is of, or assemble the text again and name that image.",
 };
 
-pub(crate) const WRITE: Entry = Entry {
+pub(crate) const WRITE: Explanation = Explanation {
     name: b"write",
     meaning: b"The standard output took nothing more. What is out is a beginning.",
     mend: b"Look for a full disk, or a reader that has ended.",
 };
 
-pub(crate) const MEMORY: Entry = Entry {
+pub(crate) const MEMORY: Explanation = Explanation {
     name: b"memory",
     meaning: b"A request for memory was refused, whatever it was for. It says nothing about the image, the text or the script.",
     mend: b"Give the program more memory.",

@@ -10,7 +10,7 @@ ghost use Rattle.aom_explaining.specs.Explaining.{Beside};
 use crate::beside::ImageText;
 use crate::naming::say_text;
 use aom_commands::{ExitStatus, Fault, answer};
-use aom_debug::{Names, Reader, try_debug};
+use aom_debug::{Reader, SourceNames, try_debug};
 use aom_explain::{class_names, method_names};
 use aom_natives::Native;
 use aom_run::Sink;
@@ -33,7 +33,7 @@ fn try_debug_by_names<R: Reader, W: Sink>(
 {
     let classes = class_names(alloc, text.bytes())?;
     let methods = method_names(alloc, text.bytes())?;
-    let names = Names::new(&classes, &methods, text.bytes());
+    let names = SourceNames::new(&classes, &methods, text.bytes());
     try_debug(
         alloc, image, script, limit, names, boxes, reader, reads, out,
     )

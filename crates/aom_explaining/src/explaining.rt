@@ -14,16 +14,16 @@ use aom_budget::BudgetFault;
 use aom_codec::decode;
 use aom_commands::Fault;
 use aom_explain::{
-    Entry, Unnumbered, asm_entry, boot_entry, budget_entry, link_entry, load_entry, put_compared,
-    put_declared, put_entry, put_line, put_method, put_source, script_entry, verify_entry,
-    word_entry,
+    Explanation, Unnumbered, asm_entry, boot_entry, budget_entry, link_entry, load_entry,
+    put_compared, put_declared, put_entry, put_line, put_method, put_source, script_entry,
+    verify_entry, word_entry,
 };
-use aom_figures::Writer;
+use aom_figures::FigureWriter;
 use aom_verify::Refusal;
 use std::alloc::{AllocError, Global};
 
 /// What is told of a refusal by its number.
-fn refusal_entry(refusal: Refusal) -> Entry
+fn refusal_entry(refusal: Refusal) -> Explanation
     ensures { result ≡ refusal_texts refusal }
 {
     match refusal {
@@ -33,7 +33,7 @@ fn refusal_entry(refusal: Refusal) -> Entry
 }
 
 /// What is told of a fault by its kind and number.
-pub fn entry_of(fault: &Fault) -> Entry
+pub fn entry_of(fault: &Fault) -> Explanation
     ensures { result ≡ texts_of fault.now }
 {
     match *fault {
@@ -54,7 +54,7 @@ pub fn entry_of(fault: &Fault) -> Entry
 /// Writes what the listing of an image says of the place of a refusal, and what is known there.
 fn put_refusal(
     alloc: Global,
-    out: &mut Writer,
+    out: &mut FigureWriter,
     image: &[u8],
     refusal: Refusal,
 ) -> Result<(), AllocError>
@@ -75,7 +75,7 @@ fn put_refusal(
 /// Writes what is said of the place of a fault.
 fn put_place(
     alloc: Global,
-    out: &mut Writer,
+    out: &mut FigureWriter,
     fault: &Fault,
     image: &[u8],
     text: &[u8],
@@ -101,7 +101,7 @@ pub fn explanation(
 ) -> Result<Vec<u8>, AllocError>
     ensures { IfOk result (λ said. Explains image.now text.now fault.now said.items) }
 {
-    let mut out = Writer::new(alloc);
+    let mut out = FigureWriter::new(alloc);
     put_entry(&mut out, &entry_of(fault))?;
     put_place(alloc, &mut out, fault, image, text)?;
     Ok(out.into_text())
@@ -110,7 +110,7 @@ pub fn explanation(
 /// Writes where the text that the image is of has the place of a refusal, and what is known there.
 fn put_refusal_source(
     alloc: Global,
-    out: &mut Writer,
+    out: &mut FigureWriter,
     image: &[u8],
     text: &ImageText,
     refusal: Refusal,
@@ -130,7 +130,11 @@ fn put_refusal_source(
 }
 
 /// Writes what has been compared, and where the text that the image is of declares the budget.
-fn put_budget(out: &mut Writer, text: &ImageText, fault: &BudgetFault) -> Result<(), AllocError>
+fn put_budget(
+    out: &mut FigureWriter,
+    text: &ImageText,
+    fault: &BudgetFault,
+) -> Result<(), AllocError>
     ensures { OnOk result (out.new ≡ out.old ++ (compared_text fault.now ++ declared_text text.now fault.now)) }
 {
     put_compared(out, fault)?;
@@ -140,7 +144,7 @@ fn put_budget(out: &mut Writer, text: &ImageText, fault: &BudgetFault) -> Result
 /// Writes what is said of the place of a fault by the text that the image is of.
 fn put_beside(
     alloc: Global,
-    out: &mut Writer,
+    out: &mut FigureWriter,
     fault: &Fault,
     image: &[u8],
     text: &ImageText,
@@ -167,7 +171,7 @@ pub fn explanation_by_text(
 ) -> Result<Vec<u8>, AllocError>
     ensures { IfOk result (λ said. ExplainsByText image.now text.now script.now fault.now said.items) }
 {
-    let mut out = Writer::new(alloc);
+    let mut out = FigureWriter::new(alloc);
     put_entry(&mut out, &entry_of(fault))?;
     put_beside(alloc, &mut out, fault, image, text, script)?;
     Ok(out.into_text())
@@ -177,7 +181,7 @@ pub fn explanation_by_text(
 pub fn other_explanation(alloc: Global) -> Result<Vec<u8>, AllocError>
     ensures { IfOk result (λ said. said.items ≡ entry_text (word_texts Text)) }
 {
-    let mut out = Writer::new(alloc);
+    let mut out = FigureWriter::new(alloc);
     put_entry(&mut out, &word_entry(Unnumbered::Text))?;
     Ok(out.into_text())
 }

@@ -11,8 +11,8 @@ ghost use Rattle.aom_explaining.specs.Lined.{AnsweredOrLined, LinesText, TellsLi
 use crate::beside::{ImageText, TextFault};
 use crate::explaining::entry_of;
 use aom_commands::{ExitStatus, Fault, fault_text, tell};
-use aom_explain::{Entry, Unnumbered, budget_line, put_lined, refusal_line, word_entry};
-use aom_figures::Writer;
+use aom_explain::{Explanation, Unnumbered, budget_line, put_lined, refusal_line, word_entry};
+use aom_figures::FigureWriter;
 use aom_run::{Sink, write_text};
 use aom_verify::Refusal;
 use std::alloc::{AllocError, Global};
@@ -44,11 +44,11 @@ fn line_of(
     file: &[u8],
     place: Option<u32>,
     told: &[u8],
-    entry: &Entry,
+    entry: &Explanation,
 ) -> Result<Vec<u8>, AllocError>
     ensures { IfOk result (λ line. line.items ≡ lined_text file.now place told.now entry.now.name) }
 {
-    let mut out = Writer::new(alloc);
+    let mut out = FigureWriter::new(alloc);
     put_lined(&mut out, file, place, told, entry)?;
     Ok(out.into_text())
 }

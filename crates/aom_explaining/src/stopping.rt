@@ -8,7 +8,7 @@ ghost use Rattle.aom_explaining.specs.Explained.{KnownThere, state_text, ways_di
 
 use aom_classes::LinkFault;
 use aom_explain::put_known;
-use aom_figures::Writer;
+use aom_figures::FigureWriter;
 use aom_image::{Image, MethodNumber};
 use aom_linked::{Linked, link};
 use aom_rules::rule;
@@ -49,7 +49,7 @@ fn ways_differ(
 }
 
 /// Writes that ways differ, where that is so.
-fn put_ways(out: &mut Writer, differ: bool) -> Result<(), AllocError>
+fn put_ways(out: &mut FigureWriter, differ: bool) -> Result<(), AllocError>
     ensures { OnOk result (out.new ≡ out.old ++ ways_line differ) }
 {
     if differ {
@@ -61,7 +61,7 @@ fn put_ways(out: &mut Writer, differ: bool) -> Result<(), AllocError>
 
 /// Writes what a state says that is refused at a place for that reason.
 fn put_state(
-    out: &mut Writer,
+    out: &mut FigureWriter,
     linked: &Linked,
     method: MethodNumber,
     place: usize,
@@ -77,7 +77,7 @@ fn put_state(
 
 /// Writes what is known where work on a method ends, if it does so at that place and for that reason.
 fn put_stop(
-    out: &mut Writer,
+    out: &mut FigureWriter,
     linked: &Linked,
     method: MethodNumber,
     stop: &Stop,
@@ -103,7 +103,7 @@ fn put_stop(
 /// Writes what is known at a place of a method where it is refused for that reason.
 fn put_known_in(
     alloc: Global,
-    out: &mut Writer,
+    out: &mut FigureWriter,
     linked: &Linked,
     method: MethodNumber,
     place: usize,
@@ -132,7 +132,7 @@ fn not_linked(fault: LinkFault) -> Result<(), AllocError>
 /// The same in an image.
 pub fn put_known_at(
     alloc: Global,
-    out: &mut Writer,
+    out: &mut FigureWriter,
     image: Image,
     method: MethodNumber,
     place: usize,

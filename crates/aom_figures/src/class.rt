@@ -4,7 +4,7 @@ ghost use Rattle.aom_figures.specs.Each.{numbered};
 ghost use Rattle.aom_figures.specs.Classes.{kind_word, class_heading, thing_text, field_line, fields_text, parent_line, parent_text, class_text, classes_text};
 
 use crate::over::{class_is_over, put_color};
-use crate::{Names, Writer};
+use crate::{FigureWriter, Names};
 use aom_budget::Figures;
 use aom_image::{ClassDecl, ClassKind, ClassNumber, Thing};
 use aom_linked::Linked;
@@ -18,7 +18,7 @@ fn class_number(index: usize) -> ClassNumber
     ClassNumber::new(index as u16).unwrap()
 }
 
-fn put_kind_word(out: &mut Writer, kind: ClassKind) -> Result<(), AllocError>
+fn put_kind_word(out: &mut FigureWriter, kind: ClassKind) -> Result<(), AllocError>
     ensures { OnOk result (out.new ≡ out.old ++ kind_word kind) }
 {
     match kind {
@@ -30,7 +30,11 @@ fn put_kind_word(out: &mut Writer, kind: ClassKind) -> Result<(), AllocError>
 }
 
 /// Words, and a class behind them.
-fn put_class_number(out: &mut Writer, words: &[u8], class: ClassNumber) -> Result<(), AllocError>
+fn put_class_number(
+    out: &mut FigureWriter,
+    words: &[u8],
+    class: ClassNumber,
+) -> Result<(), AllocError>
     ensures { OnOk result (out.new ≡ out.old ++ numbered words.now class) }
 {
     out.count(words, u64::from(class.number()))
@@ -38,7 +42,7 @@ fn put_class_number(out: &mut Writer, words: &[u8], class: ClassNumber) -> Resul
 
 /// A box for a class, told by its name, with its kind.
 fn put_class_heading(
-    out: &mut Writer,
+    out: &mut FigureWriter,
     names: &Names,
     class: ClassNumber,
     kind: ClassKind,
@@ -52,7 +56,7 @@ fn put_class_heading(
 }
 
 /// What is owned.
-fn put_thing(out: &mut Writer, thing: Thing) -> Result<(), AllocError>
+fn put_thing(out: &mut FigureWriter, thing: Thing) -> Result<(), AllocError>
     ensures { OnOk result (out.new ≡ out.old ++ thing_text thing) }
 {
     match thing {
@@ -62,7 +66,7 @@ fn put_thing(out: &mut Writer, thing: Thing) -> Result<(), AllocError>
 }
 
 fn put_field(
-    out: &mut Writer,
+    out: &mut FigureWriter,
     class: ClassNumber,
     field: u64,
     thing: Thing,
@@ -75,7 +79,11 @@ fn put_field(
     out.words(b"\"]\n")
 }
 
-fn put_fields(out: &mut Writer, class: ClassNumber, fields: &[Thing]) -> Result<(), AllocError>
+fn put_fields(
+    out: &mut FigureWriter,
+    class: ClassNumber,
+    fields: &[Thing],
+) -> Result<(), AllocError>
     ensures { OnOk result (out.new ≡ out.old ++ fields_text class fields.now) }
 {
     for (field, thing) in fields.iter().enumerate() {
@@ -85,7 +93,7 @@ fn put_fields(out: &mut Writer, class: ClassNumber, fields: &[Thing]) -> Result<
 }
 
 fn put_parent_line(
-    out: &mut Writer,
+    out: &mut FigureWriter,
     class: ClassNumber,
     parent: ClassNumber,
 ) -> Result<(), AllocError>
@@ -98,7 +106,7 @@ fn put_parent_line(
 
 /// The class's parent, if it has one.
 fn put_parent(
-    out: &mut Writer,
+    out: &mut FigureWriter,
     class: ClassNumber,
     parent: Option<ClassNumber>,
 ) -> Result<(), AllocError>
@@ -112,7 +120,7 @@ fn put_parent(
 
 /// A class, red where its dispatches are over what is declared of them, its parent, and what each of its owning fields may own.
 fn put_class(
-    out: &mut Writer,
+    out: &mut FigureWriter,
     names: &Names,
     linked: &Linked,
     figures: &Figures,
@@ -129,7 +137,7 @@ fn put_class(
 }
 
 pub(crate) fn put_classes(
-    out: &mut Writer,
+    out: &mut FigureWriter,
     names: &Names,
     linked: &Linked,
     figures: &Figures,

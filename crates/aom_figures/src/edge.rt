@@ -2,7 +2,7 @@
 ghost use Rattle.std.specs.Prelude.{◌≡◌, ◌++◌, OnOk};
 ghost use Rattle.aom_figures.specs.Edges.{arrow, edge_of, edge_line, edge_text, code_text, kind_text};
 
-use crate::Writer;
+use crate::FigureWriter;
 use aom_image::{Instr, MethodNumber};
 use std::alloc::AllocError;
 
@@ -55,7 +55,11 @@ fn words_of(kind: EdgeKind) -> &'static [u8]
 }
 
 /// An edge without its end.
-pub(crate) fn put_arrow(out: &mut Writer, from: MethodNumber, edge: Edge) -> Result<(), AllocError>
+pub(crate) fn put_arrow(
+    out: &mut FigureWriter,
+    from: MethodNumber,
+    edge: Edge,
+) -> Result<(), AllocError>
     ensures { OnOk result (out.new ≡ out.old ++ arrow from edge) }
 {
     out.count(b"m", u64::from(from.number()))?;
@@ -63,14 +67,18 @@ pub(crate) fn put_arrow(out: &mut Writer, from: MethodNumber, edge: Edge) -> Res
     out.words(words_of(edge.kind))
 }
 
-fn put_edge(out: &mut Writer, from: MethodNumber, edge: Edge) -> Result<(), AllocError>
+fn put_edge(out: &mut FigureWriter, from: MethodNumber, edge: Edge) -> Result<(), AllocError>
     ensures { OnOk result (out.new ≡ out.old ++ edge_line from edge) }
 {
     put_arrow(out, from, edge)?;
     out.words(b"]\n")
 }
 
-fn put_instruction(out: &mut Writer, from: MethodNumber, instr: Instr) -> Result<(), AllocError>
+fn put_instruction(
+    out: &mut FigureWriter,
+    from: MethodNumber,
+    instr: Instr,
+) -> Result<(), AllocError>
     ensures { OnOk result (out.new ≡ out.old ++ edge_text from (edge_of instr)) }
 {
     match Edge::of(instr) {
@@ -81,7 +89,7 @@ fn put_instruction(out: &mut Writer, from: MethodNumber, instr: Instr) -> Result
 
 /// The edges of a method's code.
 pub(crate) fn put_code(
-    out: &mut Writer,
+    out: &mut FigureWriter,
     from: MethodNumber,
     code: &[Instr],
 ) -> Result<(), AllocError>

@@ -5,7 +5,7 @@ ghost use Rattle.aom_figures.specs.Dot.{dot_text};
 use crate::class::put_classes;
 use crate::method::put_methods;
 use crate::way::put_way;
-use crate::{Names, Writer};
+use crate::{FigureWriter, Names};
 use aom_budget::Figures;
 use aom_linked::Linked;
 use std::alloc::{AllocError, Global};
@@ -19,7 +19,7 @@ pub fn dot_text(
 ) -> Result<Vec<u8>, AllocError>
     ensures { IfOk result (λ text. text.items ≡ dot_text names.now linked.now figures.now) }
 {
-    let mut out = Writer::new(alloc);
+    let mut out = FigureWriter::new(alloc);
     let image = linked.image();
     out.words(b"digraph aom {\n")?;
     put_classes(&mut out, names, linked, figures, image.classes().as_slice())?;

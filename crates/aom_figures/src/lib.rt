@@ -5,7 +5,7 @@
 //! `figures_text` answers just the text of `specs/Text.antt`, and `dot_text` that of `specs/Dot.antt`. With `Places` the text tells
 //! the lines of a text that declare what the figures are of. What the figures are is said in
 //! `aom_budget`; here is only how they are written and drawn. Nothing here knows whether an image is accepted: in a graph what is over
-//! its budget or over a limit is red. `Writer` is the text in which they are written; what else is written of an image takes it from
+//! its budget or over a limit is red. `FigureWriter` is the text in which they are written; what else is written of an image takes it from
 //! here.
 #![tactic(auto)]
 
@@ -26,4 +26,4 @@ pub use most::method_number;
 pub use names::Names;
 pub use places::Places;
 pub use text::figures_text;
-pub use writer::Writer;
+pub use writer::FigureWriter;

@@ -5,13 +5,13 @@ ghost use Rattle.aom_figures.specs.Methods.{role_word, of_text, heading_text, fi
 
 use crate::edge::put_code;
 use crate::over::{method_is_over, put_color};
-use crate::{Names, Writer, method_number};
+use crate::{FigureWriter, Names, method_number};
 use aom_budget::Figures;
 use aom_image::{ClassNumber, Method, MethodNumber, Role};
 use aom_linked::Linked;
 use std::alloc::AllocError;
 
-fn put_role(out: &mut Writer, role: Role) -> Result<(), AllocError>
+fn put_role(out: &mut FigureWriter, role: Role) -> Result<(), AllocError>
     ensures { OnOk result (out.new ≡ out.old ++ role_word role) }
 {
     match role {
@@ -30,7 +30,7 @@ fn put_role(out: &mut Writer, role: Role) -> Result<(), AllocError>
 
 /// The class whose objects a method works on, where there is one.
 fn put_class_of(
-    out: &mut Writer,
+    out: &mut FigureWriter,
     names: &Names,
     class: Option<ClassNumber>,
 ) -> Result<(), AllocError>
@@ -45,7 +45,11 @@ fn put_class_of(
     }
 }
 
-fn put_figures(out: &mut Writer, figures: &Figures, method: MethodNumber) -> Result<(), AllocError>
+fn put_figures(
+    out: &mut FigureWriter,
+    figures: &Figures,
+    method: MethodNumber,
+) -> Result<(), AllocError>
     ensures { OnOk result (out.new ≡ out.old ++ figures_label figures.now method) }
 {
     out.count(b"\\nprice ", figures.price(method))?;
@@ -56,7 +60,7 @@ fn put_figures(out: &mut Writer, figures: &Figures, method: MethodNumber) -> Res
 
 /// A method, told by its name, with its role and its class.
 fn put_heading(
-    out: &mut Writer,
+    out: &mut FigureWriter,
     names: &Names,
     number: MethodNumber,
     method: &Method,
@@ -71,14 +75,18 @@ fn put_heading(
 }
 
 /// Words, and a method behind them.
-fn put_method_number(out: &mut Writer, words: &[u8], method: MethodNumber) -> Result<(), AllocError>
+fn put_method_number(
+    out: &mut FigureWriter,
+    words: &[u8],
+    method: MethodNumber,
+) -> Result<(), AllocError>
     ensures { OnOk result (out.new ≡ out.old ++ numbered words.now method) }
 {
     out.count(words, u64::from(method.number()))
 }
 
 fn put_over_line(
-    out: &mut Writer,
+    out: &mut FigureWriter,
     method: MethodNumber,
     over: MethodNumber,
 ) -> Result<(), AllocError>
@@ -91,7 +99,7 @@ fn put_over_line(
 
 /// The method that one overrides, if there is one.
 fn put_over(
-    out: &mut Writer,
+    out: &mut FigureWriter,
     method: MethodNumber,
     over: Option<MethodNumber>,
 ) -> Result<(), AllocError>
@@ -105,7 +113,7 @@ fn put_over(
 
 /// A method with its figures, red where it is over a limit, the one that it overrides, and what its instructions lead to.
 fn put_method(
-    out: &mut Writer,
+    out: &mut FigureWriter,
     names: &Names,
     linked: &Linked,
     figures: &Figures,
@@ -123,7 +131,7 @@ fn put_method(
 }
 
 pub(crate) fn put_methods(
-    out: &mut Writer,
+    out: &mut FigureWriter,
     names: &Names,
     linked: &Linked,
     figures: &Figures,

@@ -2,7 +2,7 @@
 ghost use Rattle.std.specs.Prelude.{◌≡◌, ◌++◌, None, OnOk, Some, map, option_map};
 ghost use Rattle.aom_figures.specs.Names.{label, unnamed};
 
-use crate::{Places, Writer};
+use crate::{FigureWriter, Places};
 use aom_image::{ClassNumber, MethodNumber};
 use std::alloc::AllocError;
 use std::marker::Model;
@@ -25,7 +25,12 @@ impl<'a> Model for Names<'a> {
 }
 
 /// Writes the name at a number or, where there is none, words and the number.
-fn put_label(out: &mut Writer, names: &[&[u8]], words: &[u8], number: u16) -> Result<(), AllocError>
+fn put_label(
+    out: &mut FigureWriter,
+    names: &[&[u8]],
+    words: &[u8],
+    number: u16,
+) -> Result<(), AllocError>
     ensures { OnOk result (out.new ≡ out.old ++ label (map (λ w. w.now) names.now) words.now number) }
 {
     match names.get(number as usize) {
@@ -77,7 +82,7 @@ impl<'a> Names<'a> {
     /// Writes the name of a class or, where it has none, words and its number.
     pub(crate) fn put_class(
         &self,
-        out: &mut Writer,
+        out: &mut FigureWriter,
         words: &[u8],
         class: ClassNumber,
     ) -> Result<(), AllocError>
@@ -89,7 +94,7 @@ impl<'a> Names<'a> {
     /// Writes the name of a method or, where it has none, words and its number.
     pub(crate) fn put_method(
         &self,
-        out: &mut Writer,
+        out: &mut FigureWriter,
         words: &[u8],
         method: MethodNumber,
     ) -> Result<(), AllocError>

@@ -2,7 +2,7 @@
 ghost use Rattle.std.specs.Prelude.{◌≡◌, ◌++◌, OnOk};
 ghost use Rattle.aom_figures.specs.Over.{color_text, class_is_over, main_is_over, method_is_over, is_over};
 
-use crate::Writer;
+use crate::FigureWriter;
 use aom_budget::{Figures, budget_of};
 use aom_image::{ClassDecl, ClassNumber, MethodNumber};
 use aom_linked::Linked;
@@ -50,7 +50,7 @@ pub(crate) fn method_is_over(linked: &Linked, figures: &Figures, method: MethodN
 
 /// Red, where something is over.
 #[tactic(auto, unfolding(crate::specs::Over::color_text))]
-pub(crate) fn put_color(out: &mut Writer, is_over: bool) -> Result<(), AllocError>
+pub(crate) fn put_color(out: &mut FigureWriter, is_over: bool) -> Result<(), AllocError>
     ensures { OnOk result (out.new ≡ out.old ++ color_text is_over) }
 {
     if is_over {

@@ -2,7 +2,7 @@
 ghost use Rattle.std.specs.Prelude.{◌≡◌, ◌++◌, OnOk, slice_get};
 ghost use Rattle.aom_figures.specs.Places.{file_lead, lead, method_lead, payer_line, place_text};
 
-use crate::{Names, Writer};
+use crate::{FigureWriter, Names};
 use aom_budget::Payer;
 use aom_image::{ClassNumber, MethodNumber};
 use std::alloc::AllocError;
@@ -66,7 +66,7 @@ impl<'a> Places<'a> {
     }
 }
 
-impl Writer {
+impl FigureWriter {
     /// The number of a line behind the name of its file, where there is one.
     pub fn place(&mut self, line: Option<u32>) -> Result<(), AllocError>
         ensures { OnOk result (self.new ≡ self.old ++ place_text line) }

@@ -7,7 +7,7 @@ ghost use Rattle.aom_budget.specs.Figures.{kind_by};
 ghost use Rattle.aom_budget.specs.Budgets.{budget_of};
 
 use crate::most::{method_number, most_of};
-use crate::writer::Writer;
+use crate::writer::FigureWriter;
 use crate::{Names, Places};
 use aom_budget::{Figures, Payer, budget_of};
 use aom_image::{ClassDecl, ClassNumber, MethodNumber};
@@ -22,7 +22,7 @@ fn class_number(index: usize) -> ClassNumber
     ClassNumber::new(index as u16).unwrap()
 }
 
-impl Writer {
+impl FigureWriter {
     /// Whose dispatch it is.
     pub fn payer(&mut self, payer: Payer) -> Result<(), AllocError>
         ensures { OnOk result (self.new ≡ self.old ++ payer_text payer) }
@@ -196,7 +196,7 @@ pub fn figures_text(
 ) -> Result<Vec<u8>, AllocError>
     ensures { IfOk result (λ text. text.items ≡ figures_text names.now linked.now figures.now) }
 {
-    let mut writer = Writer::new(alloc);
+    let mut writer = FigureWriter::new(alloc);
     let declared = linked.image().header().budget;
     writer.dispatch(names, Payer::Main, figures.main_price(linked), declared)?;
     writer.classes(names, linked, figures)?;

@@ -3,7 +3,7 @@ ghost use Rattle.std.specs.Prelude.{◌≡◌, ◌++◌, None, OnOk};
 ghost use Rattle.aom_classes.specs.Roles.{main_of};
 ghost use Rattle.aom_figures.specs.Way.{bold_line, dearer, dearer_one, dearest, dearest_of, is_dearer, way_of};
 
-use crate::Writer;
+use crate::FigureWriter;
 use crate::edge::{Edge, put_arrow};
 use aom_budget::Figures;
 use aom_image::{Instr, MethodNumber};
@@ -66,7 +66,7 @@ fn dearest_of(linked: &Linked, figures: &Figures, method: MethodNumber) -> Optio
     }
 }
 
-fn put_bold(out: &mut Writer, from: MethodNumber, edge: Edge) -> Result<(), AllocError>
+fn put_bold(out: &mut FigureWriter, from: MethodNumber, edge: Edge) -> Result<(), AllocError>
     ensures { OnOk result (out.new ≡ out.old ++ bold_line from edge) }
 {
     put_arrow(out, from, edge)?;
@@ -75,7 +75,7 @@ fn put_bold(out: &mut Writer, from: MethodNumber, edge: Edge) -> Result<(), Allo
 
 /// The way from main on. It has at most as many edges as there are methods.
 pub(crate) fn put_way(
-    out: &mut Writer,
+    out: &mut FigureWriter,
     linked: &Linked,
     figures: &Figures,
 ) -> Result<(), AllocError>

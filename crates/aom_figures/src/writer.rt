@@ -6,11 +6,11 @@ use std::alloc::{AllocError, Global};
 use std::marker::Model;
 
 #[derive(Drop)]
-pub struct Writer {
+pub struct FigureWriter {
     text: Vec<u8>,
 }
 
-impl Model for Writer {
+impl Model for FigureWriter {
     ghost use Rattle.std.specs.Prelude.{ℕ, List};
 
     ghost Value = { List ℕ };
@@ -18,11 +18,11 @@ impl Model for Writer {
     ghost view = { λ w. w.text.items };
 }
 
-impl Writer {
-    pub fn new(alloc: Global) -> Writer
+impl FigureWriter {
+    pub fn new(alloc: Global) -> FigureWriter
         ensures { result ≡ [] }
     {
-        Writer {
+        FigureWriter {
             text: Vec::new(alloc),
         }
     }

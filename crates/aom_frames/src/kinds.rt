@@ -8,12 +8,12 @@ use std::marker::Model;
 
 /// The kinds of the tasks, the innermost last. What lies above is of tasks that are over.
 #[derive(Drop)]
-pub(crate) struct Kinds {
+pub(crate) struct TaskKinds {
     kinds: [TaskKind; 2048],
     count: usize,
 }
 
-impl Model for Kinds {
+impl Model for TaskKinds {
     ghost use Rattle.std.specs.Prelude.{List, ◌≤◌};
     ghost use Rattle.aom_frames.specs.declared.task.TaskKind.{TaskKind};
     ghost use Rattle.aom_frames.specs.declared.task.TaskKind.TheVariants.{Trapped};
@@ -26,11 +26,11 @@ impl Model for Kinds {
     ghost invariant = { λ k. k.count ≤ 2048 };
 }
 
-impl Kinds {
-    pub(crate) fn new() -> Kinds
+impl TaskKinds {
+    pub(crate) fn new() -> TaskKinds
         ensures { result ≡ [] }
     {
-        Kinds {
+        TaskKinds {
             kinds: [TaskKind::Trapped; 2048],
             count: 0,
         }

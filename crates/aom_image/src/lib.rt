@@ -9,8 +9,8 @@ mod method;
 
 pub use aom_instructions::{
     ClassNumber, EntryDepth, FieldIndex, Instr, Kinds, Large, LargeKind, Limits, LoopDepth,
-    MethodNumber, Mnemonic, NativeNumber, Operands, Order, Place, Register, Row, Small, SmallKind,
-    Target, Version, WordIndex, instructions_and_rows,
+    MethodNumber, Mnemonic, NativeNumber, OperandOrder, Operands, Place, Register, Row, Small,
+    SmallKind, Target, Version, WordIndex, instructions_and_rows,
 };
 pub use class::{ClassDecl, ClassKind, Provider};
 pub use form::{form_ok, spelled_len};

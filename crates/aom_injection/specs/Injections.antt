@@ -1,6 +1,6 @@
 -- What befalls a run beside what its script says, and the words for it.
 use Rattle.std.specs.Prelude.{ℕ, ◌≤◌, ◌<◌, ◌^◌, List, ◌++◌, codes, decimal}
-use Rattle.aom_transcript.specs.declared.event.Command.TheVariants.{Die}
+use Rattle.aom_transcript.specs.declared.event.ClientCommand.TheVariants.{Die}
 use Rattle.aom_transcript.specs.declared.event.Event.{Event}
 use Rattle.aom_transcript.specs.declared.event.Event.TheVariants as events
 use Rattle.aom_script.specs.Script.{Script}

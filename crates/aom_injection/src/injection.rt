@@ -5,7 +5,7 @@ ghost use Rattle.aom_injection.specs.Injections.{CanInject, injected, end_of, in
 
 use aom_buffers::Text;
 use aom_script::Script;
-use aom_transcript::{Command, Event, TimedEvent};
+use aom_transcript::{ClientCommand, Event, TimedEvent};
 use std::alloc::{AllocError, Global};
 
 /// No injection's words are longer.
@@ -41,7 +41,7 @@ impl Victim {
     {
         match self {
             Victim::Native(native) => Event::Kill(native),
-            Victim::Client(client) => Event::Client(client, Command::Die),
+            Victim::Client(client) => Event::Client(client, ClientCommand::Die),
         }
     }
 }

@@ -2,7 +2,7 @@
 ghost use Rattle.std.specs.Prelude.{◌≡◌, IfOk, Some};
 ghost use Rattle.aom_injection.specs.Planned.{AreTimes, is_last, marked, time_of_line, time_of_word, times_in};
 
-use aom_text::{Number, Words, split_line};
+use aom_text::{Number, WordCursor, split_line};
 use std::alloc::{AllocError, Global};
 
 /// The latest time that a script may have.
@@ -49,7 +49,7 @@ fn is_last(times: &[u64], time: u64) -> bool
 fn time_of(line: &[u8]) -> Option<u64>
     ensures { result ≡ time_of_line line.now }
 {
-    time_of_word(Words::of(line).next()?)
+    time_of_word(WordCursor::of(line).next()?)
 }
 
 /// The time behind a dispatch's mark.

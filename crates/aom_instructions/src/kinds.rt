@@ -26,7 +26,7 @@ pub enum LargeKind {
 
 /// Where the large operand stands in a text: behind the small ones, or behind the first of them.
 #[derive(Clone, Copy)]
-pub enum Order {
+pub enum OperandOrder {
     LargeLast,
     LargeSecond,
 }
@@ -38,5 +38,5 @@ pub struct Kinds {
     pub b: SmallKind,
     pub c: SmallKind,
     pub d: LargeKind,
-    pub order: Order,
+    pub order: OperandOrder,
 }

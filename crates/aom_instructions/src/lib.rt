@@ -16,7 +16,7 @@ mod parts;
 mod version;
 
 pub use instr::{Instr, Target};
-pub use kinds::{Kinds, LargeKind, Order, SmallKind};
+pub use kinds::{Kinds, LargeKind, OperandOrder, SmallKind};
 pub use laws::instructions_and_rows;
 pub use limits::{Limits, fits};
 pub use mnemonic::{Mnemonic, Row};

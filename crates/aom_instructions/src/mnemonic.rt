@@ -9,7 +9,7 @@ ghost use Rattle.aom_instructions.specs.Mnemonics.{is_in, mnemonic_of, mnemonic_
 
 use crate::LargeKind::{Class, Method, Nothing, Number, Place, Rounds};
 use crate::SmallKind::{CallTarget, Depth, Field, Register, TrapResult, Unused, Word};
-use crate::{Kinds, LargeKind, Order, SmallKind, Version};
+use crate::{Kinds, LargeKind, OperandOrder, SmallKind, Version};
 use std::marker::Model;
 
 /// What an instruction is called, one for each instruction.
@@ -147,7 +147,7 @@ impl Row {
     ) -> Row
         ensures { result ≡ line opcode text.now (kinds a b c d) }
     {
-        let order = Order::LargeLast;
+        let order = OperandOrder::LargeLast;
         Row {
             opcode,
             text,
@@ -202,7 +202,7 @@ impl Row {
     fn of_call(opcode: u8, text: &'static [u8], c: SmallKind) -> Row
         ensures { result ≡ line opcode text.now (call_kinds c) }
     {
-        let order = Order::LargeSecond;
+        let order = OperandOrder::LargeSecond;
         Row {
             opcode,
             text,

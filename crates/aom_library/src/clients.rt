@@ -1,3 +1,5 @@
 //! Clients of servers: their sessions, queues and messages on their way.
 
-pub use aom_clients::{Client, Clients, Completion, Entry, NO_CELL, Place, Refusal, Server, Taken};
+pub use aom_clients::{
+    Client, Clients, CommandRefusal, Completion, MessagePlace, NO_CELL, QueueEntry, Server, Taken,
+};

@@ -1,3 +1,3 @@
 //! The order in which objects are picked, and timers.
 
-pub use aom_scheduler::{Entry, Schedule, Timers};
+pub use aom_scheduler::{Schedule, ScheduleEntry, Timers};

@@ -2,6 +2,6 @@
 
 pub use aom_rules::{Ruling, rule};
 pub use aom_shape::{
-    Age, Change, Delivery, Entry, Filling, Flow, Kept, Kind, Known, Last, Next, Pile, Piles, Shape,
-    Way, Why, meet, weaker,
+    Age, Change, CleanupEntry, Delivery, Filling, Flow, Kept, Kind, Known, Last, Next, Pile, Piles,
+    Shape, Way, Why, meet, weaker,
 };

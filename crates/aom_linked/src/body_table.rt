@@ -6,14 +6,14 @@ ghost use Rattle.aom_classes.specs.Overriding.{body_of};
 ghost use Rattle.aom_linked.specs.Bodies.{AreBodies, AreOverridden, IsRowOf};
 
 use crate::numbers::method_number;
-use crate::row::Row;
+use crate::row::BodyRow;
 use aom_image::{ClassNumber, Image, Method, MethodNumber};
 use std::alloc::{AllocError, Global};
 
 /// For each method that others override, what a call of it runs on an object of each class.
 #[derive(Drop)]
 pub struct BodyTable {
-    pub rows: Vec<Option<Row>>,
+    pub rows: Vec<Option<BodyRow>>,
 }
 
 /// Which methods others override.
@@ -60,12 +60,12 @@ fn row_of(
     image: &Image,
     method: MethodNumber,
     is_overridden: bool,
-) -> Result<Option<Row>, AllocError>
+) -> Result<Option<BodyRow>, AllocError>
     requires { is_overridden ≡ false → IsRowOf image.now method None }
     ensures { IfOk result (λ row. IsRowOf image.now method row) }
 {
     if is_overridden {
-        Ok(Some(Row::of_method(alloc, image, method)?))
+        Ok(Some(BodyRow::of_method(alloc, image, method)?))
     } else {
         Ok(None)
     }

@@ -13,11 +13,11 @@ use std::marker::Model;
 
 /// For each class the method that a call of one method runs on its objects.
 #[derive(Drop)]
-pub struct Row {
+pub struct BodyRow {
     bodies: Vec<MethodNumber>,
 }
 
-impl Model for Row {
+impl Model for BodyRow {
     ghost use Rattle.std.specs.Prelude.{ℕ, List};
 
     ghost Value = { List ℕ };
@@ -117,9 +117,13 @@ fn body_for(
     }
 }
 
-impl Row {
+impl BodyRow {
     /// What a call of that method runs.
-    pub fn of_method(alloc: Global, image: &Image, named: MethodNumber) -> Result<Row, AllocError>
+    pub fn of_method(
+        alloc: Global,
+        image: &Image,
+        named: MethodNumber,
+    ) -> Result<BodyRow, AllocError>
         ensures { IfOk result (λ row. IsRow image.now named row) }
     {
         let own = own_bodies(alloc, image, named)?;
@@ -127,7 +131,7 @@ impl Row {
         for (class, own) in own.iter().enumerate() {
             bodies.push(body_for(image, &bodies, named, class_number(class), *own))?;
         }
-        Ok(Row { bodies })
+        Ok(BodyRow { bodies })
     }
 
     /// What a call runs on an object of that class.

@@ -33,8 +33,8 @@ use Rattle.aom_syntax.specs.declared.keyword.Keyword.{Keyword}
 use Rattle.aom_syntax.specs.declared.keyword.Keyword.TheVariants as k
 use Rattle.aom_instructions.specs.Parts.{mnemonic, operands}
 use Rattle.aom_instructions.specs.Rows.{row}
-use Rattle.aom_instructions.specs.declared.kinds.Order.{Order}
-use Rattle.aom_instructions.specs.declared.kinds.Order.TheVariants.{LargeLast, LargeSecond}
+use Rattle.aom_instructions.specs.declared.kinds.OperandOrder.{OperandOrder}
+use Rattle.aom_instructions.specs.declared.kinds.OperandOrder.TheVariants.{LargeLast, LargeSecond}
 use Rattle.aom_instructions.specs.declared.operand.Large.{Large}
 use Rattle.aom_instructions.specs.declared.operand.Large.TheVariants as large
 use Rattle.aom_instructions.specs.declared.operand.Operands.{Operands}
@@ -88,7 +88,7 @@ large_are_words (large.Place n) = (name_is_word 76 n refl, tt)
 large_are_words (large.Class n) = (name_is_word 99 n refl, tt)
 large_are_words (large.Method n) = (name_is_word 109 n refl, tt)
 
-operands_are_words : (order : Order) (o : Operands) → AreWords (in_text order o)
+operands_are_words : (order : OperandOrder) (o : Operands) → AreWords (in_text order o)
 operands_are_words LargeLast o =
     words_append (small_words o.a) _ (small_are_words o.a)
     (words_append (small_words o.b) _ (small_are_words o.b) (words_append (small_words o.c) _ (small_are_words o.c) (large_are_words o.d)))

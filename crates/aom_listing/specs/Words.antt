@@ -5,8 +5,8 @@ use Rattle.aom_instructions.specs.Mnemonics.{mnemonic_text}
 use Rattle.aom_instructions.specs.Parts.{mnemonic, operands}
 use Rattle.aom_instructions.specs.Rows.{row}
 use Rattle.aom_instructions.specs.declared.instr.Instr.{Instr}
-use Rattle.aom_instructions.specs.declared.kinds.Order.{Order}
-use Rattle.aom_instructions.specs.declared.kinds.Order.TheVariants.{LargeLast, LargeSecond}
+use Rattle.aom_instructions.specs.declared.kinds.OperandOrder.{OperandOrder}
+use Rattle.aom_instructions.specs.declared.kinds.OperandOrder.TheVariants.{LargeLast, LargeSecond}
 use Rattle.aom_instructions.specs.declared.operand.Large.{Large}
 use Rattle.aom_instructions.specs.declared.operand.Large.TheVariants as large
 use Rattle.aom_instructions.specs.declared.operand.Operands.{Operands}
@@ -33,7 +33,7 @@ large_words (large.Class n) = class_name n ∷ []
 large_words (large.Method n) = method_name n ∷ []
 
 -- operands in the order of a text
-abbrev pub in_text : Order → Operands → List (List ℕ)
+abbrev pub in_text : OperandOrder → Operands → List (List ℕ)
 in_text LargeLast o = small_words o.a ++ (small_words o.b ++ (small_words o.c ++ large_words o.d))
 in_text LargeSecond o = small_words o.a ++ (large_words o.d ++ (small_words o.b ++ small_words o.c))
 

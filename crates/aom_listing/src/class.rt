@@ -4,12 +4,12 @@ ghost use Rattle.aom_image.specs.WellFormed.{is_dispatched};
 ghost use Rattle.aom_listing.specs.Classes.{thing_word, provider_words, kind_words, budget_words, field_words, class_words};
 ghost use Rattle.aom_listing.specs.Text.{behind, line_of};
 
-use crate::writer::Writer;
+use crate::writer::ListingWriter;
 use aom_image::{ClassDecl, ClassKind, Provider, Thing};
 use aom_syntax::Keyword;
 use std::alloc::AllocError;
 
-impl Writer {
+impl ListingWriter {
     /// What may be owned, without a space before it.
     pub fn thing(&mut self, thing: Thing) -> Result<(), AllocError>
         ensures { OnOk result (self.new ≡ self.old ++ thing_word thing) }

@@ -6,12 +6,12 @@ ghost use Rattle.aom_listing.specs.Text.{line_of};
 ghost use Rattle.aom_listing.specs.Words.{words_statement};
 
 use crate::jumps::targets;
-use crate::writer::Writer;
+use crate::writer::ListingWriter;
 use aom_image::{ClassDecl, Image, Instr, Method};
 use aom_syntax::Keyword;
 use std::alloc::{AllocError, Global};
 
-impl Writer {
+impl ListingWriter {
     fn label(&mut self, place: u32) -> Result<(), AllocError>
         ensures { OnOk result (self.new ≡ self.old ++ (label_name place ++ 58 ∷ 32 ∷ [])) }
     {
@@ -88,7 +88,7 @@ impl Writer {
 pub fn disassemble(alloc: Global, image: &Image) -> Result<Vec<u8>, AllocError>
     ensures { IfOk result (λ v. v.items ≡ listing_text image.now) }
 {
-    let mut writer = Writer::new(alloc);
+    let mut writer = ListingWriter::new(alloc);
     writer.header(image.header())?;
     writer.classes(image.classes().as_slice())?;
     writer.methods(image.methods().as_slice())?;

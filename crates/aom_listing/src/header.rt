@@ -4,12 +4,12 @@ ghost use Rattle.aom_syntax.specs.Keywords.{keyword_text};
 ghost use Rattle.aom_listing.specs.Headers.{version_words, limit_words, header_words};
 ghost use Rattle.aom_listing.specs.Text.{behind, line_of};
 
-use crate::writer::Writer;
+use crate::writer::ListingWriter;
 use aom_image::{Header, Version};
 use aom_syntax::Keyword;
 use std::alloc::AllocError;
 
-impl Writer {
+impl ListingWriter {
     /// A keyword and a number behind it.
     pub fn counted(&mut self, keyword: Keyword, number: u32) -> Result<(), AllocError>
         ensures { OnOk result (self.new ≡ self.old ++ behind 32 (keyword_text keyword ∷ decimal number ∷ [])) }

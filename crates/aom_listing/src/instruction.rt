@@ -3,11 +3,11 @@ ghost use Rattle.std.specs.Prelude.{◌≡◌, ◌++◌, OnOk};
 ghost use Rattle.aom_listing.specs.Words.{large_words, small_words, words_statement};
 ghost use Rattle.aom_listing.specs.Text.{behind, parted_by};
 
-use crate::writer::Writer;
-use aom_image::{Instr, Large, Operands, Order, Small};
+use crate::writer::ListingWriter;
+use aom_image::{Instr, Large, OperandOrder, Operands, Small};
 use std::alloc::AllocError;
 
-impl Writer {
+impl ListingWriter {
     fn small(&mut self, operand: Small) -> Result<(), AllocError>
         ensures { OnOk result (self.new ≡ self.old ++ behind 32 (small_words operand)) }
     {
@@ -43,12 +43,12 @@ impl Writer {
         self.mnemonic(mnemonic)?;
         self.small(a)?;
         match mnemonic.row().kinds().order {
-            Order::LargeLast => {
+            OperandOrder::LargeLast => {
                 self.small(b)?;
                 self.small(c)?;
                 self.large(d)
             }
-            Order::LargeSecond => {
+            OperandOrder::LargeSecond => {
                 self.large(d)?;
                 self.small(b)?;
                 self.small(c)

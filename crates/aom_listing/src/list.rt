@@ -4,39 +4,39 @@ ghost use Rattle.aom_listing.specs.Classes.{thing_word};
 ghost use Rattle.aom_listing.specs.Methods.{argument_word};
 ghost use Rattle.aom_listing.specs.Text.{behind, list_word};
 
-use crate::writer::Writer;
+use crate::writer::ListingWriter;
 use aom_image::{Argument, Thing};
 use std::alloc::AllocError;
 
 /// What may stand in a list.
-pub trait Element: Copy {
+pub trait WrittenElement: Copy {
     /// How it is written.
     ghost word: { Self → List ℕ };
 
     /// Writes it, without a space before it.
-    fn write(self, writer: &mut Writer) -> Result<(), AllocError>
+    fn write(self, writer: &mut ListingWriter) -> Result<(), AllocError>
         ensures { OnOk result (writer.new ≡ writer.old ++ word self) };
 }
 
-impl Element for Thing {
+impl WrittenElement for Thing {
     ghost word = { thing_word };
 
-    fn write(self, writer: &mut Writer) -> Result<(), AllocError> {
+    fn write(self, writer: &mut ListingWriter) -> Result<(), AllocError> {
         writer.thing(self)
     }
 }
 
-impl Element for Argument {
+impl WrittenElement for Argument {
     ghost word = { argument_word };
 
-    fn write(self, writer: &mut Writer) -> Result<(), AllocError> {
+    fn write(self, writer: &mut ListingWriter) -> Result<(), AllocError> {
         writer.argument(self)
     }
 }
 
-impl Writer {
+impl ListingWriter {
     /// Further elements.
-    fn more<E: Element>(&mut self, elements: &[E]) -> Result<(), AllocError>
+    fn more<E: WrittenElement>(&mut self, elements: &[E]) -> Result<(), AllocError>
         ensures { OnOk result (self.new ≡ self.old ++ behind 44 (map E.word elements.now)) }
     {
         for element in elements {
@@ -46,7 +46,7 @@ impl Writer {
         Ok(())
     }
 
-    pub fn list<E: Element>(&mut self, elements: &[E]) -> Result<(), AllocError>
+    pub fn list<E: WrittenElement>(&mut self, elements: &[E]) -> Result<(), AllocError>
         ensures { OnOk result (self.new ≡ self.old ++ 32 ∷ list_word (map E.word elements.now)) }
     {
         match elements {

@@ -8,7 +8,7 @@ ghost use Rattle.aom_listing.specs.Methods.{role_keyword, word_where, flag_words
 ghost use Rattle.aom_listing.specs.Operands.{method_name};
 ghost use Rattle.aom_listing.specs.Text.{behind, line_of, parted_by};
 
-use crate::writer::Writer;
+use crate::writer::ListingWriter;
 use aom_image::{Argument, Gives, Method, MethodFlags, Role, States, Thing};
 use aom_syntax::Keyword;
 use bitflags::Flags;
@@ -31,7 +31,7 @@ fn role_keyword(role: Role) -> Keyword
     }
 }
 
-impl Writer {
+impl ListingWriter {
     /// A word, where a flag is set.
     fn flag(
         &mut self,

@@ -3,12 +3,12 @@ ghost use Rattle.std.specs.Prelude.{◌≡◌, ◌∷◌, ◌++◌, OnOk};
 ghost use Rattle.aom_listing.specs.Operands.{class_after, class_name, method_after, register_word, field_word, target_word};
 ghost use Rattle.aom_listing.specs.Text.{behind};
 
-use crate::writer::Writer;
+use crate::writer::ListingWriter;
 use aom_image::{ClassNumber, FieldIndex, MethodNumber, Register, Target};
 use aom_syntax::Keyword;
 use std::alloc::AllocError;
 
-impl Writer {
+impl ListingWriter {
     pub fn class_name(&mut self, class: ClassNumber) -> Result<(), AllocError>
         ensures { OnOk result (self.new ≡ self.old ++ 32 ∷ class_name class) }
     {

@@ -5,7 +5,7 @@ ghost use Rattle.aom_listing.specs.Single.{line_at};
 ghost use Rattle.aom_listing.specs.Text.{line_of};
 
 use crate::jumps::targets;
-use crate::writer::Writer;
+use crate::writer::ListingWriter;
 use aom_image::{Instr, Method};
 use std::alloc::{AllocError, Global};
 
@@ -13,7 +13,7 @@ use std::alloc::{AllocError, Global};
 pub fn heading_line(alloc: Global, place: u32, method: &Method) -> Result<Vec<u8>, AllocError>
     ensures { IfOk result (λ v. v.items ≡ line_of (heading_words place method.now)) }
 {
-    let mut writer = Writer::new(alloc);
+    let mut writer = ListingWriter::new(alloc);
     writer.heading(place, method)?;
     Ok(writer.into_text())
 }
@@ -24,7 +24,7 @@ pub fn line_at(alloc: Global, code: &[Instr], place: usize) -> Result<Vec<u8>, A
     requires { length code.now ≤ 1024 }
     ensures { IfOk result (λ v. v.items ≡ line_at code.now place) }
 {
-    let mut writer = Writer::new(alloc);
+    let mut writer = ListingWriter::new(alloc);
     if let Some(instr) = code.get(place) {
         writer.instruction(targets(code)[place], place as u32, *instr)?;
     }

@@ -11,11 +11,11 @@ use std::alloc::{AllocError, Global};
 use std::marker::Model;
 
 #[derive(Drop)]
-pub struct Writer {
+pub struct ListingWriter {
     text: Vec<u8>,
 }
 
-impl Model for Writer {
+impl Model for ListingWriter {
     ghost use Rattle.std.specs.Prelude.{ℕ, List};
 
     ghost Value = { List ℕ };
@@ -23,11 +23,11 @@ impl Model for Writer {
     ghost view = { λ w. w.text.items };
 }
 
-impl Writer {
-    pub fn new(alloc: Global) -> Writer
+impl ListingWriter {
+    pub fn new(alloc: Global) -> ListingWriter
         ensures { result ≡ [] }
     {
-        Writer {
+        ListingWriter {
             text: Vec::new(alloc),
         }
     }

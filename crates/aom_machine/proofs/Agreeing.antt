@@ -11,7 +11,7 @@ use Rattle.aom_shape.specs.Kinds.{field, filled}
 use Rattle.aom_shape.specs.Shape.{Shape}
 use Rattle.aom_roles.specs.Things.{Program, field_thing, holder_of}
 use Rattle.aom_rules.specs.Typing.{Typing, shape_at}
-use Rattle.aom_shape.specs.declared.kind.Entry.{Entry as Pushed}
+use Rattle.aom_shape.specs.declared.kind.CleanupEntry.{CleanupEntry}
 use Rattle.aom_shape.specs.declared.kind.Filling.{Filling}
 use Rattle.aom_shape.specs.declared.kind.Filling.TheVariants.{Empty, Perhaps}
 use Rattle.aom_shape.specs.declared.kind.Kind.{Kind}
@@ -126,7 +126,7 @@ module _ (p : Image) (d : Place → Kind) (k : ℕ) where
   abbrev ClaimedOwn : List Layer → Type 0
   ClaimedOwn ls = over (items_of ls) k ≡ Some Object_form → IsOwn (claim p d ls (Entry k))
 
-  pushed_own : (es : List Pushed) (ls : List Layer) → ClaimedOwn ls → over (objects es (items_of ls)) k ≡ Some Object_form → IsOwn (entry_claim es (items_of ls) k (claim p d ls (Entry k)))
+  pushed_own : (es : List CleanupEntry) (ls : List Layer) → ClaimedOwn ls → over (objects es (items_of ls)) k ≡ Some Object_form → IsOwn (entry_claim es (items_of ls) k (claim p d ls (Entry k)))
   pushed_own [] ls below e = below e
   pushed_own (x ∷ es) ls below e = grind (arith, nat_tests, pushed_own es ls below)
 

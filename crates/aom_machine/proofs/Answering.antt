@@ -8,9 +8,9 @@ use Rattle.std.proofs.lemmas.List.{length-append}
 use Rattle.aom_machine_instructions.specs.Serving.{answers}
 use Rattle.aom_classes.proofs.Facts.{all_there}
 use Rattle.aom_clients.specs.Clients as kept
-use Rattle.aom_clients.specs.declared.entry.Entry.{Entry}
-use Rattle.aom_clients.specs.declared.entry.Entry.TheVariants.{Close, Connect, Message}
-use Rattle.aom_clients.specs.declared.place.Place.{Place}
+use Rattle.aom_clients.specs.declared.entry.QueueEntry.{QueueEntry}
+use Rattle.aom_clients.specs.declared.entry.QueueEntry.TheVariants.{Close, Connect, Message}
+use Rattle.aom_clients.specs.declared.place.MessagePlace.{MessagePlace}
 use Rattle.aom_image.specs.Image.{Image}
 use Rattle.aom_image.specs.Views.{class_at}
 use Rattle.aom_image.specs.WellFormed.{ClassFits, KindFits, WellFormed}
@@ -94,7 +94,7 @@ few_lines cs (Connect_of c ∷ es) = let few = few_lines cs es in omega (arith, 
 few_lines cs (Message_of c m ∷ es) = grind (arith, nat_tests, few_lines cs es, told_one, length-append)
 few_lines cs (Close_of c ∷ es) = few_lines cs es
 
-few_answers : (places : List Place) (es : List Entry) → answers es ≡ answered (map (asked_by places) es)
+few_answers : (places : List MessagePlace) (es : List QueueEntry) → answers es ≡ answered (map (asked_by places) es)
 few_answers places [] = refl
 few_answers places (Close c ∷ es) = few_answers places es
 few_answers places (_ ∷ es) = let e = few_answers places es in omega (arith, e)

@@ -13,8 +13,8 @@ use Rattle.aom_classes.specs.Roles.{destructor_of, role_of}
 use Rattle.aom_clients.specs.Clients as kept
 use Rattle.aom_clients.specs.Table.{sender, session_of}
 use Rattle.aom_clients.specs.declared.client.Client.{Client}
-use Rattle.aom_clients.specs.declared.entry.Entry.{Entry}
-use Rattle.aom_clients.specs.declared.entry.Entry.TheVariants.{Close, Connect, Message}
+use Rattle.aom_clients.specs.declared.entry.QueueEntry.{QueueEntry}
+use Rattle.aom_clients.specs.declared.entry.QueueEntry.TheVariants.{Close, Connect, Message}
 use Rattle.aom_frames.specs.declared.dispatch.Subject.{Subject}
 use Rattle.aom_image.specs.Image.{Image}
 use Rattle.aom_image.specs.declared.method.Role.TheVariants.{Accept as Accepts_role, Service as Attends_role}
@@ -116,7 +116,7 @@ module _ (p : Image) (m : Machine_parts) (s : State) (st : StandsFor (record { i
   abbrev n : ℕ
   n = x.object.name
 
-  abbrev queue : List Entry
+  abbrev queue : List QueueEntry
   queue = kept.queue_at m.clients n
 
   abbrev cs : List Cell
@@ -137,7 +137,7 @@ module _ (p : Image) (m : Machine_parts) (s : State) (st : StandsFor (record { i
   abbrev subject : Subject
   subject = record { number = n; class = class }
 
-  queue_so : (es : List Entry) → queue ≡ es → (service_of s.cells n).queue ≡ map (asked_by m.clients.places) es
+  queue_so : (es : List QueueEntry) → queue ≡ es → (service_of s.cells n).queue ≡ map (asked_by m.clients.places) es
   queue_so es at = sym (st.agrees.services.clients.queues n) ∙ ap (map (asked_by m.clients.places)) at
 
   -- ---- what clients have is kept
@@ -152,7 +152,7 @@ module _ (p : Image) (m : Machine_parts) (s : State) (st : StandsFor (record { i
   moved_apart : (from to : Place) → TokensApart (moved from to cs)
   moved_apart from to = apart_still cs (moved from to cs) (comes_moved cs from to) taken_apart
 
-  module _ (e : Entry) (es : List Entry) (at : queue ≡ e ∷ es) where
+  module _ (e : QueueEntry) (es : List QueueEntry) (at : queue ≡ e ∷ es) where
     fit_now : ClientsFit p s.clients cs
     fit_now = fit_taken p s.clients s.cells x.object lives asked (asked_by m.clients.places e) (map (asked_by m.clients.places) es) (queue_so (e ∷ es) at) st.kept.fit
 
@@ -190,7 +190,7 @@ module _ (p : Image) (m : Machine_parts) (s : State) (st : StandsFor (record { i
 
   -- ---- a connect
 
-  module _ (c : ℕ) (es : List Entry) (at_first : queue ≡ Connect c ∷ es) (method : ℕ) (accepts : role_of p class Accepts_role ≡ Some method) where
+  module _ (c : ℕ) (es : List QueueEntry) (at_first : queue ≡ Connect c ∷ es) (method : ℕ) (accepts : role_of p class Accepts_role ≡ Some method) where
     abbrev accepted : State
     accepted = serving x c Accepts (frame_of method (Inside x.object x.place) (length (A_mark ∷ s.items))) (checked_taken n s)
 
@@ -215,7 +215,7 @@ module _ (p : Image) (m : Machine_parts) (s : State) (st : StandsFor (record { i
 
   -- ---- a message
 
-  module _ (j : ℕ) (es : List Entry) (at_first : queue ≡ Message j ∷ es) (o : Object) (class' : ℕ) (is' : class_at m.cells o.name ≡ Some class')
+  module _ (j : ℕ) (es : List QueueEntry) (at_first : queue ≡ Message j ∷ es) (o : Object) (class' : ℕ) (is' : class_at m.cells o.name ≡ Some class')
       (there : held s.cells (Elsewhere (Session n (sender (kept.place_at m.clients j)))) ≡ Some o)
       (method : ℕ) (attends : role_of p class' Attends_role ≡ Some method) (read : AreRead m.messages j 5) where
     abbrev c : ℕ
@@ -248,7 +248,7 @@ module _ (p : Image) (m : Machine_parts) (s : State) (st : StandsFor (record { i
 
   -- ---- a close
 
-  module _ (c : ℕ) (es : List Entry) (at_first : queue ≡ Close c ∷ es) (o : Object) (there : held s.cells (Elsewhere (Session n c)) ≡ Some o) where
+  module _ (c : ℕ) (es : List QueueEntry) (at_first : queue ≡ Close c ∷ es) (o : Object) (there : held s.cells (Elsewhere (Session n c)) ≡ Some o) where
     abbrev d : Dispatch
     d = Of_server x c Parts
 
@@ -298,7 +298,7 @@ module _ (p : Image) (m : Machine_parts) (s : State) (st : StandsFor (record { i
   abbrev pub Went : Machine_parts → Type 0
   Went new = (u : State) × (picked p x s ≡ Goes u) × StandsFor (record { image = p; parts = new }) u
 
-  went : (e : Entry) (es : List Entry) → queue ≡ e ∷ es → (new : Machine_parts) → Begins p subject (kept.taken_entry m.clients e).client (kept.taken_entry m.clients e).entry taken new → Went new
+  went : (e : QueueEntry) (es : List QueueEntry) → queue ≡ e ∷ es → (new : Machine_parts) → Begins p subject (kept.taken_entry m.clients e).client (kept.taken_entry m.clients e).entry taken new → Went new
   went (Connect c) es at new b = (accepted c es at b.0 b.1, accepted_goes c es at b.0 b.1, grind (arith, nat_tests, accept_stands c es at b.0 b.1))
   went (Message j) es at new b =
       let y = attend_there p m s st idle x lives serves keeps j es at in
@@ -317,12 +317,12 @@ module _ (p : Image) (m : Machine_parts) (s : State) (st : StandsFor (record { i
       (u, parted_goes c es at y.0 y.1, grind (arith, nat_tests, part_stands c es at y.0 y.1))
 
   -- its line
-  entry_line : (time : ℕ) (e : Entry) → Serve time class (serve_asked (kept.taken_entry m.clients e).entry) (kept.taken_entry m.clients e).client ≡ serve_of time class (asked_by m.clients.places e)
+  entry_line : (time : ℕ) (e : QueueEntry) → Serve time class (serve_asked (kept.taken_entry m.clients e).entry) (kept.taken_entry m.clients e).client ≡ serve_of time class (asked_by m.clients.places e)
   entry_line time (Connect c) = refl
   entry_line time (Message j) = refl
   entry_line time (Close c) = refl
 
-  line_so : (e : Entry) (es : List Entry) → queue ≡ e ∷ es →
+  line_so : (e : QueueEntry) (es : List QueueEntry) → queue ≡ e ∷ es →
       Serve m.rest.clock class (serve_asked (kept.taken_entry m.clients e).entry) (kept.taken_entry m.clients e).client ∷ [] ≡ pick_line p s x.object
   line_so e es at = grind (arith, nat_tests, entry_line s.rest.clock e, queue_so (e ∷ es) at, thing)
 
@@ -342,7 +342,7 @@ server_served p m s st between x lives serves keeps asked told now new f = go (k
     same_class : f.class ≡ class
     same_class = same_Some f.class class (sym f.is ∙ (server_class p m s st between.idle x lives serves keeps).1.is)
 
-    go : (es : List Entry) → kept.queue_at m.clients n ≡ es → Takes (record { image = p; parts = m }) s (Picks x) told now (record { image = p; parts = new })
+    go : (es : List QueueEntry) → kept.queue_at m.clients n ≡ es → Takes (record { image = p; parts = m }) s (Picks x) told now (record { image = p; parts = new })
     go [] at = absurd (none-some f.first (sym (ap (kept.first_entry m.clients) at) ∙ f.waits))
     go (e ∷ es) at =
         let first : kept.taken_entry m.clients e ≡ f.first = same_Some (kept.taken_entry m.clients e) f.first (sym (ap (kept.first_entry m.clients) at) ∙ f.waits) in

@@ -8,7 +8,7 @@ use Rattle.aom_clients.specs.Nodes.{is_connecting_at, is_open_at, named_by}
 use Rattle.aom_clients.specs.Table.{row}
 use Rattle.aom_clients.specs.declared.client.Client.{Client}
 use Rattle.aom_clients.specs.declared.client.Client.TheVariants.{Unconnected}
-use Rattle.aom_clients.specs.declared.refusal.Refusal.{Refusal}
+use Rattle.aom_clients.specs.declared.refusal.CommandRefusal.{CommandRefusal}
 use Rattle.aom_clients.specs.declared.server.Server.{Server}
 use Rattle.aom_image.specs.Image.{Image}
 use Rattle.aom_safety.proofs.Services.{held_served, named_served, service_there, service_unnamed}
@@ -18,8 +18,8 @@ use Rattle.aom_semantics.specs.Clients.{Listed, asked_server, client_at, command
 use Rattle.aom_semantics.specs.Places.{Asked, Cell, Close_of, Connect_of, Elsewhere, Message_of, Place, Queued, Service, Tidy, held, named, same_place, service_of}
 use Rattle.aom_semantics.specs.Servers.{asked_last, is_from, is_queue, left_by, reserved, stays, withdrawn}
 use Rattle.aom_semantics.specs.State.{State}
-use Rattle.aom_transcript.specs.declared.event.Command.{Command}
-use Rattle.aom_transcript.specs.declared.event.Command.TheVariants.{Close, Connect, Die, Send}
+use Rattle.aom_transcript.specs.declared.event.ClientCommand.{ClientCommand}
+use Rattle.aom_transcript.specs.declared.event.ClientCommand.TheVariants.{Close, Connect, Die, Send}
 use Rattle.aom_machine.proofs.ByCommand.{by_command, by_connecting, by_leaving, by_sending, by_told}
 use Rattle.aom_machine_state.proofs.Beside.{Beside, beside_itself, beside_message, beside_served, beside_then}
 use Rattle.aom_machine_state.proofs.Elsewhere.{SessionsSame}
@@ -46,7 +46,7 @@ module _ (s : kept.State) (c : ℕ) (small : c < length s.clients) where
   sessions_with to same n d = grind (arith, nat_tests, client_then to d, eqb-true c d)
 
 -- a connect
-connected_none : (x : Client) (refused : Option Refusal) (server : Option Server) (s : kept.State) →
+connected_none : (x : Client) (refused : Option CommandRefusal) (server : Option Server) (s : kept.State) →
     kept.asked (row x).connect server s ≡ None → (n : ℕ) → session_with n x ≡ session_with n Unconnected
 connected_none x refused server s e n = grind arith
 
@@ -82,12 +82,12 @@ module _ (s : kept.State) (c : ℕ) (small : c < length s.clients) where
 
 module _ (p : Image) (c : ℕ) (s : State) where
   -- cells and what clients are at, and nothing else
-  pub commanded_form : (command : Command) (name : ℕ) → commanded p c s command name ≡ record s { cells = (commanded p c s command name).cells; clients = (commanded p c s command name).clients }
+  pub commanded_form : (command : ClientCommand) (name : ℕ) → commanded p c s command name ≡ record s { cells = (commanded p c s command name).cells; clients = (commanded p c s command name).clients }
   commanded_form command name = by_command p c s (λ t. t ≡ record s { cells = t.cells; clients = t.clients }) name
       (record { same = refl; connects = λ x slots. refl; sends = λ words server. refl; leaves = λ to. refl; closes = λ to server. refl }) command
 
   -- the queue of that server is none that the command changes
-  abbrev pub Untouched : Command → ℕ → Type 0
+  abbrev pub Untouched : ClientCommand → ℕ → Type 0
   Untouched (Connect class slots) n = (x : Listed) → asked_server p class s.cells ≡ Some x → x.name ≡ n → ⊥
   Untouched _ n = named_by (client_at s.clients c) ≡ Some n → ⊥
 
@@ -95,7 +95,7 @@ module _ (p : Image) (c : ℕ) (s : State) where
 
   -- messages alone come and go
   module _ (withdraws : Beside s.cells (withdrawn c s.cells)) where
-    pub commanded_beside : (command : Command) (name : ℕ) → named s.cells name ≡ None → 4096 ≤ name → Beside s.cells (commanded p c s command name).cells
+    pub commanded_beside : (command : ClientCommand) (name : ℕ) → named s.cells name ≡ None → 4096 ≤ name → Beside s.cells (commanded p c s command name).cells
     commanded_beside command name free high = by_command p c s (λ t. Beside s.cells t.cells) name (record {
       same = beside_itself s.cells;
       connects = λ x slots. beside_served s.cells x.name _;
@@ -109,7 +109,7 @@ module _ (p : Image) (c : ℕ) (s : State) where
 
   -- and none of these is a token
   module _ (withdraws : Told_alike s.cells (withdrawn c s.cells)) where
-    pub commanded_told : (command : Command) (name : ℕ) → named s.cells name ≡ None → Told_alike s.cells (commanded p c s command name).cells
+    pub commanded_told : (command : ClientCommand) (name : ℕ) → named s.cells name ≡ None → Told_alike s.cells (commanded p c s command name).cells
     commanded_told command name free = by_command p c s (λ t. Told_alike s.cells t.cells) name (record {
       same = λ n. refl;
       connects = λ x slots. told_served s.cells x.name _ refl;
@@ -122,7 +122,7 @@ module _ (p : Image) (c : ℕ) (s : State) where
 
   -- what is in no queue stays where it is
   module _ (stay : (r : Place) → is_queue r ≡ false → held (withdrawn c s.cells) r ≡ held s.cells r) (r : Place) (apart : is_queue r ≡ false) where
-    pub commanded_holds : (command : Command) (name : ℕ) → held (commanded p c s command name).cells r ≡ held s.cells r
+    pub commanded_holds : (command : ClientCommand) (name : ℕ) → held (commanded p c s command name).cells r ≡ held s.cells r
     commanded_holds command name = by_command p c s (λ t. held t.cells r ≡ held s.cells r) name (record {
       same = refl;
       connects = λ x slots. held_served s.cells x.name _ r;
@@ -183,7 +183,7 @@ module _ (p : Image) (c : ℕ) (s : State) (tidy : Tidy s.cells)
   leaving_queue to n away =
       grind (arith, nat_tests, by_leaving p c s, by_told p c s, service_there, other, queue_withdrawn c s tidy bare n, all_stay s.clients c n away)
 
-  pub commanded_queue : (command : Command) (name : ℕ) → named s.cells name ≡ None → (n : ℕ) → Untouched p c s command n → SameQueue (commanded p c s command name).cells n
+  pub commanded_queue : (command : ClientCommand) (name : ℕ) → named s.cells name ≡ None → (n : ℕ) → Untouched p c s command n → SameQueue (commanded p c s command name).cells n
   commanded_queue (Connect class slots) name free n away = by_connecting p c s (λ t. SameQueue t.cells n) refl (refusal p c s (Connect class slots)) (asked_server p class s.cells) slots (λ x e.
       ap (λ (v : Service). v.queue) (service_there s.cells x.name n _ (other x.name n (away x e))))
   commanded_queue (Send words) name free n away =

@@ -10,8 +10,8 @@ use Rattle.aom_clients.specs.Nodes.{named_by}
 use Rattle.aom_clients.specs.Table.{code_of}
 use Rattle.aom_clients.specs.declared.client.Client.{Client}
 use Rattle.aom_clients.specs.declared.client.Client.TheVariants.{Unconnected}
-use Rattle.aom_clients.specs.declared.place.Place.TheVariants.{Free}
-use Rattle.aom_clients.specs.declared.refusal.Refusal.{Refusal}
+use Rattle.aom_clients.specs.declared.place.MessagePlace.TheVariants.{Free}
+use Rattle.aom_clients.specs.declared.refusal.CommandRefusal.{CommandRefusal}
 use Rattle.aom_image.specs.Image.{Image}
 use Rattle.aom_cells.specs.Store.{Store, message_at}
 use Rattle.aom_roles.specs.Shapes.{kind_of}
@@ -22,8 +22,8 @@ use Rattle.aom_semantics.specs.Servers.{is_among, withdrawn}
 use Rattle.aom_semantics.specs.State.{State}
 use Rattle.aom_semantics.specs.World.{IsBetween}
 use Rattle.aom_safety.proofs.Services.{service_unnamed}
-use Rattle.aom_transcript.specs.declared.event.Command.{Command}
-use Rattle.aom_transcript.specs.declared.event.Command.TheVariants.{Close, Connect, Die, Send}
+use Rattle.aom_transcript.specs.declared.event.ClientCommand.{ClientCommand}
+use Rattle.aom_transcript.specs.declared.event.ClientCommand.TheVariants.{Close, Connect, Die, Send}
 use Rattle.aom_transcript.specs.declared.line.Line.{Line}
 use Rattle.aom_transcript.specs.declared.line.Line.TheVariants.{Refuse}
 use Rattle.aom_machine_state.specs.LineBuffer.{LineBuffer}
@@ -44,11 +44,11 @@ use Rattle.aom_machine.specs.Servers.{NotesIf}
 use Rattle.aom_machine.specs.Clients.{Acts, AreKept, CanAct, Forgets, IsInRange, Obeyed, asked_by, first_server, queue_changed}
 
 -- the line of an answer
-abbrev pub told_refusal : ℕ → Result (Unit {0}) Refusal → List Line
+abbrev pub told_refusal : ℕ → Result (Unit {0}) CommandRefusal → List Line
 told_refusal c (Ok u) = []
 told_refusal c (Err r) = Refuse c (code_of r) ∷ []
 
-same_refusal : (c : ℕ) (r : Option Refusal) → told_refusal c (kept.answer r) ≡ refusal_line c r
+same_refusal : (c : ℕ) (r : Option CommandRefusal) → told_refusal c (kept.answer r) ≡ refusal_line c r
 same_refusal c x = grind arith
 
 -- where a client is does not hang on the cell of its session
@@ -100,13 +100,13 @@ module _ (p : Image) (m : Parts) (s : State) (st : StandsFor (record { image = p
       all_kept m.messages (kept.freed (Some to) c m.clients) (freed_once p st.typing st.sound.wired w (typed_now p m s st idle c) st.kept.fit m.clients same c)
       (λ k e. freed_kept p st.typing st.sound.wired w (typed_now p m s st idle c) st.kept.fit m.clients same c m.messages st.agrees.services.messages k e)
 
-  pub can_act : (command : Command) → IsInRange command → CanAct c command m.clients m.messages
+  pub can_act : (command : ClientCommand) → IsInRange command → CanAct c command m.clients m.messages
   can_act x ranged = grind (arith, nat_tests, no_message, freed_all)
 
   -- ---- what it comes to
 
   module _ (between : IsBetween s) (k : kept.State) (store : Store) (a : Active)
-      (told now : LineBuffer) (result : Result (Unit {0}) Refusal) (lines : now ≡ record told { lines = told.lines ++ told_refusal c result }) where
+      (told now : LineBuffer) (result : Result (Unit {0}) CommandRefusal) (lines : now ≡ record told { lines = told.lines ++ told_refusal c result }) where
     abbrev old : Machine
     old = record { image = p; parts = m }
 
@@ -115,7 +115,7 @@ module _ (p : Image) (m : Parts) (s : State) (st : StandsFor (record { image = p
 
     -- by what is made of clients and messages
     by_parts :
-        (command : Command) (place : Option ℕ) → IfSome place (λ n. (n < 1024) × (message_at m.messages n ≡ None)) → result ≡ kept.answer (refusal p c s command) → (then : kept.State) → k ≡ then →
+        (command : ClientCommand) (place : Option ℕ) → IfSome place (λ n. (n < 1024) × (message_at m.messages n ≡ None)) → result ≡ kept.answer (refusal p c s command) → (then : kept.State) → k ≡ then →
         SameClients then (commanded p c w command (sent_name place)).cells (commanded p c w command (sent_name place)).clients → AreSized p.header.cells then → SessionsSame m.clients then →
         SameMessages p store (commanded p c w command (sent_name place)).cells → (server : Option ℕ) →
         ((n : ℕ) → (server ≡ Some n → ⊥) → Untouched p c w command n) → NotesIf server k m.active a → Obeyed old s c command told now new
@@ -146,7 +146,7 @@ module _ (p : Image) (m : Parts) (s : State) (st : StandsFor (record { image = p
     withdraws : Forgets (kept.freed (Some Unconnected) c m.clients) m.messages store → SameMessages p store (withdrawn c w.cells)
     withdraws f = messages_withdrawn p st.typing st.sound.wired w (typed_now p m s st idle c) st.kept.fit m.clients same c m.messages store f.gone f.others f.limit f.count st.agrees.services.messages
 
-    pub obeys : (command : Command) → Acts c command (asked_by p m.listed command) m.clients k m.messages store result →
+    pub obeys : (command : ClientCommand) → Acts c command (asked_by p m.listed command) m.clients k m.messages store result →
         NotesIf (queue_changed (asked_by p m.listed command) (kept.client_at m.clients c)) k m.active a → Obeyed old s c command told now new
     obeys (Connect class slots) acts hears = by_parts (Connect class slots) None tt (acts.0 ∙ ap (λ x. kept.answer (kept.connect_refusal c x m.clients))
         (first_found class) ∙ ap kept.answer (connect_refused p c s m.clients same class slots)) (kept.after_connect c (found_server (most_of (kind_of p

@@ -13,8 +13,8 @@ use Rattle.aom_classes.specs.Roles.{role_of}
 use Rattle.aom_clients.specs.Clients as kept
 use Rattle.aom_clients.specs.Table.{sender, server_of, session_of}
 use Rattle.aom_clients.specs.declared.client.Client.{Client}
-use Rattle.aom_clients.specs.declared.entry.Entry.{Entry}
-use Rattle.aom_clients.specs.declared.entry.Entry.TheVariants.{Close, Connect, Message}
+use Rattle.aom_clients.specs.declared.entry.QueueEntry.{QueueEntry}
+use Rattle.aom_clients.specs.declared.entry.QueueEntry.TheVariants.{Close, Connect, Message}
 use Rattle.aom_frames.specs.Tasks.{fresh}
 use Rattle.aom_frames.specs.declared.dispatch.Dispatch.TheVariants.{Server}
 use Rattle.aom_frames.specs.declared.dispatch.Subject.{Subject}
@@ -154,7 +154,7 @@ module _ (p : Image) (m : Machine_parts) (s : State) (st : StandsFor (record { i
   }
 
   -- a connect or a close
-  module _ (e : Entry) (es : List Entry) (at : kept.queue_at m.clients n ≡ e ∷ es) (other : (j : ℕ) → e ≡ Message j → ⊥) where
+  module _ (e : QueueEntry) (es : List QueueEntry) (at : kept.queue_at m.clients n ≡ e ∷ es) (other : (j : ℕ) → e ≡ Message j → ⊥) where
     clients_taken : SameClients k' cs s.clients
     clients_taken = same_next p st.typing st.sound.wired s st.typed st.kept.fit m.clients same p.header.cells st.agrees.services.sized x.object lives below e es at other
 
@@ -170,7 +170,7 @@ module _ (p : Image) (m : Machine_parts) (s : State) (st : StandsFor (record { i
       entry_room = st.agrees.entry_room;
     }
 
-    no_number : (e : Entry) → ((j : ℕ) → e ≡ Message j → ⊥) → (j : ℕ) → is_numbered j e ≡ false
+    no_number : (e : QueueEntry) → ((j : ℕ) → e ≡ Message j → ⊥) → (j : ℕ) → is_numbered j e ≡ false
     no_number y z w = grind arith
 
     pub shows_taken : ShowsIdle taken cs
@@ -181,7 +181,7 @@ module _ (p : Image) (m : Machine_parts) (s : State) (st : StandsFor (record { i
   unowned_taken : (d i : ℕ) → held cs (Register d i) ≡ None
   unowned_taken d i = held_served s.cells n (taken_first (service_of s.cells n)) (Register d i) ∙ unowned d i
 
-  first_asked_so : (e : Entry) (es : List Entry) → kept.queue_at m.clients n ≡ e ∷ es → (service_of s.cells n).queue ≡ asked_by m.clients.places e ∷ map (asked_by m.clients.places) es
+  first_asked_so : (e : QueueEntry) (es : List QueueEntry) → kept.queue_at m.clients n ≡ e ∷ es → (service_of s.cells n).queue ≡ asked_by m.clients.places e ∷ map (asked_by m.clients.places) es
   first_asked_so e es at = sym (same.queues n) ∙ ap (map (asked_by m.clients.places)) at
 
   picked_so : picked p x s ≡ serves_first p x (service_of s.cells n).queue s
@@ -189,7 +189,7 @@ module _ (p : Image) (m : Machine_parts) (s : State) (st : StandsFor (record { i
 
   -- ---- a connect
 
-  module _ (c : ℕ) (es : List Entry) (at : kept.queue_at m.clients n ≡ Connect c ∷ es) (method : ℕ) (accepts : role_of p class Accepts_role ≡ Some method) where
+  module _ (c : ℕ) (es : List QueueEntry) (at : kept.queue_at m.clients n ≡ Connect c ∷ es) (method : ℕ) (accepts : role_of p class Accepts_role ≡ Some method) where
     abbrev accept_frame : Frame
     accept_frame = frame_of method (Inside x.object x.place) (length (A_mark ∷ s.items))
 
@@ -206,7 +206,7 @@ module _ (p : Image) (m : Machine_parts) (s : State) (st : StandsFor (record { i
 
   -- ---- a message
 
-  module _ (j : ℕ) (es : List Entry) (at : kept.queue_at m.clients n ≡ Message j ∷ es) (place : j < 1024) (o : Object) (class' : ℕ) (is' : class_at m.cells o.name ≡ Some class')
+  module _ (j : ℕ) (es : List QueueEntry) (at : kept.queue_at m.clients n ≡ Message j ∷ es) (place : j < 1024) (o : Object) (class' : ℕ) (is' : class_at m.cells o.name ≡ Some class')
       (there : held s.cells (Elsewhere (Session n (sender (kept.place_at m.clients j)))) ≡ Some o) (method : ℕ) (attends : role_of p class' Attends_role ≡ Some method)
       (reads : (w : ℕ) → w < 5 → cast_signed w32 (cast_unsigned w32 (message_word m.messages j w)) ≡ message_word m.messages j w) where
     abbrev c : ℕ
@@ -256,7 +256,7 @@ module _ (p : Image) (m : Machine_parts) (s : State) (st : StandsFor (record { i
     once : list_any (is_numbered (message_name j)) es ≡ false
     once = numbered es ∙ sym (among_places es j) ∙ (subst (λ l. Once (places_in l)) at (waiting_once p st.typing st.sound.wired s st.typed st.kept.fit m.clients same n)).0
       where
-        numbered : (es : List Entry) → list_any (is_numbered (message_name j)) es ≡ list_any (is_at j) es
+        numbered : (es : List QueueEntry) → list_any (is_numbered (message_name j)) es ≡ list_any (is_at j) es
         numbered [] = refl
         numbered (Message i ∷ es) = ap (λ b. b || list_any (is_numbered (message_name j)) es) (names_same i j) ∙ ap (λ b. (i == j) || b) (numbered es)
         numbered (_ ∷ es) = numbered es
@@ -319,7 +319,7 @@ module _ (p : Image) (m : Machine_parts) (s : State) (st : StandsFor (record { i
 
   -- ---- a close
 
-  module _ (c : ℕ) (es : List Entry) (at : kept.queue_at m.clients n ≡ Close c ∷ es) (o : Object) (there : held s.cells (Elsewhere (Session n c)) ≡ Some o) (client : c < 64) where
+  module _ (c : ℕ) (es : List QueueEntry) (at : kept.queue_at m.clients n ≡ Close c ∷ es) (o : Object) (there : held s.cells (Elsewhere (Session n c)) ≡ Some o) (client : c < 64) where
     abbrev gone_from : Place
     gone_from = Elsewhere (Session n c)
 

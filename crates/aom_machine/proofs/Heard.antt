@@ -5,7 +5,7 @@ use Rattle.std.specs.Prelude.{Err, IfSome, Ok, Result, length}
 use Rattle.aom_active.specs.Agrees.{Active, queued}
 use Rattle.aom_clients.specs.Clients as kept
 use Rattle.aom_clients.specs.Table.{code_of}
-use Rattle.aom_clients.specs.declared.refusal.Refusal.{Refusal}
+use Rattle.aom_clients.specs.declared.refusal.CommandRefusal.{CommandRefusal}
 use Rattle.aom_clients.specs.declared.server.Server.{Server}
 use Rattle.aom_image.specs.Image.{Image}
 use Rattle.aom_machine_state.specs.LineBuffer.{LineBuffer}
@@ -13,8 +13,8 @@ use Rattle.aom_cells.specs.Store.{Store}
 use Rattle.aom_scheduler.specs.Requests.{is_server, request_at}
 use Rattle.aom_semantics.specs.Places.{requested}
 use Rattle.aom_semantics.specs.State.{State}
-use Rattle.aom_transcript.specs.declared.event.Command.{Command}
-use Rattle.aom_transcript.specs.declared.event.Command.TheVariants.{Close, Connect, Die, Send}
+use Rattle.aom_transcript.specs.declared.event.ClientCommand.{ClientCommand}
+use Rattle.aom_transcript.specs.declared.event.ClientCommand.TheVariants.{Close, Connect, Die, Send}
 use Rattle.aom_transcript.specs.declared.line.Line.TheVariants.{Refuse}
 use Rattle.aom_machine_state.proofs.Sizing.{sized_close, sized_connect, sized_die, sized_send}
 use Rattle.aom_machine_state.specs.Progress.{progress_by}
@@ -30,10 +30,10 @@ use Rattle.aom_machine.proofs.Timers.{timers_same}
 
 -- ---- the line
 
-pub told_none : (c : ℕ) (told : LineBuffer) (result : Result (Unit {0}) Refusal) (u : Unit {0}) → result ≡ Ok u → told ≡ record told { lines = told.lines ++ told_refusal c result }
+pub told_none : (c : ℕ) (told : LineBuffer) (result : Result (Unit {0}) CommandRefusal) (u : Unit {0}) → result ≡ Ok u → told ≡ record told { lines = told.lines ++ told_refusal c result }
 told_none c told result u is = ap (λ ls. record told { lines = ls }) (sym (append-nil told.lines) ∙ ap (λ r. told.lines ++ told_refusal c r) (sym is))
 
-pub told_one : (c : ℕ) (told now : LineBuffer) (result : Result (Unit {0}) Refusal) (r : Refusal) (code : ℤ) → result ≡ Err r →
+pub told_one : (c : ℕ) (told now : LineBuffer) (result : Result (Unit {0}) CommandRefusal) (r : CommandRefusal) (code : ℤ) → result ≡ Err r →
     code ≡ code_of r → now ≡ record told { lines = told.lines ++ Refuse c code ∷ [] } → now ≡ record told { lines = told.lines ++ told_refusal c result }
 told_one c told now result r code is coded wrote = grind (arith, nat_tests, told_refusal c)
 
@@ -43,8 +43,8 @@ told_one c told now result r code is coded wrote = grind (arith, nat_tests, told
 sized_alike : {cells : ℕ} (k new then : kept.State) → new ≡ then → AreSized cells k → AreSized cells then → length new.queues ≡ length k.queues
 sized_alike k new then is sized now = ap (λ (x : kept.State). length x.queues) is ∙ now.queues ∙ sym sized.queues
 
-pub sized_acts : (cells : ℕ) (k new : kept.State) → AreSized cells k → (c : ℕ) (command : Command) (asked : Option Server)
-    (before after : Store) (result : Result (Unit {0}) Refusal) → Acts c command asked k new before after result → length new.queues ≡ length k.queues
+pub sized_acts : (cells : ℕ) (k new : kept.State) → AreSized cells k → (c : ℕ) (command : ClientCommand) (asked : Option Server)
+    (before after : Store) (result : Result (Unit {0}) CommandRefusal) → Acts c command asked k new before after result → length new.queues ≡ length k.queues
 sized_acts cells k new sized c (Connect class slots) asked before after result acts = sized_alike k new _ acts.1 sized (sized_connect cells k sized c asked slots)
 sized_acts cells k new sized c (Send words) asked before after result acts = sized_alike k new _ acts.after_it sized (sized_send cells k sized c acts.place)
 sized_acts cells k new sized c Close asked before after result acts = sized_alike k new _ acts.1 sized (sized_close cells k sized c)
@@ -69,9 +69,9 @@ hears_timers p m stands (Some n) k new notes = go (is_server (request_at m.activ
 
 -- ---- all of it
 
-module _ (p : Image) (m : Parts) (turned : progress_by m.rest.ended m.stack.tasks ≡ Turned) (c : ℕ) (one : c < 64) (command : Command) (asked : Option Server)
+module _ (p : Image) (m : Parts) (turned : progress_by m.rest.ended m.stack.tasks ≡ Turned) (c : ℕ) (one : c < 64) (command : ClientCommand) (asked : Option Server)
     (asks : asked ≡ asked_by p m.listed command) (queue : Option ℕ) (changed : queue ≡ queue_changed asked (kept.client_at m.clients c)) where
-  pub heard : (k : kept.State) (store : Store) (a : Active) (told now : LineBuffer) (result : Result (Unit {0}) Refusal) → now ≡ record told
+  pub heard : (k : kept.State) (store : Store) (a : Active) (told now : LineBuffer) (result : Result (Unit {0}) CommandRefusal) → now ≡ record told
       { lines = told.lines ++ told_refusal c result } → Acts c command asked m.clients k m.messages store result → NotesIf queue k m.active a →
       (s : State) → StandsFor (record { image = p; parts = m }) s → Obeyed (record { image = p; parts = m }) s c command told now
       (record { image = p; parts = record m { clients = k; messages = store; active = a; rest = record m.rest { delivered = suc m.rest.delivered } } })

@@ -24,7 +24,7 @@ use Rattle.aom_semantics.specs.World.{heard_one}
 use Rattle.aom_progress.proofs.Pushed.{served_same, withdrawn_same}
 use Rattle.aom_progress.specs.Left.{is_entry, objects_left}
 use Rattle.aom_typings.specs.Prices.{Prices}
-use Rattle.aom_transcript.specs.declared.event.Command.{Command}
+use Rattle.aom_transcript.specs.declared.event.ClientCommand.{ClientCommand}
 use Rattle.aom_machine_state.proofs.Beside.{Beside, cells_beside, listed_beside, natives_beside, requests_beside}
 use Rattle.aom_machine_state.proofs.Elsewhere.{SessionsSame, shows_again}
 use Rattle.aom_machine_state.proofs.Leaving.{beside_withdrawn, holds_withdrawn, told_withdrawn}
@@ -49,7 +49,7 @@ module _ (q : Prices) (p : Image) (c : ℕ) (s : State) where
   unqueued r e = grind arith
 
   -- a command changes nothing of it
-  pub commanded_left : (command : Command) (name : ℕ) → objects_left q (commanded p c s command name).cells ≡ objects_left q s.cells
+  pub commanded_left : (command : ClientCommand) (name : ℕ) → objects_left q (commanded p c s command name).cells ≡ objects_left q s.cells
   commanded_left command name = by_command p c s (λ t. objects_left q t.cells ≡ objects_left q s.cells) name (record {
     same = refl;
     connects = λ x slots. served_same q is_entry x.name _ s.cells;
@@ -75,7 +75,7 @@ module _ (p : Image) (m : Parts) (s : State) (st : StandsFor (record { image = p
   pub servers_below : (o : Object) → named s.cells o.name ≡ Some o → is_server p o.thing ≡ true → o.name < p.header.cells
   servers_below o lives serves = grind (arith, nat_tests, message_plain p Message)
 
-  module _ (command : Command) (name : ℕ) (free : named s.cells name ≡ None) (high : 4096 ≤ name)
+  module _ (command : ClientCommand) (name : ℕ) (free : named s.cells name ≡ None) (high : 4096 ≤ name)
       (k : kept.State) (store : Store) (a : Active) (clients : SameClients k (commanded p c v command name).cells (commanded p c v command name).clients)
       (sized : AreSized p.header.cells k) (sessions : SessionsSame m.clients k) (messages : SameMessages p store (commanded p c v command name).cells) (server : Option ℕ)
       (touched : (n : ℕ) → (server ≡ Some n → ⊥) → Untouched p c v command n) (hears : NotesIf server k m.active a) where

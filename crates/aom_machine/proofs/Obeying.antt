@@ -7,7 +7,7 @@ use Rattle.aom_clients.specs.Clients as kept
 use Rattle.aom_clients.specs.Table.{row}
 use Rattle.aom_clients.specs.declared.client.Client.{Client}
 use Rattle.aom_clients.specs.declared.client.Client.TheVariants.{Open, Unconnected}
-use Rattle.aom_clients.specs.declared.refusal.Refusal.{Refusal}
+use Rattle.aom_clients.specs.declared.refusal.CommandRefusal.{CommandRefusal}
 use Rattle.aom_image.specs.Image.{Image}
 use Rattle.aom_cells.specs.Store.{Store, word_of, message_at}
 use Rattle.aom_roles.specs.Tables.{at}
@@ -15,7 +15,7 @@ use Rattle.aom_semantics.specs.Clients.{client_at, commanded, leaving, refusal, 
 use Rattle.aom_semantics.specs.Places.{Cell, Message_of, named}
 use Rattle.aom_semantics.specs.Servers.{asked_last, reserved, withdrawn}
 use Rattle.aom_semantics.specs.State.{State}
-use Rattle.aom_transcript.specs.declared.event.Command.TheVariants.{Close, Connect, Die, Send}
+use Rattle.aom_transcript.specs.declared.event.ClientCommand.TheVariants.{Close, Connect, Die, Send}
 use Rattle.aom_machine_state.proofs.Commanding.{row_close, row_die}
 use Rattle.aom_machine_state.proofs.Messages.{message_made, messages_served}
 use Rattle.aom_machine_state.specs.Messages.{SameMessages}
@@ -69,7 +69,7 @@ forgets_none before after f = record { all = λ m. f.others m refl; count = let 
 only_open : (x : Client) → (row x).send ≡ None → (server : ℕ) × (session : ℕ) × (slots : ℕ) × (x ≡ Open server session slots)
 only_open x e = grind arith
 
-unrefused : (p : Image) (c : ℕ) (v : State) (r : Option Refusal) → room p c v r ≡ None → r ≡ None
+unrefused : (p : Image) (c : ℕ) (v : State) (r : Option CommandRefusal) → room p c v r ≡ None → r ≡ None
 unrefused p c v r e = grind arith
 
 module _ (p : Image) (c : ℕ) (v : State) (k : kept.State) (same : SameClients k v.cells v.clients) (before after : Store) (messages : SameMessages p before v.cells) where
@@ -83,7 +83,7 @@ module _ (p : Image) (c : ℕ) (v : State) (k : kept.State) (same : SameClients 
   messages_send words place free alike is_kept = go (refusal p c v (Send words)) refl place refl free (subst (λ r. Keeps_sent r place words before after) alike is_kept)
     where
       -- it needs a place
-      no_place : (r : Option Refusal) (b : Bool) → kept.sending_to r b None ≡ None → ⊥
+      no_place : (r : Option CommandRefusal) (b : Bool) → kept.sending_to r b None ≡ None → ⊥
       no_place r b e = grind arith
 
       went_in : (m : ℕ) → m < 1024 → Keeps_sent None (Some m) words before after →
@@ -94,7 +94,7 @@ module _ (p : Image) (c : ℕ) (v : State) (k : kept.State) (same : SameClients 
           subst (λ x. SameMessages p after (sending p c v None x (message_name m) words).cells) (sym o.3)
           (message_made p before after (reserved (asked_last (Message_of c (message_name m))) o.0 v.cells) _ m words from refl (λ w. at_read words w) low is_kept.0 is_kept.1)
 
-      go : (r : Option Refusal) → refusal p c v (Send words) ≡ r → (y : Option ℕ) → place ≡ y → IfSome y (λ m. (m < 1024) × (message_at before m ≡ None)) →
+      go : (r : Option CommandRefusal) → refusal p c v (Send words) ≡ r → (y : Option ℕ) → place ≡ y → IfSome y (λ m. (m < 1024) × (message_at before m ≡ None)) →
           Keeps_sent r y words before after → SameMessages p after (sending p c v r (client_at v.clients c) (sent_name y) words).cells
       go (Some r) e y f free is_kept = still_kept p before after v.cells is_kept messages
       go None e (Some m) f free is_kept = went_in m free.0 is_kept e

@@ -12,10 +12,10 @@ use Rattle.aom_cells.specs.declared.cell.Cell.{Cell as Machine_cell}
 use Rattle.aom_classes.specs.Roles.{role_of}
 use Rattle.aom_clients.specs.Clients as kept
 use Rattle.aom_clients.specs.Table.{sender}
-use Rattle.aom_clients.specs.declared.entry.Entry.{Entry}
-use Rattle.aom_clients.specs.declared.entry.Entry.TheVariants.{Close, Connect, Message}
+use Rattle.aom_clients.specs.declared.entry.QueueEntry.{QueueEntry}
+use Rattle.aom_clients.specs.declared.entry.QueueEntry.TheVariants.{Close, Connect, Message}
 use Rattle.aom_clients.specs.declared.entry.Taken.{Taken}
-use Rattle.aom_clients.specs.declared.place.Place.TheVariants.{Free}
+use Rattle.aom_clients.specs.declared.place.MessagePlace.TheVariants.{Free}
 use Rattle.aom_image.specs.Image.{Image}
 use Rattle.aom_image.specs.declared.method.Role.TheVariants.{Accept as Accepts_role, Service as Attends_role}
 use Rattle.aom_image.specs.declared.method.Thing.{Thing}
@@ -77,29 +77,29 @@ module _ (p : Image) (m : Machine_parts) (s : State) (st : StandsFor (record { i
     abbrev n : ℕ
     n = x.object.name
 
-    abbrev queue : List Entry
+    abbrev queue : List QueueEntry
     queue = kept.queue_at m.clients n
 
     pub server_class : (class : ℕ) × IsOfClass m n class × (x.object.thing ≡ An_object_of class)
     server_class = its_class x.object lives (served_object p x.object.thing serves)
 
-    queue_so : (es : List Entry) → queue ≡ es → (service_of s.cells n).queue ≡ map (asked_by m.clients.places) es
+    queue_so : (es : List QueueEntry) → queue ≡ es → (service_of s.cells n).queue ≡ map (asked_by m.clients.places) es
     queue_so es at = sym (same.queues n) ∙ ap (map (asked_by m.clients.places)) at
 
     -- so it goes on, whatever waits first
-    pub first_keeps : (es : List Entry) → queue ≡ es → Keeps p st.typing (serves_first p x (map (asked_by m.clients.places) es) s)
+    pub first_keeps : (es : List QueueEntry) → queue ≡ es → Keeps p st.typing (serves_first p x (map (asked_by m.clients.places) es) s)
     first_keeps es at = grind (arith, nat_tests, queue_so es at)
 
     -- what waits first fits its client
-    pub first_fits : (e : Entry) (es : List Entry) → queue ≡ e ∷ es → EntryFits s.clients n (asked_by m.clients.places e)
+    pub first_fits : (e : QueueEntry) (es : List QueueEntry) → queue ≡ e ∷ es → EntryFits s.clients n (asked_by m.clients.places e)
     first_fits e es at = (subst (λ q. QueueFits s.clients n q) (queue_so (e ∷ es) at) (st.kept.fit.queues n)).0.0
 
     -- and nothing waits twice
-    pub first_once : (e : Entry) (es : List Entry) → queue ≡ e ∷ es → list_any (asked_again (asked_by m.clients.places e)) (map (asked_by m.clients.places) es) ≡ false
+    pub first_once : (e : QueueEntry) (es : List QueueEntry) → queue ≡ e ∷ es → list_any (asked_again (asked_by m.clients.places e)) (map (asked_by m.clients.places) es) ≡ false
     first_once e es at = (subst (λ q. QueueFits s.clients n q) (queue_so (e ∷ es) at) (st.kept.fit.queues n)).0.1
 
     -- a message that waits there is kept, at one of the places that there are
-    module _ (j : ℕ) (es : List Entry) (at : queue ≡ Message j ∷ es) where
+    module _ (j : ℕ) (es : List QueueEntry) (at : queue ≡ Message j ∷ es) where
       pub place_there : j < 1024
       place_there = grind (
         arith,
@@ -118,16 +118,16 @@ module _ (p : Image) (m : Machine_parts) (s : State) (st : StandsFor (record { i
       pub sender_there : sender (kept.place_at m.clients j) < 64
       sender_there = open_below s.cells s.clients m.clients same (sender (kept.place_at m.clients j)) n (first_fits (Message j) es at)
 
-    pub closer_there : (c : ℕ) (es : List Entry) → queue ≡ Close c ∷ es → c < 64
+    pub closer_there : (c : ℕ) (es : List QueueEntry) → queue ≡ Close c ∷ es → c < 64
     closer_there c es at = leaving_below s.cells s.clients m.clients same c n (first_fits (Close c) es at)
 
     -- ---- what serves it is there
 
-    pub accept_there : (c : ℕ) (es : List Entry) → queue ≡ Connect c ∷ es → (class : ℕ) → x.object.thing ≡ An_object_of class → IsSome (role_of p class Accepts_role)
+    pub accept_there : (c : ℕ) (es : List QueueEntry) → queue ≡ Connect c ∷ es → (class : ℕ) → x.object.thing ≡ An_object_of class → IsSome (role_of p class Accepts_role)
     accept_there c es at class thing = grind (arith, nat_tests, first_keeps (Connect c ∷ es) at)
 
     -- the session of the client, and its method
-    pub attend_there : (j : ℕ) (es : List Entry) → queue ≡ Message j ∷ es →
+    pub attend_there : (j : ℕ) (es : List QueueEntry) → queue ≡ Message j ∷ es →
         (o : Object) × (held s.cells (Elsewhere (Session n (sender (kept.place_at m.clients j)))) ≡ Some o)
         × ((kind : ℕ) × HasSession m (sender (kept.place_at m.clients j)) o.name kind × (o.thing ≡ An_object_of kind) × IsSome (role_of p kind Attends_role))
     attend_there j es at =
@@ -141,7 +141,7 @@ module _ (p : Image) (m : Machine_parts) (s : State) (st : StandsFor (record { i
         served : (h : Option Object) → Keeps p st.typing (attended p x c h (message_name j) (taken_from n s)) → (o : Object) × (h ≡ Some o) × IsSome (part_of p Attends_role o.thing)
         served h k = grind arith
 
-    pub part_there : (c : ℕ) (es : List Entry) → queue ≡ Close c ∷ es → (o : Object) × (held s.cells (Elsewhere (Session n c)) ≡ Some o) × ((kind : ℕ) × HasSession m c o.name kind)
+    pub part_there : (c : ℕ) (es : List QueueEntry) → queue ≡ Close c ∷ es → (o : Object) × (held s.cells (Elsewhere (Session n c)) ≡ Some o) × ((kind : ℕ) × HasSession m c o.name kind)
     part_there c es at =
         let o = served (held s.cells (Elsewhere (Session n c))) (first_keeps (Close c ∷ es) at) in
         let y = its_session n c o.0 (closer_there c es at) o.1 in
@@ -152,7 +152,7 @@ module _ (p : Image) (m : Machine_parts) (s : State) (st : StandsFor (record { i
 
     -- ---- so the machine can serve it
 
-    can_take : (e : Entry) (es : List Entry) → queue ≡ e ∷ es → CanTake p server_class.0 (kept.taken_entry m.clients e).client (kept.taken_entry m.clients e).entry m
+    can_take : (e : QueueEntry) (es : List QueueEntry) → queue ≡ e ∷ es → CanTake p server_class.0 (kept.taken_entry m.clients e).client (kept.taken_entry m.clients e).entry m
     can_take (Connect c) es at = accept_there c es at server_class.0 server_class.2
     can_take (Message j) es at = let y = attend_there j es at in (place_there j es at, message_there j es at, (y.0.name, y.2.0, y.2.1, y.2.3))
     can_take (Close c) es at = let y = part_there c es at in (y.0.name, y.2.0, y.2.1)
@@ -176,7 +176,7 @@ module _ (p : Image) (m : Machine_parts) (s : State) (st : StandsFor (record { i
     pub server_can : HasCaller p m n
     server_can = go queue refl
       where
-        go : (es : List Entry) → queue ≡ es → HasCaller p m n
+        go : (es : List QueueEntry) → queue ≡ es → HasCaller p m n
         go [] at = absurd (first_keeps [] at)
         go (e ∷ es) at = record {
           within = within;
@@ -191,7 +191,7 @@ module _ (p : Image) (m : Machine_parts) (s : State) (st : StandsFor (record { i
 -- ---- once it is taken
 
 -- no client is at anything else
-pub client_same : (m : Machine_parts) (n : ℕ) (e : Entry) (es : List Entry) → kept.queue_at m.clients n ≡ e ∷ es → (c : ℕ) → kept.client_at (kept.after_next n m.clients) c ≡ kept.client_at m.clients c
+pub client_same : (m : Machine_parts) (n : ℕ) (e : QueueEntry) (es : List QueueEntry) → kept.queue_at m.clients n ≡ e ∷ es → (c : ℕ) → kept.client_at (kept.after_next n m.clients) c ≡ kept.client_at m.clients c
 client_same m n e es at c = grind (arith, nat_tests)
 
 -- and what serves it is there still

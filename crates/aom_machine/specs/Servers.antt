@@ -11,8 +11,8 @@ use Rattle.aom_active.specs.Meanings.{Asks}
 use Rattle.aom_clients.specs.Clients as clients
 use Rattle.aom_clients.specs.Clients.{State, client_at, first_entry, queue_at}
 use Rattle.aom_clients.specs.Table.{session_of}
-use Rattle.aom_clients.specs.declared.entry.Entry.{Entry}
-use Rattle.aom_clients.specs.declared.entry.Entry.TheVariants.{Connect, Message, Close}
+use Rattle.aom_clients.specs.declared.entry.QueueEntry.{QueueEntry}
+use Rattle.aom_clients.specs.declared.entry.QueueEntry.TheVariants.{Connect, Message, Close}
 use Rattle.aom_clients.specs.declared.entry.Taken.{Taken}
 use Rattle.aom_cells.specs.Store.{IsKept, Store, word_at}
 use Rattle.aom_transcript.specs.declared.line.Asked.{Asked}
@@ -53,7 +53,7 @@ NotesIf (Some n) s old new = Notes n s old new
 -- ---- how each entry begins to be served
 
 -- what the line says that waited
-abbrev pub serve_asked : Entry → Asked
+abbrev pub serve_asked : QueueEntry → Asked
 serve_asked (Connect client) = lines.Connect
 serve_asked (Message place) = lines.Message
 serve_asked (Close client) = lines.Close
@@ -106,7 +106,7 @@ pub record HasSession (m : Parts) (client session class : ℕ) : Type 0 where
   pub lives : IsOfClass m session class
 
 -- the entry of that client can be served by a server of that class
-abbrev pub CanTake : Image → (class : ℕ) → (client : ℕ) → Entry → Parts → Type 0
+abbrev pub CanTake : Image → (class : ℕ) → (client : ℕ) → QueueEntry → Parts → Type 0
 CanTake p class client (Connect c) m = IsSome (role_of p class Accepts_role)
 CanTake p class client (Message place) m = (place < 1024) × IsKept m.messages place × ((session kind : ℕ) × HasSession m client session kind × IsSome (role_of p kind Attends))
 CanTake p class client (Close c) m = (session kind : ℕ) × HasSession m c session kind
@@ -124,7 +124,7 @@ pub record HasCaller (p : Image) (m : Parts) (id : ℕ) : Type 0 where
 -- ---- it begins
 
 -- the method that serves it is at hand, or the session that goes
-abbrev pub Begins : Image → Subject → (client : ℕ) → Entry → Parts → Parts → Type 0
+abbrev pub Begins : Image → Subject → (client : ℕ) → QueueEntry → Parts → Parts → Type 0
 Begins p x client (Connect c) old new = (method : ℕ) × (role_of p x.class Accepts_role ≡ Some method) × (new ≡ accepting method x c old)
 Begins p x client (Message place) old new =
     (session class method : ℕ) × (session_of (client_at old.clients client) ≡ Some session) × (class_at old.cells session ≡ Some class) × (role_of p class Attends ≡ Some method)

@@ -1,7 +1,7 @@
 //! What clients do between dispatches: they connect, send, close and die.
 ghost use Rattle.aom_clients.specs.Clients.{client_at, place_at};
 ghost use Rattle.aom_clients.specs.Nodes.{named_by};
-ghost use Rattle.aom_clients.specs.declared.place.Place.TheVariants.{Free};
+ghost use Rattle.aom_clients.specs.declared.place.MessagePlace.TheVariants.{Free};
 ghost use Rattle.aom_machine.specs.Clients.{AreKept, Acts, CanAct, Forgets, IsInRange, Obeyed, Sends, asked_by, first_server, queue_changed};
 ghost use Rattle.aom_machine.specs.Servers.{NotesIf};
 ghost use Rattle.aom_cells.specs.Store.{message_at};
@@ -13,11 +13,11 @@ ghost use Rattle.std.specs.Prelude.{◌≡◌, ◌<◌, ◌≤◌, ◌+◌, ◌^
 
 use crate::servers::note_queue;
 use aom_cells::Messages;
-use aom_clients::{Client, Clients, Refusal, Server};
+use aom_clients::{Client, Clients, CommandRefusal, Server};
 use aom_image::ClassKind;
 use aom_linked::Linked;
 use aom_machine_state::{LineBuffer, Parts};
-use aom_transcript::{Command, Line};
+use aom_transcript::{ClientCommand, Line};
 
 /// The server that the client asks or has a session with.
 fn server_of(client: Client) -> Option<u16>
@@ -68,7 +68,7 @@ fn send(
     messages: &mut Messages,
     client: u8,
     words: [i32; 5],
-) -> Result<(), Refusal>
+) -> Result<(), CommandRefusal>
     requires client { client < 64 }
     requires free { (m : ℕ) → message_at messages.old m ≡ None → place_at clients.old m ≡ Free }
     ensures { Sends client words clients.old clients.new messages.old messages.new result }
@@ -88,23 +88,23 @@ fn act(
     clients: &mut Clients,
     messages: &mut Messages,
     client: u8,
-    command: Command,
+    command: ClientCommand,
     server: Option<Server>,
-) -> Result<(), Refusal>
+) -> Result<(), CommandRefusal>
     requires client { client < 64 }
     requires server { IfSome server (λ k. k.cell < length clients.old.queues) }
     requires can { CanAct client command clients.old messages.old }
     ensures { Acts client command server clients.old clients.new messages.old messages.new result }
 {
     match command {
-        Command::Connect(_, slots) => clients.connect(client, server, slots),
-        Command::Send(words) => send(clients, messages, client, words),
-        Command::Close => {
+        ClientCommand::Connect(_, slots) => clients.connect(client, server, slots),
+        ClientCommand::Send(words) => send(clients, messages, client, words),
+        ClientCommand::Close => {
             let freed = clients.close(client);
             forget(messages, freed.as_slice());
             Ok(())
         }
-        Command::Die => {
+        ClientCommand::Die => {
             let freed = clients.die(client);
             forget(messages, freed.as_slice());
             Ok(())
@@ -113,13 +113,13 @@ fn act(
 }
 
 /// The server that a command asks for a session.
-fn asked_by(parts: &Parts, command: Command, linked: &Linked) -> Option<Server>
+fn asked_by(parts: &Parts, command: ClientCommand, linked: &Linked) -> Option<Server>
     requires { Stands (record { image = linked.now; parts = parts.now }) }
     ensures value { result ≡ asked_by linked.now parts.now.listed command }
     ensures below { IfSome result (λ server. server.cell < length parts.now.clients.queues) }
 {
     match command {
-        Command::Connect(class, _) => first_server(parts, class, linked),
+        ClientCommand::Connect(class, _) => first_server(parts, class, linked),
         _ => None,
     }
 }
@@ -152,7 +152,7 @@ fn note_changed(parts: &mut Parts, queue: Option<u16>)
 pub fn obey(
     parts: &mut Parts,
     client: u8,
-    command: Command,
+    command: ClientCommand,
     linked: &Linked,
     turn: &mut LineBuffer,
 ) -> bool

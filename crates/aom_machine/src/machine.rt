@@ -22,7 +22,7 @@ use crate::wanted::{self, Wanted};
 use crate::{clients, moves, natives, turns};
 use aom_budget::Accepted;
 use aom_machine_state::{Counters, LineBuffer, Parts, Progress};
-use aom_transcript::Command;
+use aom_transcript::ClientCommand;
 use std::alloc::{AllocError, Global};
 use std::marker::Model;
 
@@ -189,7 +189,7 @@ impl<'a> Machine<'a> {
     }
 
     /// Between dispatches the client of that number does what it is told, with a line where that is refused. Answers whether it was.
-    pub fn obey(&mut self, client: u8, command: Command, turn: &mut LineBuffer) -> bool
+    pub fn obey(&mut self, client: u8, command: ClientCommand, turn: &mut LineBuffer) -> bool
         requires between { progress self.old ≡ Turned }
         requires few { self.old.parts.rest.delivered + 1 < 2 ^ 64 }
         requires client { client < 64 }

@@ -8,7 +8,7 @@ ghost use Rattle.std.specs.Prelude.{◌≡◌, ◌<◌, ℕ, IsSome, length};
 
 use crate::turns::run_under;
 use aom_cells::{CellId, MessageId, Messages};
-use aom_clients::{Entry, Taken};
+use aom_clients::{QueueEntry, Taken};
 use aom_frames::{Dispatch, Frame, Stage, Subject, Task};
 use aom_image::Role;
 use aom_linked::Linked;
@@ -16,13 +16,13 @@ use aom_machine_state::{LineBuffer, Parts};
 use aom_transcript::{Asked, Line};
 
 /// What waits in a queue, as a line shows it.
-fn asked(entry: Entry) -> Asked
+fn asked(entry: QueueEntry) -> Asked
     ensures { result ≡ serve_asked entry }
 {
     match entry {
-        Entry::Connect { .. } => Asked::Connect,
-        Entry::Message { .. } => Asked::Message,
-        Entry::Close { .. } => Asked::Close,
+        QueueEntry::Connect { .. } => Asked::Connect,
+        QueueEntry::Message { .. } => Asked::Message,
+        QueueEntry::Close { .. } => Asked::Close,
     }
 }
 
@@ -64,9 +64,9 @@ fn begin(parts: &mut Parts, server: Subject, taken: Taken, linked: &Linked)
     ensures { Begins linked.now server taken.client taken.entry parts.old parts.new }
 {
     match taken.entry {
-        Entry::Connect { client } => accept(parts, server, client, linked),
-        Entry::Message { place } => attend(parts, server, taken.client, place, linked),
-        Entry::Close { client } => part(parts, server, client, linked),
+        QueueEntry::Connect { client } => accept(parts, server, client, linked),
+        QueueEntry::Message { place } => attend(parts, server, taken.client, place, linked),
+        QueueEntry::Close { client } => part(parts, server, client, linked),
     }
 }
 
@@ -74,7 +74,7 @@ fn begin(parts: &mut Parts, server: Subject, taken: Taken, linked: &Linked)
 fn accept(parts: &mut Parts, server: Subject, client: u8, linked: &Linked)
     requires method { IsSome (role_of linked.now server.class Accept) }
     requires idle { IsIdle parts.old }
-    ensures { Begins linked.now server client (Entry.Connect client) parts.old parts.new }
+    ensures { Begins linked.now server client (QueueEntry.Connect client) parts.old parts.new }
 {
     let Some(method) = linked.role(server.class(), Role::Accept) else {
         unreachable!();
@@ -100,7 +100,7 @@ fn attend(parts: &mut Parts, server: Subject, client: u8, place: u16, linked: &L
     requires kept { IsKept parts.old.messages place }
     requires session { (session kind : ℕ) × HasSession parts.old client session kind × IsSome (role_of linked.now kind Service) }
     requires idle { IsIdle parts.old }
-    ensures { Begins linked.now server client (Entry.Message place) parts.old parts.new }
+    ensures { Begins linked.now server client (QueueEntry.Message place) parts.old parts.new }
 {
     let Some(session) = parts.clients.session(client) else {
         unreachable!();
@@ -122,7 +122,7 @@ fn attend(parts: &mut Parts, server: Subject, client: u8, place: u16, linked: &L
 fn part(parts: &mut Parts, server: Subject, client: u8, linked: &Linked)
     requires session { (session kind : ℕ) × HasSession parts.old client session kind }
     requires idle { IsIdle parts.old }
-    ensures { Begins linked.now server client (Entry.Close client) parts.old parts.new }
+    ensures { Begins linked.now server client (QueueEntry.Close client) parts.old parts.new }
 {
     let Some(session) = parts.clients.release_session(client) else {
         unreachable!();

@@ -13,7 +13,7 @@ use Rattle.aom_shape.specs.Kinds.{register, set_register}
 use Rattle.aom_rules.specs.Rules.{flows, rule_needs}
 use Rattle.aom_roles.specs.Tables.{at}
 use Rattle.aom_rules.specs.Typing.{AllLead, IsTyped, Typing}
-use Rattle.aom_shape.specs.declared.kind.Entry.TheVariants.{Operation as Pushed_operation}
+use Rattle.aom_shape.specs.declared.kind.CleanupEntry.TheVariants.{Operation as Pushed_operation}
 use Rattle.aom_shape.specs.declared.kind.Kind.TheVariants.{Null}
 use Rattle.aom_typings.specs.Strongest.{IsStrongest}
 use Rattle.aom_typings.specs.Depths.{HasDepths, alone}

@@ -12,8 +12,8 @@ use Rattle.aom_clients.specs.Clients as kept
 use Rattle.aom_clients.specs.Table.{at_gone, server_of}
 use Rattle.aom_clients.specs.declared.client.Client.{Client}
 use Rattle.aom_clients.specs.declared.client.Client.TheVariants.{Unconnected}
-use Rattle.aom_clients.specs.declared.entry.Entry.{Entry}
-use Rattle.aom_clients.specs.declared.entry.Entry.TheVariants.{Close, Connect, Message}
+use Rattle.aom_clients.specs.declared.entry.QueueEntry.{QueueEntry}
+use Rattle.aom_clients.specs.declared.entry.QueueEntry.TheVariants.{Close, Connect, Message}
 use Rattle.aom_frames.specs.Tasks.{below_first}
 use Rattle.aom_frames.specs.declared.task.Task.{Task as Machine_task}
 use Rattle.aom_frames.specs.declared.task.Task.TheVariants.{Destroy as Destroys}
@@ -80,18 +80,18 @@ use Rattle.aom_machine_instructions.specs.Serving.{AllKept, CanVanish, Drops, an
 -- ---- entries and the places of their messages
 
 -- the same entries are messages
-is_there : (es : List Entry) (m : ℕ) → is_among m (places_in es) ≡ has_message m es
+is_there : (es : List QueueEntry) (m : ℕ) → is_among m (places_in es) ≡ has_message m es
 is_there [] m = refl
 is_there (Message k ∷ es) m = ap (λ b. (k == m) || b) (is_there es m)
 is_there (_ ∷ es) m = is_there es m
 
-many_there : (es : List Entry) → length (places_in es) ≡ count_messages es
+many_there : (es : List QueueEntry) → length (places_in es) ≡ count_messages es
 many_there [] = refl
 many_there (Message k ∷ es) = ap suc (many_there es)
 many_there (_ ∷ es) = many_there es
 
 -- what is kept, each once
-all_kept : (store : Store) (es : List Entry) → Once (places_in es) → ((m : ℕ) → is_among m (places_in es) ≡ true → is_some (message_at store m) ≡ true) → AllKept store es
+all_kept : (store : Store) (es : List QueueEntry) → Once (places_in es) → ((m : ℕ) → is_among m (places_in es) ≡ true → is_some (message_at store m) ≡ true) → AllKept store es
 all_kept store [] once there = tt
 all_kept store (Connect c ∷ es) once there = (tt, tt, all_kept store es once there)
 all_kept store (Message k ∷ es) once there = (there k (ap (λ b. b || is_among k (places_in es)) (eq-eqb k k refl)), sym (is_there es k) ∙ once.0, all_kept store es once.1 (λ m h. there m (later (k == m) (is_among m (places_in es)) h)))
@@ -101,7 +101,7 @@ all_kept store (Message k ∷ es) once there = (there k (ap (λ b. b || is_among
 all_kept store (Close c ∷ es) once there = (tt, tt, all_kept store es once there)
 
 -- the lines of entries are told alike
-lines_alike : (s : kept.State) (es : List Entry) → flat_map (lines_of_entry s.places) es ≡ gone_lines s es
+lines_alike : (s : kept.State) (es : List QueueEntry) → flat_map (lines_of_entry s.places) es ≡ gone_lines s es
 lines_alike s [] = refl
 lines_alike s (Connect c ∷ es) = ap (λ ls. lines_of_entry s.places (Connect c) ++ ls) (lines_alike s es)
 lines_alike s (Message k ∷ es) = ap (λ ls. lines_of_entry s.places (Message k) ++ ls) (lines_alike s es)
@@ -122,25 +122,25 @@ none_then : (s s' : kept.State) → SessionsSame s s' → (c : ℕ) → NoCell s
 none_then s s' same c none i = same i c ∙ none i
 
 -- clients that connect have none
-abbrev Quiet : kept.State → List Entry → Type 0
+abbrev Quiet : kept.State → List QueueEntry → Type 0
 Quiet s [] = Unit {0}
 Quiet s (Connect c ∷ es) = NoCell s c × Quiet s es
 Quiet s (_ ∷ es) = Quiet s es
 
-quiet_then : (s s' : kept.State) → SessionsSame s s' → (es : List Entry) → Quiet s es → Quiet s' es
+quiet_then : (s s' : kept.State) → SessionsSame s s' → (es : List QueueEntry) → Quiet s es → Quiet s' es
 quiet_then s s' same [] quiet = tt
 quiet_then s s' same (Connect c ∷ es) quiet = (none_then s s' same c quiet.0, quiet_then s s' same es quiet.1)
 quiet_then s s' same (_ ∷ es) quiet = quiet_then s s' same es quiet
 
-queue_same : (n : ℕ) (es : List Entry) (s : kept.State) → Quiet s es → SessionsSame s (kept.queue_gone n es s)
+queue_same : (n : ℕ) (es : List QueueEntry) (s : kept.State) → Quiet s es → SessionsSame s (kept.queue_gone n es s)
 queue_same n [] s quiet = λ i d. refl
 queue_same n (e ∷ es) s quiet = λ i d. queue_same n es (kept.gone n (e ∷ es) s) (quiet_then s (kept.gone n (e ∷ es) s) (one e quiet) es (rest e quiet)) i d ∙ one e quiet i d
   where
-    one : (e : Entry) → Quiet s (e ∷ es) → SessionsSame s (kept.gone n (e ∷ es) s)
+    one : (e : QueueEntry) → Quiet s (e ∷ es) → SessionsSame s (kept.gone n (e ∷ es) s)
     one (Connect c) quiet = set_same s (kept.gone n (Connect c ∷ es) s) c Unconnected refl (λ large. refl) quiet.0 (λ i. refl)
     one _ quiet = λ i d. refl
 
-    rest : (e : Entry) → Quiet s (e ∷ es) → Quiet s es
+    rest : (e : QueueEntry) → Quiet s (e ∷ es) → Quiet s es
     rest (Connect c) quiet = quiet.1
     rest _ quiet = quiet
 
@@ -267,7 +267,7 @@ module _ (p : Image) (m : Parts) (h : In_going p m)
       later : (a b : Bool) → b ≡ true → (a || b) ≡ true
       later x b e = grind arith
 
-  quiet_here : (es : List Entry) → QueueFits s.clients n (map (asked_by k.places) es) → Quiet k es
+  quiet_here : (es : List QueueEntry) → QueueFits s.clients n (map (asked_by k.places) es) → Quiet k es
   quiet_here [] fits = tt
   quiet_here (Connect c ∷ es) fits = grind (arith, nat_tests, connecting_here, same, quiet_here es fits.1)
   quiet_here (_ ∷ es) fits = quiet_here es fits.1
@@ -430,11 +430,11 @@ can_vanish p m st n lives =
     record { small = omega (arith, below, few); within = subst (λ k. n < k) (sym st.1.agrees.services.sized.queues) below; kept = all_kept m.messages (kept.queue_at m.clients n) once there }
 
 -- each entry is one line, or none
-gone_counted : (s : kept.State) (es : List Entry) → length (gone_lines s es) ≡ answers es
+gone_counted : (s : kept.State) (es : List QueueEntry) → length (gone_lines s es) ≡ answers es
 gone_counted s [] = refl
 gone_counted s (Close c ∷ es) = gone_counted s es
 gone_counted s (_ ∷ es) = ap suc (gone_counted s es)
 
 -- so there is room for the cell's line
-pub room_left : (told : LineBuffer) (s : kept.State) (es : List Entry) → (length told.lines + answers es) < told.room → length (told.lines ++ gone_lines s es) < told.room
+pub room_left : (told : LineBuffer) (s : kept.State) (es : List QueueEntry) → (length told.lines + answers es) < told.room → length (told.lines ++ gone_lines s es) < told.room
 room_left told s es room = let many = length-append told.lines (gone_lines s es) in let counted = gone_counted s es in omega (arith, room, many, counted)

@@ -27,8 +27,8 @@ use Rattle.aom_rules.specs.Rules.{flows, rule_needs}
 use Rattle.aom_shape.specs.Shape.{Shape}
 use Rattle.aom_roles.specs.Tables.{at}
 use Rattle.aom_rules.specs.Typing.{AllLead, Leads, Typing, shape_at}
-use Rattle.aom_shape.specs.declared.kind.Entry.{Entry as Pushed_entry}
-use Rattle.aom_shape.specs.declared.kind.Entry.TheVariants.{Operation}
+use Rattle.aom_shape.specs.declared.kind.CleanupEntry.{CleanupEntry}
+use Rattle.aom_shape.specs.declared.kind.CleanupEntry.TheVariants.{Operation}
 use Rattle.aom_shape.specs.declared.kind.Kind.{Kind}
 use Rattle.aom_shape.specs.declared.kind.Kind.TheVariants.{Maybe, Null, Own}
 use Rattle.aom_typings.specs.Strongest.{IsStrongest}
@@ -333,7 +333,7 @@ module _ (p : Image) (t : Typing) (depth heights : ℕ → ℕ) (tables : Tables
     ended_high : no_entry h.shape.entries ≡ true → length s.items ≡ fr.height
     ended_high none = go h.shape.entries high none
       where
-        go : (es : List Pushed_entry) → length s.items ≡ length (objects es h.below) → no_entry es ≡ true → length s.items ≡ fr.height
+        go : (es : List CleanupEntry) → length s.items ≡ length (objects es h.below) → no_entry es ≡ true → length s.items ≡ fr.height
         go [] same none = omega (arith, same, h.height)
         go (e ∷ es) same none = absurd cc
 
@@ -435,7 +435,7 @@ module _ (p : Image) (t : Typing) (depth heights : ℕ → ℕ) (tables : Tables
     low_below : not (no_entry h.shape.entries) ≡ true → AllLow (length (below_top s.items)) (Run fr ∷ ts)
     low_below some = go h.shape.entries s.items high some
       where
-        go : (es : List Pushed_entry) (items : List Item) → length items ≡ length (objects es h.below) → not (no_entry es) ≡ true → AllLow (length (below_top items)) (Run fr ∷ ts)
+        go : (es : List CleanupEntry) (items : List Item) → length items ≡ length (objects es h.below) → not (no_entry es) ≡ true → AllLow (length (below_top items)) (Run fr ∷ ts)
         go (e ∷ es) (i ∷ items) same some =
             let le : fr.height ≤ length items = omega (arith, same, h.height, length_objects es h.below) in
             (le, lower fr.height (length items) ts le h.low)

@@ -11,7 +11,7 @@ use Rattle.aom_frames.specs.Items.{IsAboveMark, IsMarked, IsNotAboveMark}
 use Rattle.aom_frames.specs.declared.item.Item.{Item as Machine_item}
 use Rattle.aom_frames.specs.declared.item.Item.TheVariants.{Mark as Is_mark}
 use Rattle.aom_rules.specs.Typing.{Typing}
-use Rattle.aom_shape.specs.declared.kind.Entry.{Entry as Pushed}
+use Rattle.aom_shape.specs.declared.kind.CleanupEntry.{CleanupEntry}
 use Rattle.aom_semantics.specs.Calls.{is_level, result_needs, result_register}
 use Rattle.aom_safety.specs.Claims.{Method, Form, Mark_form, forms, items_of, objects}
 use Rattle.aom_semantics.specs.Cleanup.{tops_entry, tops_object, top_is_whole}
@@ -77,11 +77,11 @@ module _ (p : Image) (m : Parts) where
 -- ---- a return through a trap finds its mark
 
 -- as many items as below the entries are those below
-no_more : (es : List Pushed) (fs : List Form) → length (objects es fs) ≡ length fs → objects es fs ≡ fs
+no_more : (es : List CleanupEntry) (fs : List Form) → length (objects es fs) ≡ length fs → objects es fs ≡ fs
 no_more [] fs e = refl
 no_more (x ∷ es) fs e = let more = longer es fs in absurd (omega arith)
   where
-    longer : (es : List Pushed) (fs : List Form) → length fs ≤ length (objects es fs)
+    longer : (es : List CleanupEntry) (fs : List Form) → length fs ≤ length (objects es fs)
     longer [] fs = omega arith
     longer (x ∷ es) fs = let more = longer es fs in omega arith
 

@@ -7,8 +7,8 @@ use Rattle.std.proofs.lemmas.List.{get_or-set_other, get_or-set_same, length-app
 use Rattle.std.proofs.lemmas.List.Folds.{list_any-append}
 use Rattle.std.proofs.lemmas.Option.{none-some, same_Some}
 use Rattle.aom_clients.specs.Clients.{State, after_next_gone, first_entry, gone, going, place_at, queue_at, queue_gone, sessions_at, taken_entry, with_queue}
-use Rattle.aom_clients.specs.declared.entry.Entry.{Entry}
-use Rattle.aom_clients.specs.declared.entry.Entry.TheVariants.{Message}
+use Rattle.aom_clients.specs.declared.entry.QueueEntry.{QueueEntry}
+use Rattle.aom_clients.specs.declared.entry.QueueEntry.TheVariants.{Message}
 use Rattle.aom_clients.specs.declared.entry.Taken.{Taken}
 use Rattle.aom_cells.specs.Store.{Store, message_at}
 use Rattle.aom_machine_state.specs.LineBuffer.{LineBuffer}
@@ -23,27 +23,27 @@ same_message : (m k : ℕ) → (m == k) ≡ false → (k == m) ≡ false
 same_message m k e = ne_eqb k m (λ is. false≢true (sym e ∙ eq-eqb m k (sym is)))
 
 -- what waits behind an entry is another message
-apart : (e : Entry) (m : ℕ) (es : List Entry) → IsOnce e (Message m ∷ es) → has_message m (e ∷ []) ≡ false
+apart : (e : QueueEntry) (m : ℕ) (es : List QueueEntry) → IsOnce e (Message m ∷ es) → has_message m (e ∷ []) ≡ false
 apart x m es once = grind (arith, nat_tests, same_message m, front_false)
 
-once_behind : (e f : Entry) (es : List Entry) → IsOnce e (f ∷ es) → IsOnce e es
+once_behind : (e f : QueueEntry) (es : List QueueEntry) → IsOnce e (f ∷ es) → IsOnce e es
 once_behind x f es once = grind (arith, nat_tests, front_false)
 
 -- those behind an entry that went are kept
-kept_still : (e : Entry) (old new : Store) → Drops (e ∷ []) old new → (es : List Entry) → IsOnce e es → AllKept old es → AllKept new es
+kept_still : (e : QueueEntry) (old new : Store) → Drops (e ∷ []) old new → (es : List QueueEntry) → IsOnce e es → AllKept old es → AllKept new es
 kept_still e old new drops [] once kept = tt
 kept_still e old new drops (f ∷ es) once kept = (still f once kept.0, kept.1, kept_still e old new drops es (once_behind e f es once) kept.2)
   where
-    still : (f : Entry) → IsOnce e (f ∷ es) → EntryKept old f → EntryKept new f
+    still : (f : QueueEntry) → IsOnce e (f ∷ es) → EntryKept old f → EntryKept new f
     still x y z = grind (arith, nat_tests, apart e)
 
-counts : (xs ys : List Entry) → count_messages (xs ++ ys) ≡ count_messages xs + count_messages ys
+counts : (xs ys : List QueueEntry) → count_messages (xs ++ ys) ≡ count_messages xs + count_messages ys
 counts [] ys = omega arith
 counts (Message m ∷ xs) ys = let more = counts xs ys in omega (arith, more)
 counts (_ ∷ xs) ys = counts xs ys
 
 -- one more is dropped
-drops_more : (done : List Entry) (e : Entry) (old mid new : Store) → Drops done old mid → Drops (e ∷ []) mid new → Drops (done ++ e ∷ []) old new
+drops_more : (done : List QueueEntry) (e : QueueEntry) (old mid new : Store) → Drops done old mid → Drops (e ∷ []) mid new → Drops (done ++ e ∷ []) old new
 drops_more done e old mid new before last =
     record {
       gone = λ m is. split m (has_message m done) (has_message m (e ∷ [])) refl refl (sym (list_any-append (is_message m) done (e ∷ [])) ∙ is);
@@ -58,28 +58,28 @@ drops_more done e old mid new before last =
 -- ---- a queue goes entry by entry
 
 -- what becomes of an entry changes no queue
-queues_still : (e : Entry) (s : State) → (going e s).queues ≡ s.queues
+queues_still : (e : QueueEntry) (s : State) → (going e s).queues ≡ s.queues
 queues_still x s = grind arith
 
 -- nor of another message its sender
-senders_still : (e : Entry) (s : State) (m : ℕ) (es : List Entry) → IsOnce e (Message m ∷ es) → place_at (going e s) m ≡ place_at s m
+senders_still : (e : QueueEntry) (s : State) (m : ℕ) (es : List QueueEntry) → IsOnce e (Message m ∷ es) → place_at (going e s) m ≡ place_at s m
 senders_still x s m es once = grind (arith, nat_tests, get_or-set_other s.places, front_false, eq-eqb m)
 
 -- so that the lines of those behind it are as they were
-lines_still : (e : Entry) (s : State) (es : List Entry) → IsOnce e es → gone_lines (going e s) es ≡ gone_lines s es
+lines_still : (e : QueueEntry) (s : State) (es : List QueueEntry) → IsOnce e es → gone_lines (going e s) es ≡ gone_lines s es
 lines_still e s [] once = refl
 lines_still e s (f ∷ es) once = grind (arith, nat_tests, lines_still e s es (once_behind e f es once), once_behind e f es once, senders_still e s)
 
-entry_taken : (s : State) (e : Entry) → (taken_entry s e).entry ≡ e
+entry_taken : (s : State) (e : QueueEntry) → (taken_entry s e).entry ≡ e
 entry_taken s x = grind arith
 
 -- an entry is one line, or none
-line_counted : (s : State) (e : Entry) (es : List Entry) → length (gone_line (taken_entry s e)) + answers es ≡ answers (e ∷ es)
+line_counted : (s : State) (e : QueueEntry) (es : List QueueEntry) → length (gone_line (taken_entry s e)) + answers es ≡ answers (e ∷ es)
 line_counted s x es = grind arith
 
 -- so far these have gone
 pub record Going (n : ℕ) (old now : Parts) (told line : LineBuffer) : Type 0 where
-  pub done : List Entry
+  pub done : List QueueEntry
   pub split : done ++ queue_at now.clients n ≡ queue_at old.clients n
   pub within : n < length now.clients.queues
   pub clients : queue_gone n (queue_at now.clients n) now.clients ≡ queue_gone n (queue_at old.clients n) old.clients
@@ -99,7 +99,7 @@ goes_on n old mid new told line line' t so first is drops written = go (queue_at
     s : State
     s = mid.clients
 
-    go : (q : List Entry) → queue_at s n ≡ q → Some t ≡ first_entry s q → Going n old new told line'
+    go : (q : List QueueEntry) → queue_at s n ≡ q → Some t ≡ first_entry s q → Going n old new told line'
     go [] e first = absurd (none-some _ (sym first))
     go (f ∷ es) e first =
         let taken : t ≡ taken_entry s f = same_Some t (taken_entry s f) first in
@@ -132,6 +132,6 @@ goes_on n old mid new told line line' t so first is drops written = go (queue_at
         }
 
 -- a queue that went left the sessions as they were
-pub sessions_still : (n : ℕ) (es : List Entry) (s : State) → sessions_at (queue_gone n es s) n ≡ sessions_at s n
+pub sessions_still : (n : ℕ) (es : List QueueEntry) (s : State) → sessions_at (queue_gone n es s) n ≡ sessions_at s n
 sessions_still n [] s = refl
 sessions_still n (e ∷ es) s = grind (arith, nat_tests, sessions_still n es)

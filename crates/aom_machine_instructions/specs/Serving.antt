@@ -4,8 +4,8 @@ use Rattle.std.specs.List.{list_any}
 use Rattle.aom_clients.specs.Clients as clients
 use Rattle.aom_clients.specs.Clients.{State, place_at, queue_at}
 use Rattle.aom_clients.specs.Table.{completion, session_of}
-use Rattle.aom_clients.specs.declared.entry.Entry.{Entry}
-use Rattle.aom_clients.specs.declared.entry.Entry.TheVariants.{Connect, Message, Close}
+use Rattle.aom_clients.specs.declared.entry.QueueEntry.{QueueEntry}
+use Rattle.aom_clients.specs.declared.entry.QueueEntry.TheVariants.{Connect, Message, Close}
 use Rattle.aom_clients.specs.declared.entry.Taken.{Taken}
 use Rattle.aom_clients.specs.declared.place.Completion.{Completion}
 use Rattle.aom_cells.specs.Store.{Changes, IsKept, Store, count, first_number, message_at}
@@ -93,51 +93,51 @@ released_by None s = s
 released_by (Some c) s = clients.after_release c s
 
 -- the entry is the message at that place
-abbrev pub is_message : ℕ → Entry → Bool
+abbrev pub is_message : ℕ → QueueEntry → Bool
 is_message m (Connect client) = false
 is_message m (Message k) = k == m
 is_message m (Close client) = false
 
-abbrev pub has_message : ℕ → List Entry → Bool
+abbrev pub has_message : ℕ → List QueueEntry → Bool
 has_message m es = list_any (is_message m) es
 
 -- its message is kept, if it is one
-abbrev pub EntryKept : Store → Entry → Type 0
+abbrev pub EntryKept : Store → QueueEntry → Type 0
 EntryKept s (Connect client) = Unit {0}
 EntryKept s (Message m) = IsKept s m
 EntryKept s (Close client) = Unit {0}
 
 -- it does not wait there twice
-abbrev pub IsOnce : Entry → List Entry → Type 0
+abbrev pub IsOnce : QueueEntry → List QueueEntry → Type 0
 IsOnce (Connect client) es = Unit {0}
 IsOnce (Message m) es = has_message m es ≡ false
 IsOnce (Close client) es = Unit {0}
 
 -- their messages are kept, each once
-abbrev pub AllKept : Store → List Entry → Type 0
+abbrev pub AllKept : Store → List QueueEntry → Type 0
 AllKept s [] = Unit {0}
 AllKept s (e ∷ es) = EntryKept s e × IsOnce e es × AllKept s es
 
 -- how many of them are messages, and how many are completed as their server goes
-abbrev pub count_messages : List Entry → ℕ
+abbrev pub count_messages : List QueueEntry → ℕ
 count_messages [] = 0
 count_messages (Connect client ∷ es) = count_messages es
 count_messages (Message m ∷ es) = suc (count_messages es)
 count_messages (Close client ∷ es) = count_messages es
 
-abbrev pub answers : List Entry → ℕ
+abbrev pub answers : List QueueEntry → ℕ
 answers [] = 0
 answers (Connect client ∷ es) = suc (answers es)
 answers (Message m ∷ es) = suc (answers es)
 answers (Close client ∷ es) = answers es
 
-abbrev pub told_of : Entry → ℕ → List Line
+abbrev pub told_of : QueueEntry → ℕ → List Line
 told_of (Connect c) client = Reply client terminated ∷ []
 told_of (Message m) client = Reply client terminated ∷ []
 told_of (Close c) client = []
 
 -- the messages of these entries are kept no more, and all others are
-pub record Drops (es : List Entry) (old new : Store) : Type 0 where
+pub record Drops (es : List QueueEntry) (old new : Store) : Type 0 where
   pub gone : (m : ℕ) → has_message m es ≡ true → message_at new m ≡ None
   pub others : (m : ℕ) → has_message m es ≡ false → message_at new m ≡ message_at old m
   pub count : count new + count_messages es ≡ count old
@@ -147,7 +147,7 @@ pub record Drops (es : List Entry) (old new : Store) : Type 0 where
 abbrev pub gone_line : Taken → List Line
 gone_line t = told_of t.entry t.client
 
-abbrev pub gone_lines : State → List Entry → List Line
+abbrev pub gone_lines : State → List QueueEntry → List Line
 gone_lines s es = flat_map (λ e. gone_line (clients.taken_entry s e)) es
 
 -- a server of that number can go: its messages are kept

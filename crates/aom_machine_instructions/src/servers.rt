@@ -9,7 +9,7 @@ ghost use Rattle.aom_machine_state.specs.Places.{IsEnding, with_tasks};
 use crate::messages;
 use crate::natives::TERMINATED;
 use aom_cells::MessageId;
-use aom_clients::{Clients, Entry, Taken};
+use aom_clients::{Clients, QueueEntry, Taken};
 use aom_frames::{Dispatch, Stage, Task, TaskKind};
 use aom_machine_state::{LineBuffer, Parts};
 use aom_transcript::Line;
@@ -135,12 +135,12 @@ fn end_entry(parts: &mut Parts, taken: Taken, turn: &mut LineBuffer)
     ensures told { turn.new ≡ record turn.old { lines = turn.old.lines ++ gone_line taken } }
 {
     match taken.entry {
-        Entry::Connect { .. } => turn.push(Line::Reply(taken.client, TERMINATED)),
-        Entry::Message { place } => {
+        QueueEntry::Connect { .. } => turn.push(Line::Reply(taken.client, TERMINATED)),
+        QueueEntry::Message { place } => {
             parts.messages.release(MessageId::new(place));
             turn.push(Line::Reply(taken.client, TERMINATED));
         }
-        Entry::Close { .. } => {}
+        QueueEntry::Close { .. } => {}
     }
 }
 

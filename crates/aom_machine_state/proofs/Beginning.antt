@@ -8,8 +8,8 @@ use Rattle.aom_clients.specs.Clients as kept
 use Rattle.aom_clients.specs.Clients.{State, at_first, client_at, queue_at}
 use Rattle.aom_clients.specs.Table.{is_queued}
 use Rattle.aom_clients.specs.declared.client.Client.TheVariants.{Unconnected}
-use Rattle.aom_clients.specs.declared.entry.Entry.{Entry}
-use Rattle.aom_clients.specs.declared.place.Place.TheVariants.{Free}
+use Rattle.aom_clients.specs.declared.entry.QueueEntry.{QueueEntry}
+use Rattle.aom_clients.specs.declared.place.MessagePlace.TheVariants.{Free}
 use Rattle.aom_image.specs.Image.{Image}
 use Rattle.aom_cells.specs.Store.{Store}
 use Rattle.aom_clients.specs.Lists.{Table, empty as no_list}
@@ -47,7 +47,7 @@ first_sent cells c = all_same 64 c []
 
 first_sized : (cells : ℕ) → AreSized cells (at_first cells)
 unfolding at_first
-first_sized cells = record { places = length-replicate 1024 Free; queues = length-replicate {A = List Entry} cells []; sessions = length-replicate {A = List ℕ} cells [] }
+first_sized cells = record { places = length-replicate 1024 Free; queues = length-replicate {A = List QueueEntry} cells []; sessions = length-replicate {A = List ℕ} cells [] }
 
 first_many : (cells : ℕ) → length (at_first cells).clients ≡ 64
 unfolding at_first

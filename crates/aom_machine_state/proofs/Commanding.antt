@@ -9,11 +9,11 @@ use Rattle.aom_clients.specs.Clients as kept
 use Rattle.aom_clients.specs.Table.{row}
 use Rattle.aom_clients.specs.declared.client.Client.{Client}
 use Rattle.aom_clients.specs.declared.client.Client.TheVariants.{Closing, Connecting, Dead, Dying, Gone, Open, Unconnected}
-use Rattle.aom_clients.specs.declared.entry.Entry.{Entry}
-use Rattle.aom_clients.specs.declared.entry.Entry.TheVariants as entry
-use Rattle.aom_clients.specs.declared.place.Place.{Place}
-use Rattle.aom_clients.specs.declared.refusal.Refusal.{Refusal}
-use Rattle.aom_clients.specs.declared.refusal.Refusal.TheVariants.{ServerBusy}
+use Rattle.aom_clients.specs.declared.entry.QueueEntry.{QueueEntry}
+use Rattle.aom_clients.specs.declared.entry.QueueEntry.TheVariants as entry
+use Rattle.aom_clients.specs.declared.place.MessagePlace.{MessagePlace}
+use Rattle.aom_clients.specs.declared.refusal.CommandRefusal.{CommandRefusal}
+use Rattle.aom_clients.specs.declared.refusal.CommandRefusal.TheVariants.{ServerBusy}
 use Rattle.aom_clients.specs.declared.server.Server.{Server}
 use Rattle.aom_image.specs.Image.{Image}
 use Rattle.aom_image.specs.declared.method.Thing.{Thing}
@@ -32,7 +32,7 @@ use Rattle.aom_semantics.specs.Places.{Cell, Connect_of, Elsewhere, Object, Queu
 use Rattle.aom_semantics.specs.Servers.{asked_last, is_connect, is_from, is_queue, is_server, left_by, reserved, seats_taken, slots_taken, withdrawn}
 use Rattle.aom_semantics.specs.State.{State}
 use Rattle.aom_safety.specs.WellTyped.{WellTyped}
-use Rattle.aom_transcript.specs.declared.event.Command.TheVariants.{Close, Connect, Die, Send}
+use Rattle.aom_transcript.specs.declared.event.ClientCommand.TheVariants.{Close, Connect, Die, Send}
 use Rattle.aom_machine_state.proofs.Completing.{slots_so}
 use Rattle.aom_machine_state.proofs.Premises.{free_nowhere, messages_wait, queue_empty}
 use Rattle.aom_machine_state.proofs.Serving.{same_connecting, same_sent}
@@ -52,7 +52,7 @@ row_die x = grind arith
 
 -- ---- the seats of a server
 
-connects_counted : (places : List Place) (es : List Entry) → length (filter kept.is_connect es) ≡ length (filter is_connect (map (asked_by places) es))
+connects_counted : (places : List MessagePlace) (es : List QueueEntry) → length (filter kept.is_connect es) ≡ length (filter is_connect (map (asked_by places) es))
 connects_counted places [] = refl
 connects_counted places (entry.Connect c ∷ es) = ap suc (connects_counted places es)
 connects_counted places (_ ∷ es) = connects_counted places es
@@ -98,7 +98,7 @@ module _ (p : Image) (t : Typing) (wired : IsWired p) (s : State) (w : WellTyped
       slots k) (connecting p c s (refusal p c s (Connect class slots)) (asked_server p class s.cells) slots)) (sym (connect_refused p c s k same class slots))
       (go (refusal p c s (Connect class slots)) (asked_server p class s.cells) refl)
     where
-      go : (r : Option Refusal) (x : Option Listed) → asked_server p class s.cells ≡ x →
+      go : (r : Option CommandRefusal) (x : Option Listed) → asked_server p class s.cells ≡ x →
           After (kept.connecting r c (found_server (most_of (kind_of p (Some class))) x) slots k) (connecting p c s r x slots)
       go (Some r) x e = same
       go None None e = same
@@ -130,12 +130,12 @@ module _ (p : Image) (t : Typing) (wired : IsWired p) (s : State) (w : WellTyped
           never : (a : Bool) → cond (a && false) None (Some ServerBusy) ≡ None → ⊥
           never x e = grind arith
 
-          by : (r : Option Refusal) → cond
+          by : (r : Option CommandRefusal) → cond
               (nat_lt (slots_taken c s.cells) (slots_of (client_at s.clients c)) && nat_lt (count_messages s.cells) p.header.messages) None (Some ServerBusy)
               ≡ cond (nat_lt (slots_taken c s.cells) (slots_of (client_at s.clients c)) && false) None (Some ServerBusy) → room p c s r ≡ None → ⊥
           by x told e = grind arith
 
-      go : (r : Option Refusal) → refusal p c s (Send words) ≡ r →
+      go : (r : Option CommandRefusal) → refusal p c s (Send words) ≡ r →
           (x : Client) → kept.client_at k c ≡ x → (y : Option ℕ) → place ≡ y → After (kept.sending r x c y k) (sending p c s r (sessionless x) name words)
       go None e (Open n session slots) at (Some m) here =
           let o = server_open n session slots at in

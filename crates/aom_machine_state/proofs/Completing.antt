@@ -9,8 +9,8 @@ use Rattle.std.proofs.Math.ListN.{get_or-map}
 use Rattle.std.proofs.lemmas.List.{length-map}
 use Rattle.aom_clients.specs.Clients as kept
 use Rattle.aom_clients.specs.declared.client.Client.{Client}
-use Rattle.aom_clients.specs.declared.place.Place.{Place as Message_place}
-use Rattle.aom_clients.specs.declared.place.Place.TheVariants.{Free, Queued}
+use Rattle.aom_clients.specs.declared.place.MessagePlace.{MessagePlace}
+use Rattle.aom_clients.specs.declared.place.MessagePlace.TheVariants.{Free, Queued}
 use Rattle.aom_clients.specs.Table.{is_out_of, is_queued}
 use Rattle.aom_semantics.proofs.Maps.{read_unnamed, read_without, unnamed}
 use Rattle.aom_safety.proofs.Parting.{among_others, among_parted}
@@ -21,7 +21,7 @@ use Rattle.aom_machine_state.proofs.Serving.{asked_apart, at_set, names_apart, o
 use Rattle.aom_machine_state.specs.Serving.{Once, SameClients, asked_by, holds, message_name, owner_of, sent_by, waits_in}
 
 -- a message that waits still, where one place was freed
-pub queued_still : (b : Bool) (p : Message_place) (d : ℕ) → cond b Free p ≡ Queued d → (b ≡ false) × (p ≡ Queued d)
+pub queued_still : (b : Bool) (p : MessagePlace) (d : ℕ) → cond b Free p ≡ Queued d → (b ≡ false) × (p ≡ Queued d)
 queued_still b p d e = grind arith
 
 -- ---- lists without a message

@@ -10,9 +10,9 @@ use Rattle.aom_clients.specs.Clients as kept
 use Rattle.aom_clients.specs.Table.{at_gone}
 use Rattle.aom_clients.specs.declared.client.Client.{Client}
 use Rattle.aom_clients.specs.declared.client.Client.TheVariants.{Unconnected}
-use Rattle.aom_clients.specs.declared.entry.Entry.{Entry}
-use Rattle.aom_clients.specs.declared.entry.Entry.TheVariants.{Close, Connect, Message}
-use Rattle.aom_clients.specs.declared.place.Place.TheVariants.{Free}
+use Rattle.aom_clients.specs.declared.entry.QueueEntry.{QueueEntry}
+use Rattle.aom_clients.specs.declared.entry.QueueEntry.TheVariants.{Close, Connect, Message}
+use Rattle.aom_clients.specs.declared.place.MessagePlace.TheVariants.{Free}
 use Rattle.std.proofs.Math.ListN.{get_or-map}
 
 -- ---- lists with one place written
@@ -48,30 +48,30 @@ once_more x y z w = grind arith
 
 -- ---- the entries of its queue
 
-abbrev pub connects : ℕ → Entry → Bool
+abbrev pub connects : ℕ → QueueEntry → Bool
 connects c (Connect d) = d == c
 connects c _ = false
 
-abbrev pub is_at : ℕ → Entry → Bool
+abbrev pub is_at : ℕ → QueueEntry → Bool
 is_at m (Message k) = k == m
 is_at m _ = false
 
 -- places without those of the messages among these
-abbrev pub all_without : List Entry → List ℕ → List ℕ
+abbrev pub all_without : List QueueEntry → List ℕ → List ℕ
 all_without [] ms = ms
 all_without (Message m ∷ es) ms = all_without es (filter (λ n. not (n == m)) ms)
 all_without (_ ∷ es) ms = all_without es ms
 
 module _ (k : ℕ) where
   -- clients whose connects wait are unconnected
-  pub client_after_queue : (es : List Entry) (s : kept.State) (c : ℕ) → kept.client_at (kept.queue_gone k es s) c ≡ cond (list_any (connects c) es) Unconnected (kept.client_at s c)
+  pub client_after_queue : (es : List QueueEntry) (s : kept.State) (c : ℕ) → kept.client_at (kept.queue_gone k es s) c ≡ cond (list_any (connects c) es) Unconnected (kept.client_at s c)
   client_after_queue [] s c = refl
   client_after_queue (Connect d ∷ es) s c = grind (arith, nat_tests, client_after_queue es, at_set_none Unconnected s.clients d c, either)
   client_after_queue (Message m ∷ es) s c = client_after_queue es (kept.gone k (Message m ∷ es) s) c
   client_after_queue (Close d ∷ es) s c = client_after_queue es (kept.gone k (Close d ∷ es) s) c
 
   -- places whose messages wait are free
-  pub place_after_queue : (es : List Entry) (s : kept.State) (m : ℕ) → kept.place_at (kept.queue_gone k es s) m ≡ cond (list_any (is_at m) es) Free (kept.place_at s m)
+  pub place_after_queue : (es : List QueueEntry) (s : kept.State) (m : ℕ) → kept.place_at (kept.queue_gone k es s) m ≡ cond (list_any (is_at m) es) Free (kept.place_at s m)
   place_after_queue [] s m = refl
   place_after_queue (Connect d ∷ es) s m = place_after_queue es (kept.gone k (Connect d ∷ es) s) m
   place_after_queue (Message j ∷ es) s m = grind (arith, nat_tests, place_after_queue es, at_set_none Free s.places j m, either)
@@ -81,25 +81,25 @@ module _ (k : ℕ) where
   sent_completed : (m : ℕ) (s : kept.State) (c : ℕ) → kept.sent_at (kept.after_complete m s) c ≡ filter (λ n. not (n == m)) (kept.sent_at s c)
   sent_completed m s c = get_or-map (filter (λ n. not (n == m))) s.sent c []
 
-  pub sent_after_queue : (es : List Entry) (s : kept.State) (c : ℕ) → kept.sent_at (kept.queue_gone k es s) c ≡ all_without es (kept.sent_at s c)
+  pub sent_after_queue : (es : List QueueEntry) (s : kept.State) (c : ℕ) → kept.sent_at (kept.queue_gone k es s) c ≡ all_without es (kept.sent_at s c)
   sent_after_queue [] s c = refl
   sent_after_queue (Connect d ∷ es) s c = sent_after_queue es (kept.gone k (Connect d ∷ es) s) c
   sent_after_queue (Message m ∷ es) s c = grind (arith, nat_tests, sent_after_queue es, sent_completed m)
   sent_after_queue (Close d ∷ es) s c = sent_after_queue es (kept.gone k (Close d ∷ es) s) c
 
   -- the queue is empty, and all others are as they were
-  pub queue_after_queue : (es : List Entry) (s : kept.State) (n : ℕ) → k < length s.queues → kept.queue_at s k ≡ es → kept.queue_at (kept.queue_gone k es s) n ≡ cond (k == n) [] (kept.queue_at s n)
+  pub queue_after_queue : (es : List QueueEntry) (s : kept.State) (n : ℕ) → k < length s.queues → kept.queue_at s k ≡ es → kept.queue_at (kept.queue_gone k es s) n ≡ cond (k == n) [] (kept.queue_at s n)
   queue_after_queue [] s n small at = told_there k n (kept.queue_at s) [] at
   queue_after_queue (e ∷ es) s n small at =
       queue_after_queue es (kept.gone k (e ∷ es) s) n (subst (λ i. k < i) (sym (long e)) small) (now e k ∙ set_at_queue k ∙ ap (λ b. cond b es (kept.queue_at s k)) (eq-eqb k k refl))
       ∙ ap (λ x. cond (k == n) [] x) (now e n ∙ set_at_queue n) ∙ once_more (k == n) [] es (kept.queue_at s n)
     where
-      long : (e : Entry) → length (kept.gone k (e ∷ es) s).queues ≡ length s.queues
+      long : (e : QueueEntry) → length (kept.gone k (e ∷ es) s).queues ≡ length s.queues
       long (Connect d) = length-set s.queues k es
       long (Message m) = length-set s.queues k es
       long (Close d) = length-set s.queues k es
 
-      now : (e : Entry) (i : ℕ) → kept.queue_at (kept.gone k (e ∷ es) s) i ≡ kept.queue_at (kept.with_queue k es s) i
+      now : (e : QueueEntry) (i : ℕ) → kept.queue_at (kept.gone k (e ∷ es) s) i ≡ kept.queue_at (kept.with_queue k es s) i
       now (Connect d) i = refl
       now (Message m) i = refl
       now (Close d) i = refl
@@ -107,7 +107,7 @@ module _ (k : ℕ) where
       set_at_queue : (i : ℕ) → kept.queue_at (kept.with_queue k es s) i ≡ cond (k == i) es (kept.queue_at s i)
       set_at_queue i = at_set_or [] s.queues k i es (λ large. absurd (omega (arith, small, large)))
 
-  pub sessions_after_queue : (es : List Entry) (s : kept.State) → (kept.queue_gone k es s).sessions ≡ s.sessions
+  pub sessions_after_queue : (es : List QueueEntry) (s : kept.State) → (kept.queue_gone k es s).sessions ≡ s.sessions
   sessions_after_queue [] s = refl
   sessions_after_queue (Connect d ∷ es) s = sessions_after_queue es (kept.gone k (Connect d ∷ es) s)
   sessions_after_queue (Message m ∷ es) s = sessions_after_queue es (kept.gone k (Message m ∷ es) s)
@@ -161,7 +161,7 @@ module _ (k : ℕ) where
 
   -- ---- how many of each there are
 
-  pub lengths_after_queue : (es : List Entry) (s : kept.State) →
+  pub lengths_after_queue : (es : List QueueEntry) (s : kept.State) →
       (length (kept.queue_gone k es s).clients ≡ length s.clients) × (length (kept.queue_gone k es s).places ≡ length s.places) × (length (kept.queue_gone k es s).queues ≡ length s.queues)
       × (length (kept.queue_gone k es s).sent ≡ length s.sent)
   lengths_after_queue [] s = (refl, refl, refl, refl)

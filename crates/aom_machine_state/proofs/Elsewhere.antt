@@ -12,9 +12,9 @@ use Rattle.aom_clients.specs.Nodes.{is_leaving}
 use Rattle.aom_clients.specs.Table.{no_cell, server_of}
 use Rattle.aom_clients.specs.declared.client.Client.{Client}
 use Rattle.aom_clients.specs.declared.client.Client.TheVariants.{Closing, Connecting, Dead, Dying, Open, Unconnected}
-use Rattle.aom_clients.specs.declared.entry.Entry.{Entry}
-use Rattle.aom_clients.specs.declared.entry.Entry.TheVariants.{Message}
-use Rattle.aom_clients.specs.declared.place.Place.{Place as Message_place}
+use Rattle.aom_clients.specs.declared.entry.QueueEntry.{QueueEntry}
+use Rattle.aom_clients.specs.declared.entry.QueueEntry.TheVariants.{Message}
+use Rattle.aom_clients.specs.declared.place.MessagePlace.{MessagePlace}
 use Rattle.aom_frames.specs.declared.task.Task.{Task as Machine_task}
 use Rattle.aom_image.specs.Image.{Image}
 use Rattle.aom_image.specs.declared.method.Thing.TheVariants.{Message as A_message}
@@ -42,7 +42,7 @@ use Rattle.std.proofs.Math.ListN.{get_or-map}
 
 -- ---- what waits in a queue is told by what stands for the queues
 
-numbered_asked : (places : List Message_place) (m : ℕ) (es : List Entry) → list_any (is_numbered m) es ≡ list_any (is_message m) (map (asked_by places) es)
+numbered_asked : (places : List MessagePlace) (m : ℕ) (es : List QueueEntry) → list_any (is_numbered m) es ≡ list_any (is_message m) (map (asked_by places) es)
 numbered_asked places m [] = refl
 numbered_asked places m (Message k ∷ es) = ap (λ b. (message_name k == m) || b) (numbered_asked places m es)
 numbered_asked places m (_ ∷ es) = numbered_asked places m es
@@ -85,16 +85,16 @@ session_written others s' c k x sessions queues us h es r = elsewhere_written us
     other _ = refl
 
 -- the same is shown where no message goes
-shows_filtered : (stays : Entry → Bool) (m : ℕ) →
-    ((e : Entry) → stays e ≡ false → is_numbered m e ≡ false) → (es : List Entry) → list_any (is_numbered m) (filter stays es) ≡ list_any (is_numbered m) es
+shows_filtered : (stays : QueueEntry → Bool) (m : ℕ) →
+    ((e : QueueEntry) → stays e ≡ false → is_numbered m e ≡ false) → (es : List QueueEntry) → list_any (is_numbered m) (filter stays es) ≡ list_any (is_numbered m) es
 shows_filtered stays m apart [] = refl
 shows_filtered stays m apart (e ∷ es) = grind (arith, nat_tests, shows_filtered stays m apart es)
 
 -- no connect and no close is a message
-no_connect_shows : (c m : ℕ) (e : Entry) → kept.is_no_connect_of c e ≡ false → is_numbered m e ≡ false
+no_connect_shows : (c m : ℕ) (e : QueueEntry) → kept.is_no_connect_of c e ≡ false → is_numbered m e ≡ false
 no_connect_shows c m e gone = grind arith
 
-no_close_shows : (c m : ℕ) (e : Entry) → kept.is_no_close_of c e ≡ false → is_numbered m e ≡ false
+no_close_shows : (c m : ℕ) (e : QueueEntry) → kept.is_no_close_of c e ≡ false → is_numbered m e ≡ false
 no_close_shows c m e gone = grind arith
 
 -- a client is at something else
@@ -179,13 +179,13 @@ module _ (others : Others) (us : List Machine_task) (h : Heap) (es : List Item) 
 -- ---- a queue
 
 -- the queue of a server is another, by which one message comes or goes
-queue_written : (others : Others) (s' : kept.State) (k m x : ℕ) (to : List Entry) → ((n d : ℕ) →
+queue_written : (others : Others) (s' : kept.State) (k m x : ℕ) (to : List QueueEntry) → ((n d : ℕ) →
     session_with n (client_at s' d) ≡ session_with n (client_at others.clients d)) → ((n : ℕ) → queue_at s' n ≡ cond (k == n) to (queue_at others.clients n))
     → ((j : ℕ) → cond (list_any (is_numbered j) to) j null ≡ cond (m == j) x (cond (list_any (is_numbered j) (queue_at others.clients k)) j null))
     → (us : List Machine_task) (h : Heap) (es : List Item) (r : Place) → value_in us h es (record others { clients = s' }) r ≡ changed (value_in us h es others) (Elsewhere (Queued k m)) x r
 queue_written others s' k m x to sessions at here us h es r = elsewhere_written us h es others (record others { clients = s' }) (Queued k m) x other r
   where
-    number_at : List Entry → ℕ → ℕ
+    number_at : List QueueEntry → ℕ → ℕ
     number_at entries j = cond (list_any (is_numbered j) entries) j null
 
     same : (b : Bool) (y : ℕ) → cond b x y ≡ cond (true && b) x y
@@ -202,13 +202,13 @@ queue_written others s' k m x to sessions at here us h es r = elsewhere_written 
     other _ = refl
 
 -- the first of a queue is a message, which is taken
-pub message_taken : (others : Others) (k m : ℕ) (rest : List Entry) → k < length others.clients.queues → queue_at others.clients k ≡ Message m ∷ rest →
+pub message_taken : (others : Others) (k m : ℕ) (rest : List QueueEntry) → k < length others.clients.queues → queue_at others.clients k ≡ Message m ∷ rest →
     list_any (is_numbered (message_name m)) rest ≡ false → (us : List Machine_task) (h : Heap) (es : List Item) (r : Place) → value_in us h es
     (record others { clients = kept.after_next k others.clients }) r ≡ changed (value_in us h es others) (Elsewhere (Queued k (message_name m))) null r
 message_taken others k m rest small first once us h es r = grind (arith, nat_tests, queue_written others, at_set, eqb-true)
 
 -- anything else that is first is no message
-pub entry_taken : (others : Others) (k : ℕ) (e : Entry) (rest : List Entry) → k < length others.clients.queues → queue_at others.clients k ≡ e ∷ rest → ((j : ℕ) → is_numbered j e ≡ false)
+pub entry_taken : (others : Others) (k : ℕ) (e : QueueEntry) (rest : List QueueEntry) → k < length others.clients.queues → queue_at others.clients k ≡ e ∷ rest → ((j : ℕ) → is_numbered j e ≡ false)
     → (us : List Machine_task) (h : Heap) (es : List Item) (r : Place) → value_in us h es (record others { clients = kept.after_next k others.clients }) r ≡ value_in us h es others r
 entry_taken others k e rest small first none us h es r = grind (arith, nat_tests, eq-eqb, eqb-true k, at_set)
 

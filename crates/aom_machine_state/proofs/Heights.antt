@@ -5,8 +5,8 @@ use Rattle.aom_image.specs.Image.{Image}
 use Rattle.aom_shape.specs.Kinds.{register}
 use Rattle.aom_shape.specs.Shape.{Shape}
 use Rattle.aom_rules.specs.Typing.{Typing, shape_at}
-use Rattle.aom_shape.specs.declared.kind.Entry.{Entry as Pushed}
-use Rattle.aom_shape.specs.declared.kind.Entry.TheVariants.{Object as Pushed_object, Operation as Pushed_operation}
+use Rattle.aom_shape.specs.declared.kind.CleanupEntry.{CleanupEntry}
+use Rattle.aom_shape.specs.declared.kind.CleanupEntry.TheVariants.{Object as Pushed_object, Operation as Pushed_operation}
 use Rattle.aom_shape.specs.declared.kind.Kind.TheVariants.{Null}
 use Rattle.aom_safety.proofs.Claimed.{claim_entry_above, length_objects}
 use Rattle.aom_safety.proofs.Items.{length_forms}
@@ -74,12 +74,12 @@ stands_here p t s fr ts w at = method_layer (λ ls. (forms s.items ≡ items_of 
     })
 
 -- the items over a height are a method's own entries
-one_more : (es : List Pushed) (below : List Form) (i : Item) (items : List Item) → entries_in (i ∷ items) ≡ suc (entries_in items) →
+one_more : (es : List CleanupEntry) (below : List Form) (i : Item) (items : List Item) → entries_in (i ∷ items) ≡ suc (entries_in items) →
     forms items ≡ objects es below → entries_in items ≡ length es + entries_in (below_height (length below) items) →
     entries_in (i ∷ items) ≡ suc (length es) + entries_in (below_height (length below) (i ∷ items))
 one_more es below i items one same h = grind (arith, nat_tests, below_pushed, below, items, length_forms items, length_objects es below)
 
-pub own_entries : (es : List Pushed) (below : List Form) (items : List Item) → forms items ≡ objects es below → entries_in items ≡ length es + entries_in (below_height (length below) items)
+pub own_entries : (es : List CleanupEntry) (below : List Form) (items : List Item) → forms items ≡ objects es below → entries_in items ≡ length es + entries_in (below_height (length below) items)
 own_entries [] below items e = grind (arith, nat_tests, below_all, below, items, length_forms items)
 own_entries (Pushed_object c a ∷ es) below (An_object ∷ items) e =
     let same : forms items ≡ objects es below = cc in
@@ -90,7 +90,7 @@ own_entries (Pushed_operation ∷ es) below (An_operation m w ∷ items) e =
 own_entries _ below _ e = cc
 
 -- what a leave has still to unwind lies over its trap's mark
-left_over : (p : Image) (t : Typing) (cs : List Cell) (es : List Pushed) (ls : List Layer) (i : Item) (items : List Item) →
+left_over : (p : Image) (t : Typing) (cs : List Cell) (es : List CleanupEntry) (ls : List Layer) (i : Item) (items : List Item) →
     Stack p t cs Leaves ls → forms (i ∷ items) ≡ objects es (items_of ls) → AllLow (length items) (tasks_of ls)
 left_over p t cs (e ∷ es) ls i items s same =
     let rest : forms items ≡ objects es (items_of ls) = cc in

@@ -9,10 +9,10 @@ use Rattle.aom_clients.proofs.Steps.{queued-of}
 use Rattle.aom_clients.specs.Clients as kept
 use Rattle.aom_clients.specs.Table.{is_queued}
 use Rattle.aom_clients.specs.declared.client.Client.{Client}
-use Rattle.aom_clients.specs.declared.entry.Entry.{Entry}
-use Rattle.aom_clients.specs.declared.entry.Entry.TheVariants.{Message}
-use Rattle.aom_clients.specs.declared.place.Place.{Place}
-use Rattle.aom_clients.specs.declared.place.Place.TheVariants.{Queued}
+use Rattle.aom_clients.specs.declared.entry.QueueEntry.{QueueEntry}
+use Rattle.aom_clients.specs.declared.entry.QueueEntry.TheVariants.{Message}
+use Rattle.aom_clients.specs.declared.place.MessagePlace.{MessagePlace}
+use Rattle.aom_clients.specs.declared.place.MessagePlace.TheVariants.{Queued}
 use Rattle.aom_image.specs.Image.{Image}
 use Rattle.aom_roles.specs.Things.{is_object}
 use Rattle.aom_cells.specs.Store.{Store, count, message_at}
@@ -46,12 +46,12 @@ Taking p ms was left = (before after : Store) → ((m : ℕ) → is_among m ms �
 -- ---- places
 
 -- those of the messages among these entries
-abbrev pub places_in : List Entry → List ℕ
+abbrev pub places_in : List QueueEntry → List ℕ
 places_in [] = []
 places_in (Message m ∷ es) = m ∷ places_in es
 places_in (_ ∷ es) = places_in es
 
-pub among_places : (es : List Entry) (m : ℕ) → is_among m (places_in es) ≡ list_any (is_at m) es
+pub among_places : (es : List QueueEntry) (m : ℕ) → is_among m (places_in es) ≡ list_any (is_at m) es
 among_places [] m = refl
 among_places (Message k ∷ es) m = ap (λ b. (k == m) || b) (among_places es m)
 among_places (_ ∷ es) m = among_places es m
@@ -65,7 +65,7 @@ once_filtered test [] once = tt
 once_filtered test (m ∷ ms) once = grind (arith, nat_tests, once_filtered test ms once.1, among_filtered test ms m)
 
 -- no message waits twice
-once_asked : (clients : List Client) (n : ℕ) (places : List Place) (es : List Entry) → QueueFits clients n (map (asked_by places) es) → Once (places_in es)
+once_asked : (clients : List Client) (n : ℕ) (places : List MessagePlace) (es : List QueueEntry) → QueueFits clients n (map (asked_by places) es) → Once (places_in es)
 once_asked clients n places [] fits = tt
 once_asked clients n places (Message m ∷ es) fits = (among_places es m ∙ sym (asks_message places es m) ∙ fits.0.1, once_asked clients n places es fits.1)
 once_asked clients n places (_ ∷ es) fits = once_asked clients n places es fits.1

@@ -10,10 +10,10 @@ use Rattle.aom_clients.specs.Nodes.{is_connecting_at, is_leaving, is_open_at}
 use Rattle.aom_clients.specs.Table.{completion, is_queued, server_of}
 use Rattle.aom_clients.specs.declared.client.Client.{Client}
 use Rattle.aom_clients.specs.declared.client.Client.TheVariants.{Unconnected}
-use Rattle.aom_clients.specs.declared.entry.Entry.{Entry}
-use Rattle.aom_clients.specs.declared.entry.Entry.TheVariants.{Close, Connect, Message}
-use Rattle.aom_clients.specs.declared.place.Place.{Place}
-use Rattle.aom_clients.specs.declared.place.Place.TheVariants.{Free, Queued}
+use Rattle.aom_clients.specs.declared.entry.QueueEntry.{QueueEntry}
+use Rattle.aom_clients.specs.declared.entry.QueueEntry.TheVariants.{Close, Connect, Message}
+use Rattle.aom_clients.specs.declared.place.MessagePlace.{MessagePlace}
+use Rattle.aom_clients.specs.declared.place.MessagePlace.TheVariants.{Free, Queued}
 use Rattle.aom_image.specs.Image.{Image}
 use Rattle.aom_rules.specs.Typing.{Typing}
 use Rattle.aom_safety.proofs.ClientsCommand.{nobody, none_named}
@@ -83,7 +83,7 @@ opens clients n c m (Message_of d k ∷ q) fits h = grind (arith, nat_tests, ope
 opens clients n c m (_ ∷ q) fits h = opens clients n c m q fits.1 h
 
 -- all messages of a queue wait where each does
-waits_each : (places : List Place) (es : List Entry) → ((j : ℕ) → list_any (is_at j) es ≡ true → is_queued (slice_index_or places j Free) ≡ true) → AllWait places es
+waits_each : (places : List MessagePlace) (es : List QueueEntry) → ((j : ℕ) → list_any (is_at j) es ≡ true → is_queued (slice_index_or places j Free) ≡ true) → AllWait places es
 waits_each places [] h = tt
 waits_each places (Connect c ∷ es) h = waits_each places es h
 waits_each places (Close c ∷ es) h = waits_each places es h

@@ -10,10 +10,10 @@ use Rattle.aom_clients.specs.Nodes.{is_connecting_at}
 use Rattle.aom_clients.specs.Table.{is_queued, released}
 use Rattle.aom_clients.specs.declared.client.Client.{Client}
 use Rattle.aom_clients.specs.declared.client.Client.TheVariants.{Connecting, Dead, Unconnected}
-use Rattle.aom_clients.specs.declared.entry.Entry.{Entry}
-use Rattle.aom_clients.specs.declared.entry.Entry.TheVariants.{Message}
-use Rattle.aom_clients.specs.declared.place.Place.{Place}
-use Rattle.aom_clients.specs.declared.place.Place.TheVariants.{Queued}
+use Rattle.aom_clients.specs.declared.entry.QueueEntry.{QueueEntry}
+use Rattle.aom_clients.specs.declared.entry.QueueEntry.TheVariants.{Message}
+use Rattle.aom_clients.specs.declared.place.MessagePlace.{MessagePlace}
+use Rattle.aom_clients.specs.declared.place.MessagePlace.TheVariants.{Queued}
 use Rattle.aom_image.specs.Image.{Image}
 use Rattle.aom_rules.specs.Typing.{Typing}
 use Rattle.aom_semantics.proofs.Maps.{held_lives}
@@ -120,16 +120,16 @@ module _ (p : Image) (t : Typing) (wired : IsWired p) (s : State) (w : WellTyped
     queue_room : o.name < length k.queues
     queue_room = subst (λ n. o.name < n) (sym sized.queues) below
 
-    first_so : (e : Entry) (es : List Entry) → kept.queue_at k o.name ≡ e ∷ es → kept.after_next o.name k ≡ kept.taking e (kept.with_queue o.name es k)
+    first_so : (e : QueueEntry) (es : List QueueEntry) → kept.queue_at k o.name ≡ e ∷ es → kept.after_next o.name k ≡ kept.taking e (kept.with_queue o.name es k)
     first_so e es at = ap (λ l. kept.taken o.name l k) at
 
     -- a connect or a close
-    pub same_next : (e : Entry) (es : List Entry) →
+    pub same_next : (e : QueueEntry) (es : List QueueEntry) →
         kept.queue_at k o.name ≡ e ∷ es → ((m : ℕ) → e ≡ Message m → ⊥) → SameClients (kept.after_next o.name k) (reserved taken_first o.name s.cells) s.clients
     same_next e es at other = grind (arith, nat_tests, first_so e es at, same_taken k s.cells s.clients same o lives 0, queue_room)
 
     -- a message, which goes into service
-    pub same_attended : (m : ℕ) (es : List Entry) → kept.queue_at k o.name ≡ Message m ∷ es → m < 1024 →
+    pub same_attended : (m : ℕ) (es : List QueueEntry) → kept.queue_at k o.name ≡ Message m ∷ es → m < 1024 →
         SameClients (kept.after_next o.name k) (moved (Elsewhere (Waits_at o.name (message_name m))) (Elsewhere In_service) (reserved taken_first o.name s.cells)) s.clients
     same_attended m es at small =
         subst (λ n. SameClients n (moved (Elsewhere (Waits_at o.name (message_name m))) (Elsewhere In_service) (reserved taken_first o.name s.cells)) s.clients) (sym (first_so (Message m) es at))
@@ -145,5 +145,5 @@ module _ (p : Image) (t : Typing) (wired : IsWired p) (s : State) (w : WellTyped
         who : (by : ℕ) × (kept.place_at k m ≡ Queued by)
         who = go (kept.place_at k m) refl waiting
           where
-            go : (x : Place) → kept.place_at k m ≡ x → is_queued x ≡ true → (by : ℕ) × (kept.place_at k m ≡ Queued by)
+            go : (x : MessagePlace) → kept.place_at k m ≡ x → is_queued x ≡ true → (by : ℕ) × (kept.place_at k m ≡ Queued by)
             go x e h = grind arith

@@ -12,10 +12,10 @@ use Rattle.aom_image.specs.declared.method.Thing.TheVariants.{Message as A_messa
 use Rattle.aom_clients.specs.Clients as kept
 use Rattle.aom_clients.specs.declared.client.Client.{Client}
 use Rattle.aom_clients.specs.declared.client.Client.TheVariants.{Connecting, Open, Unconnected}
-use Rattle.aom_clients.specs.declared.entry.Entry.{Entry}
-use Rattle.aom_clients.specs.declared.entry.Entry.TheVariants.{Connect, Message, Close}
-use Rattle.aom_clients.specs.declared.place.Place.{Place}
-use Rattle.aom_clients.specs.declared.place.Place.TheVariants.{Free, Held, Queued}
+use Rattle.aom_clients.specs.declared.entry.QueueEntry.{QueueEntry}
+use Rattle.aom_clients.specs.declared.entry.QueueEntry.TheVariants.{Connect, Message, Close}
+use Rattle.aom_clients.specs.declared.place.MessagePlace.{MessagePlace}
+use Rattle.aom_clients.specs.declared.place.MessagePlace.TheVariants.{Free, Held, Queued}
 use Rattle.aom_clients.specs.Table.{held_place, is_out_of, is_queued, sender}
 use Rattle.aom_safety.proofs.ClientsFit.{by_server}
 use Rattle.aom_semantics.proofs.Altering.{Reads, moving, read_kept, read_so, serving}
@@ -53,13 +53,13 @@ once_last [] m once none = (refl, tt)
 once_last (k ∷ ms) m once none = grind (arith, nat_tests, front_false (k == m), list_any-append, ne_eqb m k, eq-eqb k m, or_false, once_last ms m once.1)
 
 -- where no connect of the client waits, none leaves the queue, and so of its close
-no_connects : (places : List Place) (c : ℕ) (es : List Entry) → list_any (is_connect_of c) (map (asked_by places) es) ≡ false → filter (kept.is_no_connect_of c) es ≡ es
+no_connects : (places : List MessagePlace) (c : ℕ) (es : List QueueEntry) → list_any (is_connect_of c) (map (asked_by places) es) ≡ false → filter (kept.is_no_connect_of c) es ≡ es
 no_connects places c [] none = refl
 no_connects places c (Connect d ∷ es) none = grind (arith, nat_tests, front_false (d == c), no_connects places c es)
 no_connects places c (Message m ∷ es) none = ap (λ l. Message m ∷ l) (no_connects places c es none)
 no_connects places c (Close d ∷ es) none = ap (λ l. Close d ∷ l) (no_connects places c es none)
 
-no_closes : (places : List Place) (c : ℕ) (es : List Entry) → list_any (is_close_of c) (map (asked_by places) es) ≡ false → filter (kept.is_no_close_of c) es ≡ es
+no_closes : (places : List MessagePlace) (c : ℕ) (es : List QueueEntry) → list_any (is_close_of c) (map (asked_by places) es) ≡ false → filter (kept.is_no_close_of c) es ≡ es
 no_closes places c [] none = refl
 no_closes places c (Connect d ∷ es) none = ap (λ l. Connect d ∷ l) (no_closes places c es none)
 no_closes places c (Message m ∷ es) none = ap (λ l. Message m ∷ l) (no_closes places c es none)
@@ -99,7 +99,7 @@ module _ (cs : List Cell) (o : Object) (lives : named cs o.name ≡ Some o) (f :
 
 -- ---- the place of a message changes, and its sender is as it was
 
-asked_placed : (places : List Place) (m : ℕ) (p : Place) → m < length places → sender p ≡ sender (slice_index_or places m Free) → (e : Entry) → asked_by (slice_set places m p) e ≡ asked_by places e
+asked_placed : (places : List MessagePlace) (m : ℕ) (p : MessagePlace) → m < length places → sender p ≡ sender (slice_index_or places m Free) → (e : QueueEntry) → asked_by (slice_set places m p) e ≡ asked_by places e
 asked_placed places m p small same x = grind (arith, nat_tests, at_set Free places m, eqb-true m)
 
 map_alike : {A B : Type 0} (f g : A → B) → ((x : A) → f x ≡ g x) → (xs : List A) → map f xs ≡ map g xs
@@ -111,7 +111,7 @@ pub names_apart : (m j : ℕ) → (m == j) ≡ false → (message_name m == mess
 names_apart m j other = ne_eqb (message_name m) (message_name j) (λ same. false≢true (sym other ∙ eq-eqb m j (omega (arith, same))))
 
 -- what waits in queues is of the same clients where no message of that place is among it
-pub asked_apart : (places : List Place) (m : ℕ) (p : Place) → m < length places → (es : List Entry) →
+pub asked_apart : (places : List MessagePlace) (m : ℕ) (p : MessagePlace) → m < length places → (es : List QueueEntry) →
     list_any (is_message (message_name m)) (map (asked_by places) es) ≡ false → map (asked_by (slice_set places m p)) es ≡ map (asked_by places) es
 asked_apart places m p small [] none = refl
 asked_apart places m p small (Connect c ∷ es) none = ap (λ l. Connect_of c ∷ l) (asked_apart places m p small es none)
@@ -130,7 +130,7 @@ owner_moved cs a b n = read_so (moving a b) owners n (moved_from a b) cs (λ c i
 
 -- ---- the places that are taken
 
-taken_by : (slot : Bool) (x : Place) → is_some (sent_by slot x) ≡ is_taken x
+taken_by : (slot : Bool) (x : MessagePlace) → is_some (sent_by slot x) ≡ is_taken x
 taken_by slot x = grind arith
 
 -- are those whose message has a sender
@@ -146,7 +146,7 @@ slots_of s cs clients same c m = grind (arith, nat_tests, eqb-true)
 -- ---- a client is at something else, and nothing is asked
 
 -- clients are at other things, and what waits is told alike
-pub listed_as : (s : kept.State) (cs : List Cell) (clients after xs : List Client) (queues : List (List Entry)) →
+pub listed_as : (s : kept.State) (cs : List Cell) (clients after xs : List Client) (queues : List (List QueueEntry)) →
     SameClients s cs clients → ((c : ℕ) → sessionless (slice_index_or xs c Unconnected) ≡ client_at after c) →
     ((n : ℕ) → map (asked_by s.places) (slice_index_or queues n []) ≡ (service_of cs n).queue) → length xs ≡ length s.clients → SameClients (record s { clients = xs; queues = queues }) cs after
 listed_as s cs clients after xs queues same at waits long = let many = long ∙ same.many in assumption many
@@ -163,7 +163,7 @@ module _ (s : kept.State) (cs : List Cell) (clients : List Client) (same : SameC
 
   -- what the server has changes, but not whose message it is
   served_as : (f : Service → Service) → ((v : Service) → (f v).sender ≡ v.sender) → (after xs : List Client)
-      (queues : List (List Entry)) (sessions : List (List ℕ)) → ((d : ℕ) → sessionless (slice_index_or xs d Unconnected) ≡ client_at after d) →
+      (queues : List (List QueueEntry)) (sessions : List (List ℕ)) → ((d : ℕ) → sessionless (slice_index_or xs d Unconnected) ≡ client_at after d) →
       ((n : ℕ) → map (asked_by s.places) (slice_index_or queues n []) ≡ (service_of (reserved f o.name cs) n).queue) →
       ((n : ℕ) → slice_index_or sessions n [] ≡ (service_of (reserved f o.name cs) n).sessions) → length xs ≡ length s.clients →
       SameClients (record s { clients = xs; queues = queues; sessions = sessions }) (reserved f o.name cs) after
@@ -201,7 +201,7 @@ module _ (s : kept.State) (cs : List Cell) (clients : List Client) (same : SameC
   -- ---- the first of a queue is taken
 
   -- a connect or a close; of a message its place changes too
-  module _ (e : Entry) (es : List Entry) (at : kept.queue_at s o.name ≡ e ∷ es) (queue : o.name < length s.queues) where
+  module _ (e : QueueEntry) (es : List QueueEntry) (at : kept.queue_at s o.name ≡ e ∷ es) (queue : o.name < length s.queues) where
     first_asked : (service_of cs o.name).queue ≡ asked_by s.places e ∷ map (asked_by s.places) es
     first_asked = sym (same.queues o.name) ∙ ap (λ l. map (asked_by s.places) l) at
 
@@ -253,7 +253,7 @@ module _ (s : kept.State) (cs : List Cell) (clients : List Client) (same : SameC
 
   -- ---- the first of a queue is a message, which is served
 
-  module _ (m : ℕ) (es : List Entry) (at : kept.queue_at s o.name ≡ Message m ∷ es)
+  module _ (m : ℕ) (es : List QueueEntry) (at : kept.queue_at s o.name ≡ Message m ∷ es)
       (queue : o.name < length s.queues) (place : m < length s.places) (by : ℕ) (waiting : kept.place_at s m ≡ Queued by) where
     abbrev from : Owner
     from = Elsewhere (Waits_at o.name (message_name m))
@@ -267,7 +267,7 @@ module _ (s : kept.State) (cs : List Cell) (clients : List Client) (same : SameC
     held_now : held_place (kept.place_at s m) ≡ Held by
     held_now = ap held_place waiting
 
-    of_same : (e : Entry) → asked_by taken.places e ≡ asked_by s.places e
+    of_same : (e : QueueEntry) → asked_by taken.places e ≡ asked_by s.places e
     of_same e = asked_placed s.places m (held_place (kept.place_at s m)) place (ap sender held_now ∙ sym (ap sender waiting)) e
 
     -- its cell moves, and no other
@@ -330,7 +330,7 @@ module _ (s : kept.State) (cs : List Cell) (clients : List Client) (same : SameC
     sent_of d = at_set [] s.sent c d (kept.sent_at s c ++ m ∷ []) listed
 
     -- what is told of the place that is taken, and of all others
-    told_new : {A B : Type 0} (f : Place → A) (g : B → A) (j : ℕ) (x y : B) →
+    told_new : {A B : Type 0} (f : MessagePlace → A) (g : B → A) (j : ℕ) (x y : B) →
         f (Queued c) ≡ g x → ((m == j) ≡ false → f (kept.place_at s j) ≡ g y) → f (kept.place_at sent j) ≡ g (cond (message_name m == message_name j) x y)
     told_new f g j x y here others = grind (arith, nat_tests, places_at j, eq-eqb, eqb-true m j, names_apart m j)
 
@@ -341,7 +341,7 @@ module _ (s : kept.State) (cs : List Cell) (clients : List Client) (same : SameC
     senders_after : (j : ℕ) → sent_by (holds sent j) (kept.place_at sent j) ≡ (service_of (message ∷ behind) (message_name j)).sender
     senders_after j = ap (λ x. sent_by (is_among j (kept.sent_at sent (sender x))) x) (places_at j) ∙ go (m == j) refl
       where
-        still : (x : Place) → (m == j) ≡ false → is_among j (kept.sent_at sent (sender x)) ≡ is_among j (kept.sent_at s (sender x))
+        still : (x : MessagePlace) → (m == j) ≡ false → is_among j (kept.sent_at sent (sender x)) ≡ is_among j (kept.sent_at s (sender x))
         still x other = ap (λ l. is_among j l) (sent_of (sender x)) ∙ by (c == sender x) refl
           where
             by : (b : Bool) → (c == sender x) ≡ b → is_among j (cond b (kept.sent_at s c ++ m ∷ []) (kept.sent_at s (sender x))) ≡ is_among j (kept.sent_at s (sender x))

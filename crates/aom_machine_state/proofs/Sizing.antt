@@ -7,8 +7,8 @@ use Rattle.aom_clients.specs.Clients as kept
 use Rattle.aom_clients.specs.Table.{row}
 use Rattle.aom_clients.specs.declared.client.Client.{Client}
 use Rattle.aom_clients.specs.declared.client.Client.TheVariants.{Closing, Connecting, Dead, Dying, Open, Unconnected}
-use Rattle.aom_clients.specs.declared.entry.Entry.TheVariants.{Close}
-use Rattle.aom_clients.specs.declared.place.Place.TheVariants.{Free}
+use Rattle.aom_clients.specs.declared.entry.QueueEntry.TheVariants.{Close}
+use Rattle.aom_clients.specs.declared.place.MessagePlace.TheVariants.{Free}
 use Rattle.aom_clients.specs.declared.server.Server.{Server}
 use Rattle.aom_machine_state.proofs.Departing.{lengths_after_queue, lengths_after_sessions, sessions_after_queue, places_after_sessions, queues_after_sessions}
 use Rattle.aom_machine_state.specs.Serving.{AreSized}

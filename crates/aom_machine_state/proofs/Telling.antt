@@ -5,12 +5,12 @@ use Rattle.std.specs.Prelude.{flat_map, map}
 use Rattle.aom_clients.specs.Clients as kept
 use Rattle.aom_clients.specs.Table.{code_of, completion, is_queued, sender}
 use Rattle.aom_clients.specs.declared.client.Client.{Client}
-use Rattle.aom_clients.specs.declared.entry.Entry.{Entry}
-use Rattle.aom_clients.specs.declared.entry.Entry.TheVariants.{Close, Connect, Message}
+use Rattle.aom_clients.specs.declared.entry.QueueEntry.{QueueEntry}
+use Rattle.aom_clients.specs.declared.entry.QueueEntry.TheVariants.{Close, Connect, Message}
 use Rattle.aom_clients.specs.declared.place.Completion.{Completion}
-use Rattle.aom_clients.specs.declared.place.Place.{Place}
-use Rattle.aom_clients.specs.declared.place.Place.TheVariants.{Free}
-use Rattle.aom_clients.specs.declared.refusal.Refusal.TheVariants.{ServerTerminated}
+use Rattle.aom_clients.specs.declared.place.MessagePlace.{MessagePlace}
+use Rattle.aom_clients.specs.declared.place.MessagePlace.TheVariants.{Free}
+use Rattle.aom_clients.specs.declared.refusal.CommandRefusal.TheVariants.{ServerTerminated}
 use Rattle.aom_semantics.specs.Lines.{ended_line, message_line, queue_lines, told_line}
 use Rattle.aom_semantics.specs.Places.{Cell, Object, service_of}
 use Rattle.aom_transcript.specs.declared.line.Line.{Line}
@@ -24,12 +24,12 @@ completed_lines code None = []
 completed_lines code (Some c) = cond c.is_told (Reply c.client code) (Discard c.client code) ∷ []
 
 -- what a client is told of an entry as its server goes
-abbrev pub gone_lines : List Place → Entry → List Line
+abbrev pub gone_lines : List MessagePlace → QueueEntry → List Line
 gone_lines places (Connect c) = Reply c (code_of ServerTerminated) ∷ []
 gone_lines places (Message m) = Reply (sender (slice_index_or places m Free)) (code_of ServerTerminated) ∷ []
 gone_lines places (Close c) = []
 
-told_place : (code : ℤ) (slot : Bool) (x : Place) → is_queued x ≡ false → told_line code (sent_by slot x) ≡ completed_lines code (completion x)
+told_place : (code : ℤ) (slot : Bool) (x : MessagePlace) → is_queued x ≡ false → told_line code (sent_by slot x) ≡ completed_lines code (completion x)
 told_place code slot x e = grind arith
 
 module _ (k : kept.State) (cs : List Cell) (clients : List Client) (same : SameClients k cs clients) where
@@ -42,7 +42,7 @@ module _ (k : kept.State) (cs : List Cell) (clients : List Client) (same : SameC
       told_line (code_of ServerTerminated) (service_of cs (message_name m)).sender ≡ Reply (sender (kept.place_at k m)) (code_of ServerTerminated) ∷ []
   waiting_told m waits = grind (arith, nat_tests)
 
-  entries_told : (es : List Entry) → AllWait k.places es → flat_map (ended_line cs) (map (asked_by k.places) es) ≡ flat_map (gone_lines k.places) es
+  entries_told : (es : List QueueEntry) → AllWait k.places es → flat_map (ended_line cs) (map (asked_by k.places) es) ≡ flat_map (gone_lines k.places) es
   entries_told [] waits = refl
   entries_told (Connect c ∷ es) waits = ap (λ l. Reply c (code_of ServerTerminated) ∷ l) (entries_told es waits)
   entries_told (Message m ∷ es) waits = grind (arith, nat_tests, waiting_told m waits.0, entries_told es waits.1)

@@ -9,10 +9,10 @@ use Rattle.aom_clients.specs.Clients as kept
 use Rattle.aom_clients.specs.Table.{at_gone, is_out_of, is_queued, sender}
 use Rattle.aom_clients.specs.declared.client.Client.{Client}
 use Rattle.aom_clients.specs.declared.client.Client.TheVariants.{Unconnected}
-use Rattle.aom_clients.specs.declared.entry.Entry.{Entry}
-use Rattle.aom_clients.specs.declared.entry.Entry.TheVariants.{Close, Connect, Message}
-use Rattle.aom_clients.specs.declared.place.Place.{Place}
-use Rattle.aom_clients.specs.declared.place.Place.TheVariants.{Free, Queued}
+use Rattle.aom_clients.specs.declared.entry.QueueEntry.{QueueEntry}
+use Rattle.aom_clients.specs.declared.entry.QueueEntry.TheVariants.{Close, Connect, Message}
+use Rattle.aom_clients.specs.declared.place.MessagePlace.{MessagePlace}
+use Rattle.aom_clients.specs.declared.place.MessagePlace.TheVariants.{Free, Queued}
 use Rattle.aom_safety.proofs.ClientsGone.{gone_so, goes_with, queue_ended_at, sessions_ended_at}
 use Rattle.aom_safety.proofs.Unslotting.{service_unslotted}
 use Rattle.aom_semantics.proofs.Altering.{read_kept, unslotting}
@@ -61,7 +61,7 @@ lost_some (c ∷ xs) d slot told = ap (λ m. lost xs (Some m)) (first (d == c)) 
     both : (a b b' : Bool) → b ≡ b' → cond a false (cond b false slot) ≡ cond (b' || a) false slot
     both a x y e = grind arith
 
-lost_sent : (xs : List ℕ) (slot : Bool) (p : Place) → lost xs (sent_by slot p) ≡ sent_by (cond (is_among (sender p) xs) false slot) p
+lost_sent : (xs : List ℕ) (slot : Bool) (p : MessagePlace) → lost xs (sent_by slot p) ≡ sent_by (cond (is_among (sender p) xs) false slot) p
 lost_sent xs slot x = grind (arith, nat_tests, lost_none xs, lost_some xs)
 
 lost_slot : (xs : List ℕ) (d : ℕ) (m : Option Sender) → holds_slot d (lost xs m) ≡ cond (is_among d xs) false (holds_slot d m)
@@ -98,18 +98,18 @@ each_cell P (c ∷ cs) t h =
 pub names_same : (k j : ℕ) → (message_name k == message_name j) ≡ (k == j)
 names_same k j = grind (arith, nat_tests, eq-eqb, eqb-true k j, names_apart k j)
 
-pub asks_message : (places : List Place) (es : List Entry) (j : ℕ) → list_any (is_message (message_name j)) (map (asked_by places) es) ≡ list_any (is_at j) es
+pub asks_message : (places : List MessagePlace) (es : List QueueEntry) (j : ℕ) → list_any (is_message (message_name j)) (map (asked_by places) es) ≡ list_any (is_at j) es
 asks_message places [] j = refl
 asks_message places (Message k ∷ es) j = grind (arith, nat_tests, names_same k j, asks_message places es j)
 asks_message places (_ ∷ es) j = asks_message places es j
 
-pub asks_connect : (places : List Place) (es : List Entry) (c : ℕ) → list_any (is_connect_of c) (map (asked_by places) es) ≡ list_any (connects c) es
+pub asks_connect : (places : List MessagePlace) (es : List QueueEntry) (c : ℕ) → list_any (is_connect_of c) (map (asked_by places) es) ≡ list_any (connects c) es
 asks_connect places [] c = refl
 asks_connect places (Connect d ∷ es) c = ap (λ b. (d == c) || b) (asks_connect places es c)
 asks_connect places (_ ∷ es) c = asks_connect places es c
 
 -- the same is asked where the senders of its messages are the same
-asked_alike : (places places' : List Place) (es : List Entry) → ((m : ℕ) → list_any (is_at m) es ≡ true →
+asked_alike : (places places' : List MessagePlace) (es : List QueueEntry) → ((m : ℕ) → list_any (is_at m) es ≡ true →
     sender (slice_index_or places' m Free) ≡ sender (slice_index_or places m Free)) → map (asked_by places') es ≡ map (asked_by places) es
 asked_alike places places' [] same = refl
 asked_alike places places' (Connect c ∷ es) same = ap (λ l. Connect_of c ∷ l) (asked_alike places places' es same)
@@ -118,12 +118,12 @@ asked_alike places places' (Message k ∷ es) same = grind (arith, nat_tests, is
 
 -- ---- slots without messages
 
-among_without : (es : List Entry) (ms : List ℕ) (j : ℕ) → is_among j (all_without es ms) ≡ cond (list_any (is_at j) es) false (is_among j ms)
+among_without : (es : List QueueEntry) (ms : List ℕ) (j : ℕ) → is_among j (all_without es ms) ≡ cond (list_any (is_at j) es) false (is_among j ms)
 among_without [] ms j = refl
 among_without (Message k ∷ es) ms j = grind (arith, nat_tests, among_without es, is_at j, eqb-true k j, among_parted k ms, among_others j k ms)
 among_without (_ ∷ es) ms j = among_without es ms j
 
-once_after : (es : List Entry) (ms : List ℕ) → Once ms → Once (all_without es ms)
+once_after : (es : List QueueEntry) (ms : List ℕ) → Once ms → Once (all_without es ms)
 once_after [] ms once = once
 once_after (Message k ∷ es) ms once = once_after es (filter (is_other k) ms) (once_without k ms once)
 once_after (_ ∷ es) ms once = once_after es ms once
@@ -152,7 +152,7 @@ module _ (s : kept.State) (cs : List Cell) (clients : List Client) (same : SameC
   abbrev k : ℕ
   k = o.name
 
-  abbrev es : List Entry
+  abbrev es : List QueueEntry
   es = kept.queue_at s k
 
   abbrev xs : List ℕ
@@ -290,7 +290,7 @@ module _ (s : kept.State) (cs : List Cell) (clients : List Client) (same : SameC
   senders_then j = grind (arith, nat_tests, place_then j, sender_left j, lost_none, among_then, lost_sent)
 
   -- what is told of a place is told no more where its message goes
-  place_told : (f : Place → Bool) → f Free ≡ false → (j : ℕ) → f (kept.place_at then j) ≡ cond (goes j) false (f (kept.place_at s j))
+  place_told : (f : MessagePlace → Bool) → f Free ≡ false → (j : ℕ) → f (kept.place_at then j) ≡ cond (goes j) false (f (kept.place_at s j))
   place_told f free j = grind (arith, nat_tests, place_then j)
 
   waits_then : (j : ℕ) → is_queued (kept.place_at then j) ≡ waits_in (owner_of left (message_name j))

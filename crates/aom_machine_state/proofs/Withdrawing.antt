@@ -10,10 +10,10 @@ use Rattle.aom_clients.specs.Clients as kept
 use Rattle.aom_clients.specs.declared.client.Client.{Client}
 use Rattle.aom_clients.specs.declared.client.Client.TheVariants.{Open}
 use Rattle.aom_image.specs.Image.{Image}
-use Rattle.aom_clients.specs.declared.entry.Entry.{Entry}
-use Rattle.aom_clients.specs.declared.entry.Entry.TheVariants.{Connect, Message, Close}
-use Rattle.aom_clients.specs.declared.place.Place.{Place}
-use Rattle.aom_clients.specs.declared.place.Place.TheVariants.{Free, Queued}
+use Rattle.aom_clients.specs.declared.entry.QueueEntry.{QueueEntry}
+use Rattle.aom_clients.specs.declared.entry.QueueEntry.TheVariants.{Connect, Message, Close}
+use Rattle.aom_clients.specs.declared.place.MessagePlace.{MessagePlace}
+use Rattle.aom_clients.specs.declared.place.MessagePlace.TheVariants.{Free, Queued}
 use Rattle.aom_clients.specs.Table.{is_out_of, is_queued, is_waiting_of, sender}
 use Rattle.aom_safety.proofs.Sifted.{cell_of, cell_of_sifted, kept as left_cell, service_cell, service_in, withdrawn_so}
 use Rattle.aom_semantics.specs.Places.{Asked, Cell, Close_of, Connect_of, Elsewhere, Object, Place as Owner}
@@ -62,11 +62,11 @@ module _ (c : ℕ) where
   remains goes x = cond goes None (discarded c x)
 
   -- of a message at that place
-  sender_left : (slot slot' : Bool) (p : Place) → ((d : ℕ) → sender p ≡ d → (d == c) ≡ false → slot' ≡ slot) → (is_queued p ≡ false → (d : ℕ) → sender p ≡ d → (d == c) ≡ true → slot' ≡ false) →
+  sender_left : (slot slot' : Bool) (p : MessagePlace) → ((d : ℕ) → sender p ≡ d → (d == c) ≡ false → slot' ≡ slot) → (is_queued p ≡ false → (d : ℕ) → sender p ≡ d → (d == c) ≡ true → slot' ≡ false) →
       sent_by slot' (kept.left_place c p) ≡ remains (is_queued p && is_from c (sent_by slot p)) (sent_by slot p)
   sender_left slot slot' x other own = grind arith
 
-  queued_left : (slot : Bool) (p : Place) → is_queued (kept.left_place c p) ≡ cond (is_queued p && is_from c (sent_by slot p)) false (is_queued p)
+  queued_left : (slot : Bool) (p : MessagePlace) → is_queued (kept.left_place c p) ≡ cond (is_queued p && is_from c (sent_by slot p)) false (is_queued p)
   queued_left slot p = grind (arith, nat_tests)
 
   -- what slots it held of a client: none of this one's any more
@@ -78,38 +78,38 @@ module _ (c : ℕ) where
   slot_then d x none = grind (arith, nat_tests, slot_left)
 
   -- what is at a place that another client's message has, and whose it is
-  left_other : (p : Place) → (sender p == c) ≡ false → kept.left_place c p ≡ p
+  left_other : (p : MessagePlace) → (sender p == c) ≡ false → kept.left_place c p ≡ p
   left_other p e = grind (arith, nat_tests)
 
-  left_queued : (p : Place) (d : ℕ) → kept.left_place c p ≡ Queued d → (p ≡ Queued d) × ((d == c) ≡ false)
+  left_queued : (p : MessagePlace) (d : ℕ) → kept.left_place c p ≡ Queued d → (p ≡ Queued d) × ((d == c) ≡ false)
   left_queued p d e = grind (arith, nat_tests)
 
-  left_out : (p : Place) (d : ℕ) → (c == d) ≡ false → is_out_of d p ≡ true → is_out_of d (kept.left_place c p) ≡ true
+  left_out : (p : MessagePlace) (d : ℕ) → (c == d) ≡ false → is_out_of d p ≡ true → is_out_of d (kept.left_place c p) ≡ true
   left_out p d other out = grind (arith, nat_tests, eqb-true)
 
-  left_own : (p : Place) → is_queued p ≡ false → sender (kept.left_place c p) ≡ sender p
+  left_own : (p : MessagePlace) → is_queued p ≡ false → sender (kept.left_place c p) ≡ sender p
   left_own x e = grind arith
 
-  waits_of : (p : Place) → is_queued p ≡ true → is_waiting_of c p ≡ (sender p == c)
+  waits_of : (p : MessagePlace) → is_queued p ≡ true → is_waiting_of c p ≡ (sender p == c)
   waits_of x e = grind arith
 
 -- ---- what waits in a queue
 
 -- the messages in it wait
-abbrev pub AllWait : List Place → List Entry → Type 0
+abbrev pub AllWait : List MessagePlace → List QueueEntry → Type 0
 AllWait places [] = Unit {0}
 AllWait places (Message j ∷ es) = (is_queued (slice_index_or places j Free) ≡ true) × AllWait places es
 AllWait places (_ ∷ es) = AllWait places es
 
-module _ (c : ℕ) (places : List Place) where
-  abbrev places' : List Place
+module _ (c : ℕ) (places : List MessagePlace) where
+  abbrev places' : List MessagePlace
   places' = map (λ p. kept.left_place c p) places
 
-  step : (b : Bool) (e : Entry) (r : List Entry) (a : Asked) (q : List Asked) →
+  step : (b : Bool) (e : QueueEntry) (r : List QueueEntry) (a : Asked) (q : List Asked) →
       map (asked_by places') r ≡ q → (b ≡ true → asked_by places' e ≡ a) → map (asked_by places') (cond b (e ∷ r) r) ≡ cond b (a ∷ q) q
   step x e r a q ih h = grind arith
 
-  entries_left : (es : List Entry) → AllWait places es → map (asked_by places') (filter (λ e. kept.stays c places e) es) ≡ filter (stays c) (map (asked_by places) es)
+  entries_left : (es : List QueueEntry) → AllWait places es → map (asked_by places') (filter (λ e. kept.stays c places e) es) ≡ filter (stays c) (map (asked_by places) es)
   entries_left [] waits = refl
   entries_left (Connect d ∷ es) waits = step (not (d == c)) (Connect d) (filter (λ e. kept.stays c places e) es) (Connect_of d) _ (entries_left es waits) (λ h. refl)
   entries_left (Close d ∷ es) waits = ap (λ l. Close_of d ∷ l) (entries_left es waits)
@@ -164,7 +164,7 @@ module _ (s : kept.State) (cs : List Cell) (clients : List Client) (same : SameC
   goes_so : (j : ℕ) (x : Cell) → cell_of cs (message_name j) ≡ Some x → (is_queued (kept.place_at s j) && is_from c (sent_by (holds s j) (kept.place_at s j))) ≡ drops c x
   goes_so j x at = grind (arith, nat_tests, waits_told j (Some x) at, sender_told j (Some x) at)
 
-  none_goes : (p : Place) (slot : Bool) → sent_by slot p ≡ None → (is_queued p && is_from c (sent_by slot p)) ≡ false
+  none_goes : (p : MessagePlace) (slot : Bool) → sent_by slot p ≡ None → (is_queued p && is_from c (sent_by slot p)) ≡ false
   none_goes x slot e = grind arith
 
   left_sender : (j : ℕ) (x : Option Cell) → cell_of cs (message_name j) ≡ x →
@@ -177,7 +177,7 @@ module _ (s : kept.State) (cs : List Cell) (clients : List Client) (same : SameC
       ∙ sender_left c (holds s j) (is_among j (kept.sent_at then (sender (kept.left_place c (kept.place_at s j))))) (kept.place_at s j) other own
       ∙ left_sender j (cell_of cs (message_name j)) refl ∙ sym (ap (λ (v : Service). v.sender) (service_then (message_name j)))
     where
-      p : Place
+      p : MessagePlace
       p = kept.place_at s j
 
       other : (d : ℕ) → sender p ≡ d → (d == c) ≡ false → is_among j (kept.sent_at then (sender (kept.left_place c p))) ≡ holds s j
@@ -191,7 +191,7 @@ module _ (s : kept.State) (cs : List Cell) (clients : List Client) (same : SameC
           ∙ among_then (sender p) j ∙ ap (λ b. cond b false (is_among j (kept.sent_at s (sender p)))) (swapped (sender p) c true (ap (λ k. k == c) is ∙ e))
 
   -- what is told of places alone, and of cells but for what clients have there
-  told_then : (f : Place → Bool) (g : Option Cell → Bool) → ((j : ℕ) → f (kept.left_place c (kept.place_at s j)) ≡ cond
+  told_then : (f : MessagePlace → Bool) (g : Option Cell → Bool) → ((j : ℕ) → f (kept.left_place c (kept.place_at s j)) ≡ cond
       (is_queued (kept.place_at s j) && is_from c (sent_by (holds s j) (kept.place_at s j))) false (f (kept.place_at s j))) →
       ((x : Cell) (v : Service) → g (Some (record x { service = v })) ≡ g (Some x)) → g None ≡ false → ((j : ℕ) (x : Option Cell) →
       cell_of cs (message_name j) ≡ x → f (kept.place_at s j) ≡ g x) → (j : ℕ) → f (kept.place_at then j) ≡ g (cell_of left (message_name j))

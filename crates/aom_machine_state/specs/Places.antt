@@ -13,8 +13,8 @@ use Rattle.aom_clients.specs.Clients as kept
 use Rattle.aom_clients.specs.Table.{no_cell}
 use Rattle.aom_clients.specs.declared.client.Client.{Client}
 use Rattle.aom_clients.specs.declared.client.Client.TheVariants as client
-use Rattle.aom_clients.specs.declared.entry.Entry.{Entry as Queue_entry}
-use Rattle.aom_clients.specs.declared.entry.Entry.TheVariants as entry
+use Rattle.aom_clients.specs.declared.entry.QueueEntry.{QueueEntry}
+use Rattle.aom_clients.specs.declared.entry.QueueEntry.TheVariants as entry
 use Rattle.aom_machine_state.specs.Serving.{message_name}
 use Rattle.aom_machine_state.specs.declared.parts.Parts.{Parts}
 use Rattle.std.specs.Int.{w32, cast_signed}
@@ -55,7 +55,7 @@ session_with n (client.Dying server session) = cond (server == n) (session_numbe
 session_with n other = null
 
 -- the entry is the message of that number
-abbrev pub is_numbered : ℕ → Queue_entry → Bool
+abbrev pub is_numbered : ℕ → QueueEntry → Bool
 is_numbered m (entry.Connect c) = false
 is_numbered m (entry.Message place) = message_name place == m
 is_numbered m (entry.Close c) = false

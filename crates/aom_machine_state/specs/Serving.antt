@@ -2,10 +2,10 @@
 use Rattle.std.specs.Prelude.{◌≡◌, ◌+◌, ◌<◌, ◌==◌, ℕ, Bool, true, false, cond, List, [], ◌∷◌, Option, Some, None, length, map, slice_index_or}
 use Rattle.aom_clients.specs.declared.client.Client.{Client}
 use Rattle.aom_clients.specs.declared.client.Client.TheVariants.{Open, Closing, Dying}
-use Rattle.aom_clients.specs.declared.entry.Entry.{Entry}
-use Rattle.aom_clients.specs.declared.entry.Entry.TheVariants.{Connect, Message, Close}
-use Rattle.aom_clients.specs.declared.place.Place.{Place}
-use Rattle.aom_clients.specs.declared.place.Place.TheVariants.{Free, Queued, Held, Discarded}
+use Rattle.aom_clients.specs.declared.entry.QueueEntry.{QueueEntry}
+use Rattle.aom_clients.specs.declared.entry.QueueEntry.TheVariants.{Connect, Message, Close}
+use Rattle.aom_clients.specs.declared.place.MessagePlace.{MessagePlace}
+use Rattle.aom_clients.specs.declared.place.MessagePlace.TheVariants.{Free, Queued, Held, Discarded}
 use Rattle.aom_clients.specs.Clients as kept
 use Rattle.aom_clients.specs.Table.{is_out_of, is_queued, sender}
 use Rattle.aom_semantics.specs.Clients.{client_at}
@@ -24,20 +24,20 @@ sessionless (Dying server session) = Dying server 0
 sessionless other = other
 
 -- what waits in a queue, with the client that it is of
-abbrev pub asked_by : List Place → Entry → Asked
+abbrev pub asked_by : List MessagePlace → QueueEntry → Asked
 asked_by places (Connect client) = Connect_of client
 asked_by places (Message place) = Message_of (sender (slice_index_or places place Free)) (message_name place)
 asked_by places (Close client) = Close_of client
 
 -- the sender of the message of a place, where it holds a slot or none
-abbrev pub sent_by : Bool → Place → Option Sender
+abbrev pub sent_by : Bool → MessagePlace → Option Sender
 sent_by slot Free = None
 sent_by slot (Queued client) = Some (record { client = client; holds_slot = slot; is_told = true })
 sent_by slot (Held client) = Some (record { client = client; holds_slot = slot; is_told = true })
 sent_by slot (Discarded client) = Some (record { client = client; holds_slot = slot; is_told = false })
 
 -- the place has a message
-abbrev pub is_taken : Place → Bool
+abbrev pub is_taken : MessagePlace → Bool
 is_taken Free = false
 is_taken other = true
 

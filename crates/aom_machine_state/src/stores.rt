@@ -28,14 +28,14 @@ const CLASSES: usize = 256;
 
 /// What is at hand, and the cleanup entries.
 #[derive(Drop)]
-pub(crate) struct Course {
+pub(crate) struct AtHand {
     pub(crate) stack: Tasks,
     pub(crate) entries: Cleanup,
 }
 
-impl Course {
+impl AtHand {
     /// Main under the trap of its dispatch.
-    pub(crate) fn begin(alloc: Global, main: MethodNumber) -> Result<Course, AllocError>
+    pub(crate) fn begin(alloc: Global, main: MethodNumber) -> Result<AtHand, AllocError>
         ensures tasks { IfOk result (λ c. c.stack.tasks ≡ Run (fresh main null) ∷ Trapped ∷ Dispatched Main ∷ []) }
         ensures depth { IfOk result (λ c. c.stack.depth ≡ 2048) }
         ensures entries { IfOk result (λ c. c.entries ≡ record { items = Mark ∷ []; depth = 1024 }) }
@@ -46,7 +46,7 @@ impl Course {
         stack.push(Task::Dispatched(Dispatch::Main));
         stack.push(Task::Trapped);
         stack.push(Task::Run(Frame::begin(main, NULL)));
-        Ok(Course { stack, entries })
+        Ok(AtHand { stack, entries })
     }
 }
 

@@ -11,8 +11,8 @@ use Rattle.aom_instructions.specs.Fits.{InstrFits, limits}
 use Rattle.aom_instructions.specs.declared.instr.Instr.{Instr}
 use Rattle.aom_instructions.specs.declared.kinds.Kinds.{Kinds}
 use Rattle.aom_instructions.specs.declared.kinds.LargeKind.{LargeKind}
-use Rattle.aom_instructions.specs.declared.kinds.Order.{Order}
-use Rattle.aom_instructions.specs.declared.kinds.Order.TheVariants.{LargeLast, LargeSecond}
+use Rattle.aom_instructions.specs.declared.kinds.OperandOrder.{OperandOrder}
+use Rattle.aom_instructions.specs.declared.kinds.OperandOrder.TheVariants.{LargeLast, LargeSecond}
 use Rattle.aom_instructions.specs.declared.kinds.SmallKind.{SmallKind}
 use Rattle.aom_instructions.specs.declared.mnemonic.Mnemonic.{Mnemonic}
 use Rattle.aom_instructions.specs.declared.operand.Large.{Large}
@@ -61,7 +61,7 @@ module _ {classes methods : ℕ} {scope : Scope} (names : HasNames classes metho
   takes_large : (k : LargeKind) (o : Large) → LargeFits (limits version classes methods places) k o → Labelled labels o → Takes (large_operand scope labels k) (large_words o) o
   takes_large x y fits to = grind (arith, nat_tests, gives, makes, takes_signed, takes_rounds, takes_label scope labels, takes_class names, takes_method names)
 
-  takes_in_order : (k : Kinds) (order : Order) (o : Operands) → OperandsFit (limits version classes methods places) k o → Labelled labels o.d
+  takes_in_order : (k : Kinds) (order : OperandOrder) (o : Operands) → OperandsFit (limits version classes methods places) k o → Labelled labels o.d
       → Takes (in_order order (small_operand k.a) (small_operand k.b) (small_operand k.c) (large_operand scope labels k.d)) (in_text order o) o
   takes_in_order k LargeLast o fits to = grind (
     arith,

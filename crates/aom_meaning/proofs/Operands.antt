@@ -2,8 +2,8 @@
 use Rattle.std.proofs.lemmas.Bool.Decides.{nat_tests}
 use Rattle.std.proofs.Common.{arith, ◌≡◌, ℕ, List, Ok, ap, ◌∙◌}
 use Rattle.aom_instructions.specs.declared.kinds.LargeKind.{LargeKind}
-use Rattle.aom_instructions.specs.declared.kinds.Order.{Order}
-use Rattle.aom_instructions.specs.declared.kinds.Order.TheVariants.{LargeLast, LargeSecond}
+use Rattle.aom_instructions.specs.declared.kinds.OperandOrder.{OperandOrder}
+use Rattle.aom_instructions.specs.declared.kinds.OperandOrder.TheVariants.{LargeLast, LargeSecond}
 use Rattle.aom_instructions.specs.declared.mnemonic.Mnemonic.{Mnemonic}
 use Rattle.aom_instructions.specs.declared.operand.Large.{Large}
 use Rattle.aom_instructions.specs.declared.operand.Small.{Small}
@@ -64,7 +64,7 @@ module _ (strict loose : Scope) (labels : List (List ℕ)) (classes : FindsMore 
   large_follows : (k : LargeKind) → Follows (large_operand strict labels k) (large_operand loose labels k)
   large_follows x = grind (arith, nat_tests, only, label_follows, class_follows, method_follows, same)
 
-  order_follows : (o : Order) (first second third : Reading Small) {fourth other : Reading Large} →
+  order_follows : (o : OperandOrder) (first second third : Reading Small) {fourth other : Reading Large} →
       Follows fourth other → Follows (in_order o first second third fourth) (in_order o first second third other)
   order_follows LargeLast first second third more = behind first _ _ (λ a. behind second _ _ (λ b. behind third _ _ (λ c. only _ more)))
   order_follows LargeSecond first second third more = behind first _ _ (λ a. only _ more)

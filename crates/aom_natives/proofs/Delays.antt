@@ -10,10 +10,10 @@ use Rattle.std.proofs.lemmas.Option.{slice_get_read, slice_get_past}
 use Rattle.aom_natives.specs.Owed.{IsOwed, TakesOut}
 use Rattle.aom_natives.specs.Delays.{ids_in, lowered}
 use Rattle.aom_natives.proofs.Ids.{fewer}
-use Rattle.aom_natives.specs.declared.delay.Entry.{Entry}
+use Rattle.aom_natives.specs.declared.delay.OwedRequest.{OwedRequest}
 
 -- a delay lowers counts and leaves ids
-pub ids_lowered : (es : List Entry) → ids_in (map lowered es) ≡ ids_in es
+pub ids_lowered : (es : List OwedRequest) → ids_in (map lowered es) ≡ ids_in es
 ids_lowered [] = refl
 ids_lowered (e ∷ es) = ap (λ ids. e.id ∷ ids) (ids_lowered es)
 
@@ -51,7 +51,7 @@ module _ {X : Type 0} (p : X → Bool) where
   find-none xs is = find-at xs ∙ slice_get_past xs _ (past-none xs is)
 
 -- an id that is owed has an entry
-pub owed-entry : (es : List Entry) (id : ℕ) → IsOwed (ids_in es) id → find (λ e. id == e.id) es ≡ None → ⊥
+pub owed-entry : (es : List OwedRequest) (id : ℕ) → IsOwed (ids_in es) id → find (λ e. id == e.id) es ≡ None → ⊥
 owed-entry [] id some none = absurd (omega (arith, some))
 owed-entry (e ∷ es) id some none = elim (cases_eq id e.id) [
   | inl same ↦
@@ -63,14 +63,14 @@ owed-entry (e ∷ es) id some none = elim (cases_eq id e.id) [
 ]
 
 -- the entry that is found is the id's
-pub entry-id : (es : List Entry) (id i : ℕ) (e : Entry) → position (λ e. id == e.id) es ≡ Some i → e ≡ get_or es i e → e.id ≡ id
-entry-id es id i e is at = sym (eqb-true id e.id (ap (λ (x : Entry). id == x.id) at ∙ (position-Some (λ (e : Entry). id == e.id) es i e is).1))
+pub entry-id : (es : List OwedRequest) (id i : ℕ) (e : OwedRequest) → position (λ e. id == e.id) es ≡ Some i → e ≡ get_or es i e → e.id ≡ id
+entry-id es id i e is at = sym (eqb-true id e.id (ap (λ (x : OwedRequest). id == x.id) at ∙ (position-Some (λ (e : OwedRequest). id == e.id) es i e is).1))
 
 -- with an entry its id is out
-pub ids-out : (e : Entry) (old new : List Entry) → TakesOut e old new → TakesOut e.id (ids_in old) (ids_in new)
+pub ids-out : (e : OwedRequest) (old new : List OwedRequest) → TakesOut e old new → TakesOut e.id (ids_in old) (ids_in new)
 ids-out e old new out = record {
   before = ids_in out.before;
   after = ids_in out.after;
-  was = ap ids_in out.was ∙ map-append (λ (e : Entry). e.id) out.before (e ∷ out.after);
-  is = ap ids_in out.is ∙ map-append (λ (e : Entry). e.id) out.before out.after;
+  was = ap ids_in out.was ∙ map-append (λ (e : OwedRequest). e.id) out.before (e ∷ out.after);
+  is = ap ids_in out.is ∙ map-append (λ (e : OwedRequest). e.id) out.before out.after;
 }

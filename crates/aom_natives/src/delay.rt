@@ -10,7 +10,7 @@ use std::marker::Model;
 
 /// A request that is owed.
 #[derive(Clone, Copy, Default)]
-pub struct Entry {
+pub struct OwedRequest {
     pub id: u32,
     /// How many polls it waits for yet.
     pub count: u32,
@@ -21,10 +21,10 @@ pub struct Entry {
 /// Completes each request after as many polls as its word says, with its function as the code.
 #[derive(Drop)]
 pub struct Delay {
-    entries: ArrayVec<Entry, 16>,
+    entries: ArrayVec<OwedRequest, 16>,
 }
 
-impl Entry {
+impl OwedRequest {
     /// Its completion.
     fn completed(&self) -> (u32, i32)
         ensures { result ≡ completed self.now }
@@ -42,15 +42,15 @@ impl Entry {
 
 impl Model for Delay {
     ghost use Rattle.std.specs.Prelude.{List};
-    ghost use Rattle.aom_natives.specs.declared.delay.Entry.{Entry};
+    ghost use Rattle.aom_natives.specs.declared.delay.OwedRequest.{OwedRequest};
 
-    ghost Value = { List Entry };
+    ghost Value = { List OwedRequest };
 
     ghost view = { λ d. d.entries.items };
 }
 
 /// Each entry waits for one poll less.
-fn lower_all(entries: &mut [Entry])
+fn lower_all(entries: &mut [OwedRequest])
     ensures { entries.new ≡ map lowered entries.old }
 {
     for entry in entries.iter_mut() {
@@ -59,14 +59,14 @@ fn lower_all(entries: &mut [Entry])
 }
 
 /// Where the first entry of an id stands.
-fn place_in(entries: &[Entry], id: u32) -> Option<usize>
+fn place_in(entries: &[OwedRequest], id: u32) -> Option<usize>
     ensures { result ≡ position (λ e. id == e.id) entries.now }
 {
     entries.iter().position(|e| id == e.id)
 }
 
 /// Where the first entry stands that waits no more.
-fn first_due(entries: &[Entry]) -> Option<usize>
+fn first_due(entries: &[OwedRequest]) -> Option<usize>
     ensures { result ≡ position is_due entries.now }
 {
     entries.iter().position(|e| e.count == 0)
@@ -114,7 +114,7 @@ impl Native for Delay {
         if self.entries.is_full() {
             return -16;
         }
-        self.entries.push(Entry {
+        self.entries.push(OwedRequest {
             id,
             count: word as u32,
             code: function,

@@ -19,7 +19,7 @@ mod natives;
 mod outstanding;
 
 pub use counter::Counter;
-pub use delay::{Delay, Entry};
+pub use delay::{Delay, OwedRequest};
 pub use kind::NativeKind;
 pub use line::Line;
 pub use living::Living;

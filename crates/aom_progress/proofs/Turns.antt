@@ -39,11 +39,11 @@ use Rattle.aom_safety.proofs.Turning.{found}
 use Rattle.aom_progress.proofs.Payers.{begun_payer}
 use Rattle.aom_semantics.specs.Destruction.{begun}
 use Rattle.aom_safety.proofs.Signals.{at_rest}
-use Rattle.aom_clients.specs.declared.refusal.Refusal.{Refusal}
+use Rattle.aom_clients.specs.declared.refusal.CommandRefusal.{CommandRefusal}
 use Rattle.aom_clients.specs.declared.client.Client.TheVariants.{Open}
 use Rattle.aom_classes.specs.Linked.{IsLinked}
-use Rattle.aom_transcript.specs.declared.event.Command.{Command}
-use Rattle.aom_transcript.specs.declared.event.Command.TheVariants.{Connect, Send}
+use Rattle.aom_transcript.specs.declared.event.ClientCommand.{ClientCommand}
+use Rattle.aom_transcript.specs.declared.event.ClientCommand.TheVariants.{Connect, Send}
 use Rattle.aom_semantics.specs.Clients.{Listed, client_at, commanded, connecting, leaving, sending, told}
 use Rattle.aom_clients.specs.declared.client.Client.{Client}
 
@@ -70,7 +70,7 @@ module _ (p : Image) (c : Prices) (s : State) (idle : s.tasks ≡ []) where
   killing n = with_cells (without_native p n (heard_one s)) refl refl (reset_same c is_entry (λ x. (bereaved p n x).request) (λ x. (bereaved p n x).session) s.cells)
 
   -- a command makes and takes back messages in queues alone
-  obeying : (client : ℕ) (command : Command) (name : ℕ) → Passed (commanded p client (heard_one s) command name)
+  obeying : (client : ℕ) (command : ClientCommand) (name : ℕ) → Passed (commanded p client (heard_one s) command name)
   obeying client command name = by command
     where
       v : State
@@ -79,11 +79,11 @@ module _ (p : Image) (c : Prices) (s : State) (idle : s.tasks ≡ []) where
       unqueued : (r : Place) → is_queue r ≡ true → is_entry r ≡ false
       unqueued r e = grind arith
 
-      connects : (refused : Option Refusal) (server : Option Listed) (slots : ℕ) → Passed (connecting p client v refused server slots)
+      connects : (refused : Option CommandRefusal) (server : Option Listed) (slots : ℕ) → Passed (connecting p client v refused server slots)
       connects None (Some y) slots = with_cells (connecting p client v None (Some y) slots) refl refl (served_same c is_entry y.name _ s.cells)
       connects _ _ slots = with_cells v refl refl refl
 
-      sends : (refused : Option Refusal) (own : Client) (words : List ℤ) → Passed (sending p client v refused own name words)
+      sends : (refused : Option CommandRefusal) (own : Client) (words : List ℤ) → Passed (sending p client v refused own name words)
       sends None (Open server session slots) words = with_cells (sending p client v None (Open server session slots) name words) refl refl
           (omega (arith, served_same c is_entry server (asked_last (Message_of client name) (service_of s.cells server)) s.cells))
       sends _ _ words = with_cells v refl refl refl
@@ -96,7 +96,7 @@ module _ (p : Image) (c : Prices) (s : State) (idle : s.tasks ≡ []) where
       leaves None = with_cells v refl refl refl
       leaves (Some to) = with_cells (leaving p client v (Some to)) refl refl (told_same (client_at s.clients client) (withdrawn client s.cells) ∙ withdrawn_same c is_entry unqueued client s.cells)
 
-      by : (command : Command) → Passed (commanded p client v command name)
+      by : (command : ClientCommand) → Passed (commanded p client v command name)
       by (Connect class slots) = connects _ _ slots
       by (Send words) = sends _ _ words
       by _ = leaves _

@@ -23,8 +23,8 @@ use Rattle.aom_shape.specs.Shape.{Shape}
 use Rattle.aom_roles.specs.Things.{words_in}
 use Rattle.aom_shape.specs.declared.kind.Age.TheVariants.{Fresh, Ready}
 use Rattle.aom_shape.specs.declared.kind.Delivery.TheVariants.{Here}
-use Rattle.aom_shape.specs.declared.kind.Entry.{Entry}
-use Rattle.aom_shape.specs.declared.kind.Entry.TheVariants.{Object as An_object, Operation}
+use Rattle.aom_shape.specs.declared.kind.CleanupEntry.{CleanupEntry}
+use Rattle.aom_shape.specs.declared.kind.CleanupEntry.TheVariants.{Object as An_object, Operation}
 use Rattle.aom_shape.specs.declared.kind.Filling.{Filling}
 use Rattle.aom_shape.specs.declared.kind.Filling.TheVariants.{Empty, Full, Perhaps}
 use Rattle.aom_shape.specs.declared.kind.Kind.{Kind}
@@ -173,7 +173,7 @@ construct_with_an_argument = refl
 -- ---- the cleanup stack, and leaves
 
 -- a state of two registers and cleanup entries
-stacked : Kind → Kind → List Entry → Shape
+stacked : Kind → Kind → List CleanupEntry → Shape
 stacked first second entries = record { registers = first ∷ second ∷ []; fields = Empty ∷ []; entries = entries; states = 0; delivery = Here }
 
 push_with_another_owner : rule (with_method None Do 1 Nothing) 0 0 (stacked (Own (Object 0) Ready) (Own (Object 0) Ready) []) (Push 0) ≡ Err OwnedAtLeave

@@ -15,16 +15,16 @@ use Rattle.aom_rules.specs.Rules.{flows, ways_of}
 use Rattle.aom_shape.specs.Shape.{Shape}
 use Rattle.aom_rules.specs.Ways.{News}
 use Rattle.aom_rules.specs.Ways.{Ways, after, flowing}
-use Rattle.aom_shape.specs.declared.kind.Entry.{Entry}
+use Rattle.aom_shape.specs.declared.kind.CleanupEntry.{CleanupEntry}
 use Rattle.aom_shape.specs.declared.kind.Filling.{Filling}
 use Rattle.aom_shape.specs.declared.kind.Kind.{Kind}
 use Rattle.aom_site.proofs.Calling.{arguments_leave}
 
-top_gone : (es : List Entry) → length (without_top es) ≤ suc (length es)
+top_gone : (es : List CleanupEntry) → length (without_top es) ≤ suc (length es)
 top_gone [] = omega arith
 top_gone (e ∷ es) = omega arith
 
-as_many : (es : List Entry) (k : ℕ) → length (readied_at es k) ≡ length es
+as_many : (es : List CleanupEntry) (k : ℕ) → length (readied_at es k) ≡ length es
 as_many [] k = refl
 as_many (e ∷ es) zero = refl
 as_many (e ∷ es) (suc k) = ap suc (as_many es k)

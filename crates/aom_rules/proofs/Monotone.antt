@@ -44,8 +44,8 @@ use Rattle.aom_rules.specs.Ways.{Handed, Goes_on, Holding, Left_in, Moved, News,
 use Rattle.aom_rules.specs.Ways.{Ways, after, flowing}
 use Rattle.aom_roles.specs.Things.{Holder, field_thing, holder_of}
 use Rattle.aom_shape.specs.declared.kind.Age.TheVariants.{Ready}
-use Rattle.aom_shape.specs.declared.kind.Entry.{Entry}
-use Rattle.aom_shape.specs.declared.kind.Entry.TheVariants.{Object as An_object, Operation}
+use Rattle.aom_shape.specs.declared.kind.CleanupEntry.{CleanupEntry}
+use Rattle.aom_shape.specs.declared.kind.CleanupEntry.TheVariants.{Object as An_object, Operation}
 use Rattle.aom_shape.specs.declared.kind.Kind.{Kind}
 use Rattle.aom_shape.specs.declared.kind.Kind.TheVariants.{Unset, Word, Null, Own, Maybe}
 use Rattle.aom_shape.specs.declared.kind.Filling.{Filling}
@@ -205,7 +205,7 @@ call_more p m pc a b target m' first c h n =
     (rule_moved p m (moved b) target m' c) h (moved_needs_more p m (moved a) (moved b) target m' c (arguments_moved_more (arguments_of p m') first a b h)) n
 
 -- one entry more, or one less
-entry_more : (d e : Entry) (a b : Shape) → SaysNoMore a b → d ≡ e → SaysNoMore (with_entry d a) (with_entry e b)
+entry_more : (d e : CleanupEntry) (a b : Shape) → SaysNoMore a b → d ≡ e → SaysNoMore (with_entry d a) (with_entry e b)
 entry_more d e a b h same = search (arith, nat_tests)
 
 entry_less : (a b : Shape) → SaysNoMore a b → SaysNoMore (without_entry a) (without_entry b)

@@ -13,8 +13,8 @@ use Rattle.aom_shape.specs.Needs.{Need}
 use Rattle.aom_shape.specs.declared.kind.Age.{Age}
 use Rattle.aom_shape.specs.declared.kind.Kind.{Kind}
 use Rattle.aom_shape.specs.declared.kind.Kind.TheVariants.{Null, Own}
-use Rattle.aom_shape.specs.declared.kind.Entry.{Entry}
-use Rattle.aom_shape.specs.declared.kind.Entry.TheVariants.{Object as An_object, Operation}
+use Rattle.aom_shape.specs.declared.kind.CleanupEntry.{CleanupEntry}
+use Rattle.aom_shape.specs.declared.kind.CleanupEntry.TheVariants.{Object as An_object, Operation}
 use Rattle.aom_shape.specs.declared.why.Why.TheVariants.{RegisterKind, PopEmpty, QuietBroken}
 
 -- it owns an object, which is no message
@@ -23,27 +23,27 @@ owns_object (Own t a) = is_object t
 owns_object _ = false
 
 -- the entry of an object that is pushed
-abbrev pub thing_entry : Thing → Age → Entry
+abbrev pub thing_entry : Thing → Age → CleanupEntry
 thing_entry (Object c) a = An_object c a
 thing_entry Message a = Operation
 
-abbrev pub entry_of : Kind → Entry
+abbrev pub entry_of : Kind → CleanupEntry
 entry_of (Own t a) = thing_entry t a
 entry_of _ = Operation
 
 -- there is a last entry, and it passes that test
-abbrev pub tops : (Entry → Bool) → List Entry → Bool
+abbrev pub tops : (CleanupEntry → Bool) → List CleanupEntry → Bool
 tops test [] = false
 tops test (e ∷ es) = test e
 
-abbrev pub tops_object : List Entry → Bool
+abbrev pub tops_object : List CleanupEntry → Bool
 tops_object es = tops is_object_entry es
 
-abbrev pub tops_operation : List Entry → Bool
+abbrev pub tops_operation : List CleanupEntry → Bool
 tops_operation es = tops (λ e. not (is_object_entry e)) es
 
 -- what the last entry owns
-abbrev pub top_kind : List Entry → Kind
+abbrev pub top_kind : List CleanupEntry → Kind
 top_kind [] = Null
 top_kind (e ∷ es) = entry_kind e
 

@@ -12,7 +12,7 @@ use Rattle.aom_rules.specs.Objects.{after_move, after_put, after_take, flow_jump
 use Rattle.aom_rules.specs.Requests.{after_cancel, flow_narrowed}
 use Rattle.aom_shape.specs.Shape.{Shape}
 use Rattle.aom_rules.specs.Words.{flow_compare, flow_jump, flow_next}
-use Rattle.aom_shape.specs.declared.kind.Entry.TheVariants.{Operation}
+use Rattle.aom_shape.specs.declared.kind.CleanupEntry.TheVariants.{Operation}
 use Rattle.aom_shape.specs.declared.kind.Kind.{Kind}
 
 -- what is known at the next place that was not known before

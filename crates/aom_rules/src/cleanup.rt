@@ -9,7 +9,7 @@ ghost use Rattle.aom_shape.specs.Needs.{tested};
 use crate::objects::new_age;
 use crate::rules::Ruling;
 use aom_image::{ClassNumber, Register, Thing};
-use aom_shape::{Age, Entry, Flow, Kind, Next, Shape, Why, is_object, judge, judge_all};
+use aom_shape::{Age, CleanupEntry, Flow, Kind, Next, Shape, Why, is_object, judge, judge_all};
 use aom_site::Site;
 
 /// It owns an object, which is no message.
@@ -22,22 +22,22 @@ fn owns_object(kind: Kind) -> bool
     }
 }
 
-fn thing_entry(thing: Thing, age: Age) -> Entry
+fn thing_entry(thing: Thing, age: Age) -> CleanupEntry
     ensures { result ≡ thing_entry thing age }
 {
     match thing {
-        Thing::Object(class) => Entry::Object(class, age),
-        Thing::Message => Entry::Operation,
+        Thing::Object(class) => CleanupEntry::Object(class, age),
+        Thing::Message => CleanupEntry::Operation,
     }
 }
 
 /// The entry of what is pushed.
-fn entry_of(kind: Kind) -> Entry
+fn entry_of(kind: Kind) -> CleanupEntry
     ensures { result ≡ entry_of kind }
 {
     match kind {
         Kind::Own(thing, age) => thing_entry(thing, age),
-        Kind::Unset | Kind::Word | Kind::Null | Kind::Maybe(_, _) => Entry::Operation,
+        Kind::Unset | Kind::Word | Kind::Null | Kind::Maybe(_, _) => CleanupEntry::Operation,
     }
 }
 
@@ -111,7 +111,7 @@ pub(crate) fn rule_push(site: &Site<'_>, a: Register) -> Ruling
 pub(crate) fn rule_push_operation(site: &Site<'_>, a: Register) -> Ruling
     ensures { (method : ℕ) → Tells site.now (PushOperation a method) result }
 {
-    let pushed = Next::of(site.shape).with_entry(Entry::Operation);
+    let pushed = Next::of(site.shape).with_entry(CleanupEntry::Operation);
     match judge_leave(site, site.needs_word(a), site.shape) {
         Ok(()) => Ok(site.on(pushed)),
         Err(why) => Err(why),

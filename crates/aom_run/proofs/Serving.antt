@@ -19,7 +19,7 @@ use Rattle.aom_semantics.specs.Natives.{is_dead}
 use Rattle.aom_semantics.specs.Places.{named}
 use Rattle.aom_semantics.specs.State.{Counters, State}
 use Rattle.aom_semantics.specs.World.{AnswersWell, Completes, Completion, Cuts, Hears, Kills, Obeys, Passes, Picks, Polls, Turning, Waits, cell_at, delivers}
-use Rattle.aom_transcript.specs.declared.event.Command.{Command}
+use Rattle.aom_transcript.specs.declared.event.ClientCommand.{ClientCommand}
 use Rattle.aom_transcript.specs.declared.event.Event.{Event}
 use Rattle.aom_transcript.specs.declared.event.Event.TheVariants.{Client}
 use Rattle.aom_machine_state.specs.LineBuffer.{LineBuffer}
@@ -177,7 +177,7 @@ module _ {X : Type 0} {B : X → Type 0} (old : Machine X B) (core : Core) (imag
   completed_so false done = (ap (λ (c : Core). record { core = c; natives = old.natives }) done.0, done.1)
 
   -- what a client is told it does, if it is one
-  pub obeyed_so : (client : ℕ) (command : Command) (before now : LineBuffer) → client < 64 → ((s : State) → Core_stands old.core s →
+  pub obeyed_so : (client : ℕ) (command : ClientCommand) (before now : LineBuffer) → client < 64 → ((s : State) → Core_stands old.core s →
       Obeyed old.core s client command before now core) → Delivered old (Client client command) before now (record { core = core; natives = old.natives })
   obeyed_so client command before now less done = λ outside same s st.
       let d = done s st.stands in (
@@ -187,7 +187,7 @@ module _ {X : Type 0} {B : X → Type 0} (old : Machine X B) (core : Core) (imag
             (plainly (Obeys client command d.0) s st (record { owes = λ n m b. refl; killed = refl }) d.1 tt before now d.2),
       )
 
-  pub obeyed_none : (client : ℕ) (command : Command) → 64 ≤ client →
+  pub obeyed_none : (client : ℕ) (command : ClientCommand) → 64 ≤ client →
       Core_takes_all old.core Hears core → (now : LineBuffer) → Delivered old (Client client command) now now (record { core = core; natives = old.natives })
   obeyed_none client command past all now = λ outside same s st.
       with_any_name s (λ name. Takes old s (delivers outside name s (Client client command)) now now (record { core = core; natives = old.natives })) (λ name.

@@ -13,7 +13,7 @@ ghost use Rattle.aom_semantics.specs.World.{Hears, first_living, Passes};
 use crate::Machine;
 use aom_machine_state::LineBuffer;
 use aom_natives::{Native, Natives};
-use aom_transcript::{Command, Event};
+use aom_transcript::{ClientCommand, Event};
 
 /// How many clients there are, numbered from 0.
 const CLIENTS: u8 = 64;
@@ -154,7 +154,7 @@ impl<'a> Machine<'a> {
     }
 
     /// The client of that number does what it is told, if there is one. Answers whether that is refused.
-    fn obey(&mut self, client: u8, command: Command, turn: &mut LineBuffer) -> bool
+    fn obey(&mut self, client: u8, command: ClientCommand, turn: &mut LineBuffer) -> bool
         requires agree { AllAgree (λ l. l.ids) (λ l. (⟦<dyn Native as Native>⟧ l.native.vtable).owed l.native.value) self.old.natives.slots.items }
         requires rests { StandsBetween self.old }
         requires few { self.old.core.parts.rest.delivered + 1 < 2 ^ 64 }

@@ -14,7 +14,7 @@ use Rattle.aom_roles.specs.Tests.{AllTrue}
 use Rattle.aom_shape.specs.Kinds.{is_unowning, register}
 use Rattle.aom_shape.specs.Shape.{Shape}
 use Rattle.aom_rules.specs.Typing.{IsTyped, Typing}
-use Rattle.aom_shape.specs.declared.kind.Entry.{Entry as Pushed}
+use Rattle.aom_shape.specs.declared.kind.CleanupEntry.{CleanupEntry}
 use Rattle.aom_safety.proofs.Claimed.{claim_entry_above, claim_going_above}
 use Rattle.aom_safety.proofs.Clearing.{begins_over}
 use Rattle.aom_safety.proofs.Fitting.{fits, leaves_so, off_of}
@@ -40,7 +40,7 @@ use Rattle.aom_safety.proofs.Steps.{step_keeps}
 -- ---- the entries of a leave, and its mark
 
 -- the items of some entries over a mark
-split : (es : List Pushed) (fs : List Form) (all : List Item) → forms all ≡ objects es (Mark_form ∷ fs) →
+split : (es : List CleanupEntry) (fs : List Form) (all : List Item) → forms all ≡ objects es (Mark_form ∷ fs) →
     (entries : List Item) × (items : List Item) × (all ≡ entries ++ (A_mark ∷ items)) × AreEntries entries
 split [] fs (A_mark ∷ all) e = ([], all, refl, tt)
 split (x ∷ es) fs (An_object ∷ all) e =
@@ -63,7 +63,7 @@ splits p t s w code below at =
     let r = go w.layers (sym at ∙ w.tasks) w.items w.good.stack in
     (r.0, r.1, record { over = subst (λ ts. IsOver p (length s.items) code below ts) (sym at) (refl, refl); stack = r.2; plain = r.3 })
   where
-    under : (es : List Pushed) (ls : List Layer) → forms s.items ≡ objects es (items_of ls) → Stack p t s.cells Leaves ls →
+    under : (es : List CleanupEntry) (ls : List Layer) → forms s.items ≡ objects es (items_of ls) → Stack p t s.cells Leaves ls →
         (entries : List Item) × (items : List Item) × (s.items ≡ entries ++ (A_mark ∷ items)) × AreEntries entries
     under es (Mark gv ∷ ls) f stack = split es (items_of ls) s.items f
     under es (Dispatching d seats ∷ ls) f stack = no_dispatch p d stack.0
@@ -226,7 +226,7 @@ module _ (p : Image) (t : Typing) (s u : State) (code : ℤ) (items : List Item)
   Arrived below v = ArrivesAt p code below v × (v.items ≡ items) × (v.cells ≡ s.cells)
 
   -- at the method that set the trap, where its registers wait
-  at_method : (fr : Frame) (sh : Shape) (ls : List Layer) (gv : Gives) (es : List Pushed) →
+  at_method : (fr : Frame) (sh : Shape) (ls : List Layer) (gv : Gives) (es : List CleanupEntry) →
       Good p t s.cells (Unwinding code es ∷ Mark gv ∷ Method fr sh ∷ ls) → Arrived (Trapped ∷ Run fr ∷ tasks_of ls) (record (counted p s) {
         tasks = Run (next (code_told (called p (instr_at p fr.method fr.place)) (result_register (instr_at p fr.method fr.place)) code fr)) ∷ tasks_of ls;
         items = items;
@@ -251,12 +251,12 @@ module _ (p : Image) (t : Typing) (s u : State) (code : ℤ) (items : List Item)
           subst (λ i. Hears code (gives_of p m) c s.cells (length (tasks_of ls)) fr (next (code_told (called p i) (result_register i) code fr))) (sym there)
           (hears c code fr (gives_of p m) s.cells (length (tasks_of ls)) sh (subst (λ g. Awaits g c sh) (sym w.0) w.2) w.1 free)
 
-  below_trap : (ls : List Layer) (gv : Gives) (es : List Pushed) → Good p t s.cells (Unwinding code es ∷ Mark gv ∷ ls) →
+  below_trap : (ls : List Layer) (gv : Gives) (es : List CleanupEntry) → Good p t s.cells (Unwinding code es ∷ Mark gv ∷ ls) →
       arrived p code (Trapped ∷ tasks_of ls) items (counted p s) ≡ Goes u → Arrived (Trapped ∷ tasks_of ls) u
   below_trap (Method fr sh ∷ ls) gv es good e = subst (λ v. Arrived (Trapped ∷ Run fr ∷ tasks_of ls) v) (goes_same _ u e) (at_method fr sh ls gv es good)
   below_trap x gv es good e = grind (arith, nat_tests, goes_same)
 
-  below_leave : (ls : List Layer) (es : List Pushed) → Good p t s.cells (Unwinding code es ∷ ls) → arrived p code (tasks_of ls) items (counted p s) ≡ Goes u → Arrived (tasks_of ls) u
+  below_leave : (ls : List Layer) (es : List CleanupEntry) → Good p t s.cells (Unwinding code es ∷ ls) → arrived p code (tasks_of ls) items (counted p s) ≡ Goes u → Arrived (tasks_of ls) u
   below_leave (Mark gv ∷ ls) es good e = below_trap ls gv es good e
   below_leave (Dispatching d seats ∷ ls) es good e = no_dispatch p d good.stack.1.0
   below_leave _ es good e = grind arith

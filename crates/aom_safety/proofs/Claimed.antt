@@ -15,7 +15,7 @@ use Rattle.aom_roles.specs.Things.{Holder, Program, field_thing, holder_of}
 use Rattle.aom_rules.proofs.Telling.{filled_more}
 use Rattle.aom_rules.specs.Typing.{Typing}
 use Rattle.aom_shape.specs.declared.kind.Age.TheVariants.{Fresh, Ready}
-use Rattle.aom_shape.specs.declared.kind.Entry.{Entry as Pushed}
+use Rattle.aom_shape.specs.declared.kind.CleanupEntry.{CleanupEntry}
 use Rattle.aom_shape.specs.declared.kind.Filling.{Filling}
 use Rattle.aom_shape.specs.declared.kind.Filling.TheVariants.{Perhaps}
 use Rattle.aom_shape.specs.declared.kind.Kind.{Kind}
@@ -63,7 +63,7 @@ claim-set_field p d fr (Inside o from) sh ls a x v r e own some same = grind (ar
 claim-set_field p d fr _ sh ls _ x v r e own some same = cc
 
 -- one more entry, and one less
-pub claim_push : (p : Image) (d : Place → Kind) (fr : Frame) (sh : Shape) (ls : List Layer) (v : Pushed) (r : Place) → claim p d (Method fr
+pub claim_push : (p : Image) (d : Place → Kind) (fr : Frame) (sh : Shape) (ls : List Layer) (v : CleanupEntry) (r : Place) → claim p d (Method fr
     (record sh { entries = v ∷ sh.entries }) ∷ ls) r ≡ changed (claim p d (Method fr sh ∷ ls)) (Entry (length (items_of (Method fr sh ∷ ls)))) (entry_kind v) r
 claim_push p d fr sh ls v x = grind arith
 
@@ -150,11 +150,11 @@ keep_fits image h h' k k' p q eh requests ek apart fits r = rw (eh r) (rw (ek r)
     go false false = fits_age image h h' (h.holds r) (k r) (stays r) (fits r)
 
 -- above the layers nothing is claimed
-entries_above : (es : List Pushed) (items : List Form) (k : ℕ) (below : Kind) → length (objects es items) ≤ k → entry_claim es items k below ≡ below
+entries_above : (es : List CleanupEntry) (items : List Form) (k : ℕ) (below : Kind) → length (objects es items) ≤ k → entry_claim es items k below ≡ below
 entries_above [] items k below le = refl
 entries_above (x ∷ es) items k below le = grind (arith, nat_tests, ne_eqb, entries_above es items k below)
 
-pub length_objects : (es : List Pushed) (items : List Form) → length items ≤ length (objects es items)
+pub length_objects : (es : List CleanupEntry) (items : List Form) → length items ≤ length (objects es items)
 length_objects [] items = omega arith
 length_objects (x ∷ es) items = omega (arith, length_objects es items)
 
@@ -232,7 +232,7 @@ stack_moved p t cs a b (Dying o ∷ ls) back free oa ob s =
     ((named_moved cs a b o.name ∙ s.0.0, going_moved cs a b o ls free oa ob s.0.1), s.1, grind (arith, nat_tests, stack_moved p t cs a b ls, outside_less))
 
 -- what holds a method's cell is claimed as it was before the method was called
-entries_below : (es : List Pushed) (items : List Form) (k : ℕ) (below : Kind) → k < length items → entry_claim es items k below ≡ below
+entries_below : (es : List CleanupEntry) (items : List Form) (k : ℕ) (below : Kind) → k < length items → entry_claim es items k below ≡ below
 entries_below [] items k below lt = refl
 entries_below (x ∷ es) items k below lt = grind (arith, nat_tests, ne_eqb, length_objects es items, entries_below es items k below lt)
 
@@ -245,7 +245,7 @@ cond_rel : (R : Kind → Kind → Type 0) → ((k : Kind) → R k k) → (b : Bo
 cond_rel R same true z x y h = same z
 cond_rel R same false z x y h = h
 
-entry_rel : (R : Kind → Kind → Type 0) → ((k : Kind) → R k k) → (es : List Pushed) (items : List Form) (k : ℕ) (x y : Kind) → R x y → R (entry_claim es items k x) (entry_claim es items k y)
+entry_rel : (R : Kind → Kind → Type 0) → ((k : Kind) → R k k) → (es : List CleanupEntry) (items : List Form) (k : ℕ) (x y : Kind) → R x y → R (entry_claim es items k x) (entry_claim es items k y)
 entry_rel R same [] items k x y h = h
 entry_rel R same (z ∷ es) items k x y h = cond_rel R same (length (objects es items) == k) (entry_kind z) _ _ (entry_rel R same es items k x y h)
 

@@ -15,7 +15,7 @@ use Rattle.aom_shape.specs.Kinds.{no_entry}
 use Rattle.aom_rules.specs.Rules.{rule_needs}
 use Rattle.aom_shape.specs.Shape.{Shape}
 use Rattle.aom_rules.specs.Typing.{IsTyped, Typing, shape_at}
-use Rattle.aom_shape.specs.declared.kind.Entry.{Entry as Pushed_entry}
+use Rattle.aom_shape.specs.declared.kind.CleanupEntry.{CleanupEntry}
 use Rattle.aom_safety.proofs.Callees.{cancel_quiet, only_then}
 use Rattle.aom_safety.proofs.Overriders.{body_quiet}
 use Rattle.aom_safety.proofs.Claimed.{length_objects}
@@ -65,7 +65,7 @@ pub begins_over : (p : Image) → IsWired p → (o : Object) (height : ℕ) (cod
 begins_over p wired o height code below ts h = grind (arith, nat_tests, destructs_over p wired o height code below ts h)
 
 -- a method that stands at the height at which it began has no entry
-no_entries : (es : List Pushed_entry) (below : List Form) → length (objects es below) ≡ length below → es ≡ []
+no_entries : (es : List CleanupEntry) (below : List Form) → length (objects es below) ≡ length below → es ≡ []
 no_entries [] below e = refl
 no_entries (x ∷ es) below e = absurd (omega (arith, e, length_objects es below))
 

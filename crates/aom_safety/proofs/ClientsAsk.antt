@@ -13,7 +13,7 @@ use Rattle.aom_clients.specs.Nodes.{is_connecting_at, is_open_at}
 use Rattle.aom_clients.specs.Table.{row, server_of}
 use Rattle.aom_clients.specs.declared.client.Client.{Client}
 use Rattle.aom_clients.specs.declared.client.Client.TheVariants.{Connecting}
-use Rattle.aom_clients.specs.declared.refusal.Refusal.{Refusal}
+use Rattle.aom_clients.specs.declared.refusal.CommandRefusal.{CommandRefusal}
 use Rattle.aom_roles.specs.Classes.{sessions_in, sessions_of}
 use Rattle.aom_roles.specs.Shapes.{kind_of}
 use Rattle.aom_safety.proofs.ClientsFit.{Changes, IsFree, by_server, fit_reserved, listed_changed, none_of_free, sessions_changed}
@@ -87,7 +87,7 @@ pub listed_room :
 listed_room p class v x of room = grind (arith, eqb-true, ltb-true)
 
 -- a connect that is not refused
-pub asked_none : (r : Option Refusal) (most : ℕ) (x : Listed) (cs : List Cell) → asked_of r most (Some x) cs ≡ None → (r ≡ None) × (nat_lt (seats_taken (service_of cs x.name)) most ≡ true)
+pub asked_none : (r : Option CommandRefusal) (most : ℕ) (x : Listed) (cs : List Cell) → asked_of r most (Some x) cs ≡ None → (r ≡ None) × (nat_lt (seats_taken (service_of cs x.name)) most ≡ true)
 asked_none y most x cs e = grind arith
 
 pub connects_free : (k : Client) → (row k).connect ≡ None → IsFree k

@@ -9,7 +9,7 @@ use Rattle.aom_clients.specs.Nodes.{is_leaving, is_open_at}
 use Rattle.aom_clients.specs.Table.{row, server_of}
 use Rattle.aom_clients.specs.declared.client.Client.{Client}
 use Rattle.aom_clients.specs.declared.client.Client.TheVariants.{Closing, Connecting, Dead, Dying, Gone, Open, Unconnected}
-use Rattle.aom_clients.specs.declared.refusal.Refusal.{Refusal}
+use Rattle.aom_clients.specs.declared.refusal.CommandRefusal.{CommandRefusal}
 use Rattle.aom_roles.specs.Shapes.{kind_of}
 use Rattle.aom_safety.proofs.ClientsAsk.{asked_none, connects_free, fit_connecting, fit_sent, listed_room, listed_serves, asked_there}
 use Rattle.aom_safety.proofs.ClientsSteady.{fit_steady, steady_more}
@@ -25,8 +25,8 @@ use Rattle.aom_semantics.specs.Places.{Asked, Cell, Close_of, Connect_of, Elsewh
 use Rattle.aom_semantics.specs.Places.{Queued, Tidy, held, named, service_of, set_service, requested}
 use Rattle.aom_semantics.specs.Servers.{asked_last, has_session, is_from, is_message, is_server, reserved, seats_taken, stays, withdrawn}
 use Rattle.aom_semantics.specs.State.{State}
-use Rattle.aom_transcript.specs.declared.event.Command.{Command}
-use Rattle.aom_transcript.specs.declared.event.Command.TheVariants.{Close, Connect, Die, Send}
+use Rattle.aom_transcript.specs.declared.event.ClientCommand.{ClientCommand}
+use Rattle.aom_transcript.specs.declared.event.ClientCommand.TheVariants.{Close, Connect, Die, Send}
 
 -- ---- what stands where clients are
 
@@ -62,12 +62,12 @@ module _ (p : Image) (c : ℕ) (s : State) (tidy : Tidy s.cells) (fit : ClientsF
 
   -- ---- it connects
 
-  fit_connects : (class slots : ℕ) (refused : Option Refusal) → asked_of (row own).connect (most_of (kind_of p (Some class))) (asked_server p class s.cells) s.cells ≡ refused →
+  fit_connects : (class slots : ℕ) (refused : Option CommandRefusal) → asked_of (row own).connect (most_of (kind_of p (Some class))) (asked_server p class s.cells) s.cells ≡ refused →
       ClientsFit p (connecting p c s refused (asked_server p class s.cells) slots).clients (connecting p c s refused (asked_server p class s.cells) slots).cells
   fit_connects class slots refused e = go refused (asked_server p class s.cells) refl e
     where
       go :
-          (r : Option Refusal) (x : Option Listed) → asked_server p class s.cells ≡ x → asked_of (row own).connect (most_of (kind_of p (Some class))) x s.cells ≡ r →
+          (r : Option CommandRefusal) (x : Option Listed) → asked_server p class s.cells ≡ x → asked_of (row own).connect (most_of (kind_of p (Some class))) x s.cells ≡ r →
           ClientsFit p (connecting p c s r x slots).clients (connecting p c s r x slots).cells
       go None (Some x) there e =
           let asked = asked_none (row own).connect (most_of (kind_of p (Some class))) x s.cells e in
@@ -81,7 +81,7 @@ module _ (p : Image) (c : ℕ) (s : State) (tidy : Tidy s.cells) (fit : ClientsF
 
   -- ---- it sends
 
-  fit_sends : (refused : Option Refusal) (name : ℕ) (words : List ℤ) → named s.cells name ≡ None → (k : Client) → own ≡ k →
+  fit_sends : (refused : Option CommandRefusal) (name : ℕ) (words : List ℤ) → named s.cells name ≡ None → (k : Client) → own ≡ k →
       ClientsFit p (sending p c s refused k name words).clients (sending p c s refused k name words).cells
   fit_sends None name words free (Open server session slots) at =
       subst (λ l. ClientsFit p s.clients l) same (subst (λ n. ClientsFit p s.clients (reserved (asked_last (Message_of c name)) n (message ∷ s.cells))) there.1 sent)
@@ -176,7 +176,7 @@ module _ (p : Image) (c : ℕ) (s : State) (tidy : Tidy s.cells) (fit : ClientsF
     fit_dies _ at = grind (arith, nat_tests, goes_alone Dead)
 
     -- whatever is commanded
-    pub fit_commanded : (command : Command) (name : ℕ) → named s.cells name ≡ None → ClientsFit p (commanded p c s command name).clients (commanded p c s command name).cells
+    pub fit_commanded : (command : ClientCommand) (name : ℕ) → named s.cells name ≡ None → ClientsFit p (commanded p c s command name).clients (commanded p c s command name).cells
     fit_commanded (Connect class slots) name free = fit_connects class slots (refusal p c s (Connect class slots)) refl
     fit_commanded (Send words) name free = fit_sends (refusal p c s (Send words)) name words free own refl
     fit_commanded Close name free = fit_closes own refl

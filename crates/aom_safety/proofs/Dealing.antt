@@ -16,8 +16,8 @@ use Rattle.aom_roles.specs.Things.{Nobody, field_thing, holder_by, holder_of}
 use Rattle.aom_rules.specs.Typing.{IsTyped, Typing}
 use Rattle.aom_shape.specs.Arguments.{argument_kind, entry_shape}
 use Rattle.aom_shape.specs.declared.kind.Age.{Age}
-use Rattle.aom_shape.specs.declared.kind.Entry.{Entry as Pushed}
-use Rattle.aom_shape.specs.declared.kind.Entry.TheVariants.{Object as Pushed_object, Operation as Pushed_operation}
+use Rattle.aom_shape.specs.declared.kind.CleanupEntry.{CleanupEntry}
+use Rattle.aom_shape.specs.declared.kind.CleanupEntry.TheVariants.{Object as Pushed_object, Operation as Pushed_operation}
 use Rattle.aom_shape.specs.declared.kind.Filling.TheVariants.{Perhaps}
 use Rattle.aom_shape.specs.declared.kind.Kind.{Kind}
 use Rattle.aom_shape.specs.declared.kind.Kind.TheVariants.{Null, Own, Unset, Word}
@@ -42,7 +42,7 @@ pub less_claims : (f g : Place → Kind) (q : Place) (k : Kind) → ((r : Place)
 less_claims f g q k more free r = grind (arith, nat_tests, same_place-true q r)
 
 -- the layers with the last entry, and those below it, over which it is dealt with
-pub record Dealing (p : Image) (t : Typing) (s : State) (e : Pushed) (before below : List Layer) : Type 0 where
+pub record Dealing (p : Image) (t : Typing) (s : State) (e : CleanupEntry) (before below : List Layer) : Type 0 where
   pub fits : (r : Place) → Fits p (seen s.cells) (held s.cells r) (claim p (declared p s.cells) before r)
   pub claims : (r : Place) → claim p (declared p s.cells) before r ≡ changed (claim p (declared p s.cells) below) (Entry (length (items_of below))) (entry_kind e) r
   pub deep : length (tasks_of before) ≡ length (tasks_of below)
@@ -55,7 +55,7 @@ pub record Dealing (p : Image) (t : Typing) (s : State) (e : Pushed) (before bel
   pub unserved : IsServed below → ⊥
   pub under_operation : (m : ℕ) → IsUndo p m → Stack p t s.cells (Returns m Static) below
 
-module _ (p : Image) (t : Typing) (wired : IsWired p) (typed : IsTyped p t) (s : State) (e : Pushed) (before below : List Layer) (d : Dealing p t s e before below) where
+module _ (p : Image) (t : Typing) (wired : IsWired p) (typed : IsTyped p t) (s : State) (e : CleanupEntry) (before below : List Layer) (d : Dealing p t s e before below) where
   abbrev q : Place
   q = Entry (length (items_of below))
 
@@ -145,7 +145,7 @@ dealing p fr ts s (An_operation m w ∷ items) o at e there whole = grind (arith
 dealing p fr ts s _ o at e there whole = cc
 
 -- so it is there, and what follows is well typed
-pub deals : (p : Image) (t : Typing) → IsWired p → IsTyped p t → (s : State) (e : Pushed) (before below : List Layer) → Dealing p t s e before below →
+pub deals : (p : Image) (t : Typing) → IsWired p → IsTyped p t → (s : State) (e : CleanupEntry) (before below : List Layer) → Dealing p t s e before below →
     (top_is_whole s.cells s.items ≡ true) × WellTyped p t (dealt_with p s.items (tasks_of below) s)
 deals p t wired typed s e before below d = go e s.items d d.items d.undos
   where
@@ -155,7 +155,7 @@ deals p t wired typed s e before below d = go e s.items d d.items d.undos
     whole : (o : Option Object) (c : ℕ) (a : Age) → Fits p (seen s.cells) o (Own (An_object_of c) a) → (x : Object) × (o ≡ Some x)
     whole x c a f = grind arith
 
-    go : (e : Pushed) (items : List Item) → Dealing p t s e before below → forms items ≡ entry_form e ∷ items_of below → AllUndo p items → Goal items
+    go : (e : CleanupEntry) (items : List Item) → Dealing p t s e before below → forms items ≡ entry_form e ∷ items_of below → AllUndo p items → Goal items
     go (Pushed_object c a) (An_object ∷ items) d h u =
         let same : forms items ≡ items_of below = cc in
         let x = whole _ c a (entry_fits p t wired typed s (Pushed_object c a) before below d) in

@@ -12,8 +12,8 @@ use Rattle.aom_shape.specs.Kinds.{entry_kind, no_entry, register, set_register}
 use Rattle.aom_rules.specs.Objects.{new_age}
 use Rattle.aom_shape.specs.Shape.{Shape}
 use Rattle.aom_rules.specs.Typing.{IsTyped, Leads, Typing}
-use Rattle.aom_shape.specs.declared.kind.Entry.{Entry as Pushed}
-use Rattle.aom_shape.specs.declared.kind.Entry.TheVariants.{Object as Pushed_object, Operation as Pushed_operation}
+use Rattle.aom_shape.specs.declared.kind.CleanupEntry.{CleanupEntry}
+use Rattle.aom_shape.specs.declared.kind.CleanupEntry.TheVariants.{Object as Pushed_object, Operation as Pushed_operation}
 use Rattle.aom_shape.specs.declared.kind.Kind.{Kind}
 use Rattle.aom_shape.specs.declared.kind.Kind.TheVariants.{Null, Own}
 use Rattle.aom_safety.proofs.Claimed.{claim-set_register, claim_entry_above, claim_push, length_objects}
@@ -70,7 +70,7 @@ top_operation p (An_operation m w ∷ rest) below e u = record { rest = rest; me
 top_operation p _ below e u = cc
 
 -- a method's claims with its last entry, and without
-module _ (p : Image) (cs : List Cell) (fr : Frame) (sh : Shape) (ls : List Layer) (v : Pushed) (es : List Pushed) (e : sh.entries ≡ v ∷ es) (items : List Item)
+module _ (p : Image) (cs : List Cell) (fr : Frame) (sh : Shape) (ls : List Layer) (v : CleanupEntry) (es : List CleanupEntry) (e : sh.entries ≡ v ∷ es) (items : List Item)
     (known : forms items ≡ objects es (items_of ls)) where
   abbrev less : Shape
   less = record sh { entries = es }
@@ -197,7 +197,7 @@ module _ (p : Image) (t : Typing) (c : Choice) (s : State) (fr : Frame) (sh : Sh
       fr' = next (set_word fr a None)
 
       popped_at :
-          (x : Pushed) (es : List Pushed) → sh.entries ≡ x ∷ es → (rest : List Item) → s.items ≡ An_object ∷ rest → forms rest ≡ objects es (items_of ls) →
+          (x : CleanupEntry) (es : List CleanupEntry) → sh.entries ≡ x ∷ es → (rest : List Item) → s.items ≡ An_object ∷ rest → forms rest ≡ objects es (items_of ls) →
           AllTrue (needs p c fr (tasks_of ls) s (Pop a)) × WellTyped p t (does p c fr (tasks_of ls) s (Pop a))
       popped_at x es e rest is known =
           let d = declared p s.cells in
@@ -219,7 +219,7 @@ module _ (p : Image) (t : Typing) (c : Choice) (s : State) (fr : Frame) (sh : Sh
                 fr' sh' refl known undos (settle p t (moved q (top ls a) s.cells) fr' sh' ls there lead)),
           )
 
-      go : (es : List Pushed) → sh.entries ≡ es → tops_object_entry es ≡ true → AllTrue (needs p c fr (tasks_of ls) s (Pop a)) × WellTyped p t (does p c fr (tasks_of ls) s (Pop a))
+      go : (es : List CleanupEntry) → sh.entries ≡ es → tops_object_entry es ≡ true → AllTrue (needs p c fr (tasks_of ls) s (Pop a)) × WellTyped p t (does p c fr (tasks_of ls) s (Pop a))
       go (Pushed_object x age ∷ es) e h =
           let at_top = top_object s.items (objects es (items_of ls)) (at_hand.items ∙ ap (λ es. objects es (items_of ls)) e) in
           popped_at (Pushed_object x age) es e at_top.0 at_top.1 at_top.2
@@ -230,7 +230,7 @@ module _ (p : Image) (t : Typing) (c : Choice) (s : State) (fr : Frame) (sh : Sh
   pub law_pop_operation : Law p t c s fr sh ls at_hand PopOperation
   law_pop_operation n leads = go sh.entries refl n.1.0
     where
-      go : (es : List Pushed) → sh.entries ≡ es → tops_operation_entry es ≡ true → AllTrue (needs p c fr (tasks_of ls) s PopOperation) × WellTyped p t (does p c fr (tasks_of ls) s PopOperation)
+      go : (es : List CleanupEntry) → sh.entries ≡ es → tops_operation_entry es ≡ true → AllTrue (needs p c fr (tasks_of ls) s PopOperation) × WellTyped p t (does p c fr (tasks_of ls) s PopOperation)
       go (Pushed_operation ∷ es) e h =
           let op = top_operation p s.items (objects es (items_of ls)) (at_hand.items ∙ ap (λ es. objects es (items_of ls)) e) at_hand.undos in
           let q = Entry (length op.rest) in
@@ -251,23 +251,23 @@ module _ (p : Image) (t : Typing) (c : Choice) (s : State) (fr : Frame) (sh : Sh
   pub law_pop_delete : IsWired p → IsTyped p t → Law p t c s fr sh ls at_hand PopDelete
   law_pop_delete wired typed n leads = go sh.entries refl n.0
     where
-      lead : (x : Pushed) (es : List Pushed) → sh.entries ≡ x ∷ es → Leads t fr.method (suc fr.place) (record sh { entries = es })
+      lead : (x : CleanupEntry) (es : List CleanupEntry) → sh.entries ≡ x ∷ es → Leads t fr.method (suc fr.place) (record sh { entries = es })
       lead x es e = subst (λ es. Leads t fr.method (suc fr.place) (record sh { entries = without_top es })) e leads.0
 
       -- the method waits
-      waits : (x : Pushed) (es : List Pushed) → sh.entries ≡ x ∷ es → Stack p t s.cells Gone (Method fr (record sh { entries = es }) ∷ ls)
+      waits : (x : CleanupEntry) (es : List CleanupEntry) → sh.entries ≡ x ∷ es → Stack p t s.cells Gone (Method fr (record sh { entries = es }) ∷ ls)
       waits x es e = (lead x es e, frames_reworded at_hand.good.stack.1 at_hand.good.stack.1.words, at_hand.good.stack.2, at_hand.good.stack.3, at_hand.good.stack.4)
 
       -- for a method that gives nothing and does not leave
-      known : (x : Pushed) (es : List Pushed) → sh.entries ≡ x ∷ es → forms s.items ≡ entry_form x ∷ objects es (items_of ls)
+      known : (x : CleanupEntry) (es : List CleanupEntry) → sh.entries ≡ x ∷ es → forms s.items ≡ entry_form x ∷ objects es (items_of ls)
       known x es e = at_hand.items ∙ ap (λ es. objects es (items_of ls)) e
 
-      tops : (x : Pushed) (below : List Form) (items : List Item) → forms items ≡ entry_form x ∷ below → tops_entry items ≡ true
+      tops : (x : CleanupEntry) (below : List Form) (items : List Item) → forms items ≡ entry_form x ∷ below → tops_entry items ≡ true
       tops x below (An_object ∷ items) f = refl
       tops x below (An_operation m w ∷ items) f = refl
       tops _ below _ f = absurd (grind arith)
 
-      go : (es : List Pushed) → sh.entries ≡ es → not (no_entry es) ≡ true → AllTrue (needs p c fr (tasks_of ls) s PopDelete) × WellTyped p t (does p c fr (tasks_of ls) s PopDelete)
+      go : (es : List CleanupEntry) → sh.entries ≡ es → not (no_entry es) ≡ true → AllTrue (needs p c fr (tasks_of ls) s PopDelete) × WellTyped p t (does p c fr (tasks_of ls) s PopDelete)
       go [] e h = cc
       go (x ∷ es) e h =
           let less = record sh { entries = es } in

@@ -20,8 +20,8 @@ use Rattle.aom_roles.specs.Things.{field_thing, holder_of, stands_for}
 use Rattle.aom_safety.proofs.Things.{stands_along}
 use Rattle.aom_rules.specs.Typing.{Typing}
 use Rattle.aom_shape.specs.declared.kind.Age.TheVariants.{Fresh, Ready}
-use Rattle.aom_shape.specs.declared.kind.Entry.{Entry as Pushed}
-use Rattle.aom_shape.specs.declared.kind.Entry.TheVariants.{Object as Pushed_object, Operation as Pushed_operation}
+use Rattle.aom_shape.specs.declared.kind.CleanupEntry.{CleanupEntry}
+use Rattle.aom_shape.specs.declared.kind.CleanupEntry.TheVariants.{Object as Pushed_object, Operation as Pushed_operation}
 use Rattle.aom_shape.specs.declared.kind.Filling.{Filling}
 use Rattle.aom_shape.specs.declared.kind.Filling.TheVariants.{Perhaps}
 use Rattle.aom_shape.specs.declared.kind.Kind.{Kind}
@@ -55,7 +55,7 @@ none_owns_at [] i e = refl
 none_owns_at (k ∷ ks) zero e = (and_parts _ _ e).0
 none_owns_at (k ∷ ks) (suc i) e = none_owns_at ks i (and_parts _ _ e).1
 
-pub no_entries : (es : List Pushed) → no_entry es ≡ true → es ≡ []
+pub no_entries : (es : List CleanupEntry) → no_entry es ≡ true → es ≡ []
 no_entries x e = grind arith
 
 -- needs in two parts
@@ -169,12 +169,12 @@ pub none_left : (p : Image) (fr : Frame) (sh : Shape) (a : ℕ) → gives_of p f
 none_left p fr sh a nothing r = ap (λ g. entries_done p g sh.entries) (sym nothing) ∙ r.entries
 
 -- one that leaves an object leaves it alone, or one that stands for it
-pub record LeftAlone (p : Image) (x : ℕ) (es : List Pushed) : Type 0 where
+pub record LeftAlone (p : Image) (x : ℕ) (es : List CleanupEntry) : Type 0 where
   pub class : ℕ
   pub alone : es ≡ Pushed_object class Ready ∷ []
   pub stands : stands_for p (An_object_of class) (An_object_of x) ≡ true
 
-pub left_alone : (p : Image) (x : ℕ) (es : List Pushed) → leaves_one p x es ≡ true → LeftAlone p x es
+pub left_alone : (p : Image) (x : ℕ) (es : List CleanupEntry) → leaves_one p x es ≡ true → LeftAlone p x es
 left_alone p x [] e = cc
 left_alone p x (Pushed_operation ∷ es) e = cc
 left_alone p x (Pushed_object c Fresh ∷ es) e = grind (arith, nat_tests)

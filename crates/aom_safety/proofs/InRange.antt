@@ -24,7 +24,7 @@ use Rattle.aom_semantics.specs.State.{Choice, Dispatch, Frame, Goes, Home, State
 use Rattle.aom_semantics.specs.Natives.{all_bereaved, resessioned}
 use Rattle.aom_semantics.specs.Servers.{withdrawn, without_queue, is_queue_of, all_unslotted}
 use Rattle.aom_semantics.specs.Clients.{each_unslotted, commanded}
-use Rattle.aom_transcript.specs.declared.event.Command.{Command}
+use Rattle.aom_transcript.specs.declared.event.ClientCommand.{ClientCommand}
 
 move_in_range : (p q : Place) (cs : List Cell) → IsInRange q → AllInRange cs → AllInRange (moved p q cs)
 move_in_range p q [] fits all = tt
@@ -107,7 +107,7 @@ dispatch_in_range p x s all = grind (arith, nat_tests, move_in_range, end_in_ran
 
 -- what clients do
 module _ (p : Image) (client : ℕ) (s : State) (all : AllInRange s.cells) where
-  commands_in_range : (command : Command) (name : ℕ) → AllInRange (commanded p client s command name).cells
+  commands_in_range : (command : ClientCommand) (name : ℕ) → AllInRange (commanded p client s command name).cells
   commands_in_range x name = grind (arith, nat_tests, serve_in_range, withdrawn_in_range)
 
 moves : (p : Image) → IsWired p → (c : Choice) (s u : State) → AllInRange s.cells → step p c s ≡ Goes u → AllInRange u.cells

@@ -7,8 +7,8 @@ use Rattle.aom_image.specs.Image.{Image}
 use Rattle.aom_shape.specs.Entries.{readied_at}
 use Rattle.aom_shape.specs.Kinds.{entry_kind, is_unowning, readied}
 use Rattle.aom_roles.specs.Tables.{at}
-use Rattle.aom_shape.specs.declared.kind.Entry.{Entry as Pushed}
-use Rattle.aom_shape.specs.declared.kind.Entry.TheVariants.{Object as Pushed_object, Operation as Pushed_operation}
+use Rattle.aom_shape.specs.declared.kind.CleanupEntry.{CleanupEntry}
+use Rattle.aom_shape.specs.declared.kind.CleanupEntry.TheVariants.{Object as Pushed_object, Operation as Pushed_operation}
 use Rattle.aom_shape.specs.declared.kind.Kind.{Kind}
 use Rattle.aom_semantics.specs.Calls.{below_top, entry_at, is_no_operation, tops_mark}
 use Rattle.aom_safety.specs.Claims.{Form, Layer, Mark_form, Method, entry_claim, entry_form, forms, items_of, objects, tasks_of}
@@ -34,16 +34,16 @@ pub undos_below : (p : Image) (items : List Item) → AllUndo p items → AllUnd
 undos_below p x u = grind arith
 
 -- an item for each entry
-pub length_each : (es : List Pushed) (below : List Form) → length (objects es below) ≡ length es + length below
+pub length_each : (es : List CleanupEntry) (below : List Form) → length (objects es below) ≡ length es + length below
 length_each [] below = omega arith
 length_each (e ∷ es) below = omega (arith, length_each es below)
 
 -- the form of no entry is a mark's
-pub no_mark : (x : Pushed) → Mark_form ≡ entry_form x → ⊥
+pub no_mark : (x : CleanupEntry) → Mark_form ≡ entry_form x → ⊥
 no_mark x e = grind arith
 
 -- an entry is among the items
-pub entry_there : (es : List Pushed) (below : List Form) (items : List Item) (k : ℕ) → forms items ≡ objects es below → k < length es → is_some (entry_at items k) ≡ true
+pub entry_there : (es : List CleanupEntry) (below : List Form) (items : List Item) (k : ℕ) → forms items ≡ objects es below → k < length es → is_some (entry_at items k) ≡ true
 entry_there (x ∷ es) below (An_object ∷ items) zero e lt = refl
 entry_there (x ∷ es) below (An_object ∷ items) (suc k) e lt = let same : forms items ≡ objects es below = cc in entry_there es below items k same (omega arith)
 entry_there (x ∷ es) below (An_operation m w ∷ items) zero e lt = refl
@@ -52,27 +52,27 @@ entry_there (x ∷ es) below (A_mark ∷ items) k e lt = absurd (no_mark x cc)
 entry_there _ below _ k e lt = absurd (first_of (cc, omega arith))
 
 -- an entry that owns is no operation
-pub entry_owns : (es : List Pushed) (below : List Form) (items : List Item) (k : ℕ) →
+pub entry_owns : (es : List CleanupEntry) (below : List Form) (items : List Item) (k : ℕ) →
     forms items ≡ objects es below → k < length es → is_unowning (entry_kind (at Pushed_operation es k)) ≡ false → is_no_operation (entry_at items k) ≡ true
 entry_owns (x ∷ es) below (An_object ∷ items) (suc k) e lt own = grind (arith, nat_tests, entry_owns es below items k)
 entry_owns (x ∷ es) below (An_operation m w ∷ items) (suc k) e lt own = grind (arith, nat_tests, entry_owns es below items k)
 entry_owns x below y k e lt own = grind arith
 
 -- an entry that becomes ready is an item as before
-pub readied_items : (es : List Pushed) (k : ℕ) (below : List Form) → objects (readied_at es k) below ≡ objects es below
+pub readied_items : (es : List CleanupEntry) (k : ℕ) (below : List Form) → objects (readied_at es k) below ≡ objects es below
 readied_items [] k below = refl
 readied_items (Pushed_object c a ∷ es) zero below = refl
 readied_items (Pushed_operation ∷ es) zero below = refl
 readied_items (e ∷ es) (suc k) below = ap (λ fs. entry_form e ∷ fs) (readied_items es k below)
 
 -- what is claimed of an entry, counted from the last
-pub entry_claimed : (es : List Pushed) (below : List Form) (k : ℕ) (rest : Kind) → k < length es → entry_claim es below (length (objects es below) - suc k) rest ≡ entry_kind (at Pushed_operation es k)
+pub entry_claimed : (es : List CleanupEntry) (below : List Form) (k : ℕ) (rest : Kind) → k < length es → entry_claim es below (length (objects es below) - suc k) rest ≡ entry_kind (at Pushed_operation es k)
 entry_claimed [] below k rest lt = absurd (omega arith)
 entry_claimed (x ∷ es) below zero rest lt = grind (arith, nat_tests, eq-eqb)
 entry_claimed (x ∷ es) below (suc k) rest lt = grind (arith, nat_tests, length_each es below, ne_eqb, entry_claimed es below k rest)
 
 -- that entry alone is claimed anew
-pub readied_claim : (es : List Pushed) (below : List Form) (k j : ℕ) (rest : Kind) → k < length es → entry_claim (readied_at es k) below j rest ≡ cond
+pub readied_claim : (es : List CleanupEntry) (below : List Form) (k j : ℕ) (rest : Kind) → k < length es → entry_claim (readied_at es k) below j rest ≡ cond
     ((length (objects es below) - suc k) == j) (readied (entry_kind (at Pushed_operation es k))) (entry_claim es below j rest)
 readied_claim [] below k j rest lt = absurd (omega arith)
 readied_claim (x ∷ es) below zero j rest lt = grind (arith, nat_tests)

@@ -3,7 +3,7 @@ use Rattle.std.proofs.Common.{arith, ℕ, List, ◌∷◌, ◌≡◌, ℤ, subst
 use Rattle.aom_image.proofs.Given.{cons_given}
 use Rattle.aom_image.specs.declared.method.Gives.{Gives}
 use Rattle.aom_shape.specs.Shape.{Shape}
-use Rattle.aom_shape.specs.declared.kind.Entry.{Entry as Pushed}
+use Rattle.aom_shape.specs.declared.kind.CleanupEntry.{CleanupEntry}
 use Rattle.aom_safety.specs.Claims.{Ending, Dispatching, Dying, Layer, Mark, Method, Unwinding, task_of, tasks_of}
 use Rattle.aom_semantics.specs.Places.{Object}
 use Rattle.aom_semantics.specs.State.{Closing, Destroy, Dispatch, Dispatched, Frame, Run, Seat, Task, Trapped, Unwind}
@@ -18,7 +18,7 @@ going_of l e = grind arith
 closing_of : (l : Layer) → task_of l ≡ Closing → (o : Object) × (left : List ℕ) × (l ≡ Ending o left)
 closing_of x e = grind arith
 
-leave_of : (l : Layer) (code : ℤ) → task_of l ≡ Unwind code → (es : List Pushed) × (l ≡ Unwinding code es)
+leave_of : (l : Layer) (code : ℤ) → task_of l ≡ Unwind code → (es : List CleanupEntry) × (l ≡ Unwinding code es)
 leave_of l code e = grind arith
 
 dispatch_of : (l : Layer) (d : Dispatch) → task_of l ≡ Dispatched d → (seats : List Seat) × (l ≡ Dispatching d seats)
@@ -42,7 +42,7 @@ module _ {G : Type 0} (P : List Layer → Type 0) where
   closing_layer ts ls e h gives = top_layer Closing ts ls e h (λ l below task rest h. let f = closing_of l task in gives f.0 f.1 below rest (subst (λ l. P (l ∷ below)) f.2 h))
 
   pub leave_layer : (code : ℤ) (ts : List Task) (ls : List Layer) → tasks_of ls ≡ Unwind code ∷ ts → P ls →
-      ((es : List Pushed) (below : List Layer) → tasks_of below ≡ ts → P (Unwinding code es ∷ below) → G) → G
+      ((es : List CleanupEntry) (below : List Layer) → tasks_of below ≡ ts → P (Unwinding code es ∷ below) → G) → G
   leave_layer code ts ls e h gives = top_layer (Unwind code) ts ls e h (λ l below task rest h. let f = leave_of l code task in gives f.0 below rest (subst (λ l. P (l ∷ below)) f.1 h))
 
   pub dispatch_layer : (d : Dispatch) (ts : List Task) (ls : List Layer) → tasks_of ls ≡ Dispatched d ∷ ts → P ls →

@@ -11,7 +11,7 @@ use Rattle.aom_shape.specs.Kinds.{none_owns}
 use Rattle.aom_shape.specs.Shape.{Shape}
 use Rattle.aom_roles.specs.Things.{holder_of}
 use Rattle.aom_rules.specs.Typing.{Typing}
-use Rattle.aom_shape.specs.declared.kind.Entry.{Entry as Pushed}
+use Rattle.aom_shape.specs.declared.kind.CleanupEntry.{CleanupEntry}
 use Rattle.aom_shape.specs.declared.kind.Kind.{Kind}
 use Rattle.aom_safety.proofs.Claimed.{layer_rel}
 use Rattle.aom_safety.proofs.Finishing.{ended, none_owns_at, none_owns_from}
@@ -41,7 +41,7 @@ use Rattle.aom_roles.specs.Roles.{is_cancel}
 use Rattle.aom_roles.specs.Tests.{AllTrue}
 
 -- the entries of the methods over the innermost trap, the last first
-abbrev pub entries_over : List Layer → List Pushed
+abbrev pub entries_over : List Layer → List CleanupEntry
 entries_over (Method fr sh ∷ ls) = sh.entries ++ entries_over ls
 entries_over _ = []
 
@@ -59,7 +59,7 @@ tasks_from_trap : (ls : List Layer) → to_trap (tasks_of ls) ≡ tasks_of (from
 tasks_from_trap (Method fr sh ∷ ls) = tasks_from_trap ls
 tasks_from_trap _ = refl
 
-objects_append : (es fs : List Pushed) (items : List Form) → objects (es ++ fs) items ≡ objects es (objects fs items)
+objects_append : (es fs : List CleanupEntry) (items : List Form) → objects (es ++ fs) items ≡ objects es (objects fs items)
 objects_append [] fs items = refl
 objects_append (e ∷ es) fs items = ap (λ l. entry_form e ∷ l) (objects_append es fs items)
 
@@ -68,11 +68,11 @@ items_from_trap (Method fr sh ∷ ls) = grind (arith, nat_tests, items_from_trap
 items_from_trap _ = refl
 
 -- the entries of two layers as those of one
-entries_join : (es fs : List Pushed) (items : List Form) (k : ℕ) (below : Kind) → entry_claim (es ++ fs) items k below ≡ entry_claim es (objects fs items) k (entry_claim fs items k below)
+entries_join : (es fs : List CleanupEntry) (items : List Form) (k : ℕ) (below : Kind) → entry_claim (es ++ fs) items k below ≡ entry_claim es (objects fs items) k (entry_claim fs items k below)
 entries_join [] fs items k below = refl
 entries_join (e ∷ es) fs items k below = grind (arith, nat_tests, objects_append es fs items, entries_join es fs items k below)
 
-join_claims : (p : Image) (d : Place → Kind) (code : ℤ) (es fs : List Pushed) (ls : List Layer) (r : Place) →
+join_claims : (p : Image) (d : Place → Kind) (code : ℤ) (es fs : List CleanupEntry) (ls : List Layer) (r : Place) →
     claim p d (Unwinding code es ∷ Unwinding code fs ∷ ls) r ≡ claim p d (Unwinding code (es ++ fs) ∷ ls) r
 join_claims p d code es fs ls x = grind (arith, nat_tests, entries_join es fs)
 
@@ -106,7 +106,7 @@ ended_by_leave p cs fr sh ls code houses counts housed apart at_top n here serve
     go _ fits = fits
 
 -- all methods over the trap end so
-all_ended : (p : Image) (t : Typing) (cs : List Cell) (code : ℤ) (ls : List Layer) (es : List Pushed) (m : ℕ) (home : Home) → leaves p m ≡ true →
+all_ended : (p : Image) (t : Typing) (cs : List Cell) (code : ℤ) (ls : List Layer) (es : List CleanupEntry) (m : ℕ) (home : Home) → leaves p m ≡ true →
     Stack p t cs (Returns m home) ls → (r : Place) (h : Sight) (o : Option Object) → Fits p h o (claim p (declared p cs) (Unwinding code es ∷ ls) r) →
     Fits p h o (claim p (declared p cs) (Unwinding code (es ++ entries_over ls) ∷ from_trap ls) r)
 all_ended p t cs code (Method fr sh ∷ ls) es m home e s r h o fits =
@@ -204,7 +204,7 @@ module _ (p : Image) (t : Typing) (wired : IsWired p) (cs : List Cell) (x : Obje
     suits_left _ m home e s h = h
 
 -- so it is with all objects
-all_left : (p : Image) (t : Typing) (wired : IsWired p) (cs : List Cell) (code : ℤ) (es : List Pushed) (fr : Frame) (sh : Shape) (ls : List Layer) →
+all_left : (p : Image) (t : Typing) (wired : IsWired p) (cs : List Cell) (code : ℤ) (es : List CleanupEntry) (fr : Frame) (sh : Shape) (ls : List Layer) →
     Fitted p t cs fr sh ls → leaves p fr.method ≡ true → unissued sh.states ≡ true → AllSuit p cs (Unwinding code es ∷ from_trap ls)
 all_left p t wired cs code es fr sh ls g may u x lives = go (works_at x.name fr.home) refl (g.suits x lives)
   where

@@ -5,7 +5,7 @@ use Rattle.aom_image.specs.Image.{Image}
 use Rattle.aom_clients.specs.Table.{server_of}
 use Rattle.aom_clients.specs.declared.client.Client.{Client}
 use Rattle.aom_clients.specs.declared.client.Client.TheVariants.{Open}
-use Rattle.aom_clients.specs.declared.refusal.Refusal.{Refusal}
+use Rattle.aom_clients.specs.declared.refusal.CommandRefusal.{CommandRefusal}
 use Rattle.aom_rules.specs.Typing.{Typing}
 use Rattle.aom_safety.proofs.ClientsAsk.{asked_there}
 use Rattle.aom_safety.proofs.ClientsCommand.{nobody, none_named, server_stays, server_there}
@@ -21,8 +21,8 @@ use Rattle.aom_semantics.specs.Places.{Cell, Close_of, Connect_of, Message_of, n
 use Rattle.aom_semantics.specs.Servers.{asked_last, reserved, withdrawn}
 use Rattle.aom_semantics.specs.State.{State}
 use Rattle.aom_safety.specs.WellTyped.{Good, WellTyped}
-use Rattle.aom_transcript.specs.declared.event.Command.{Command}
-use Rattle.aom_transcript.specs.declared.event.Command.TheVariants.{Connect}
+use Rattle.aom_transcript.specs.declared.event.ClientCommand.{ClientCommand}
+use Rattle.aom_transcript.specs.declared.event.ClientCommand.TheVariants.{Connect}
 
 module _ (p : Image) (t : Typing) (wired : IsWired p) (s : State) (w : WellTyped p t s) (idle : s.tasks ≡ []) (fit : ClientsFit p s.clients s.cells) (c : ℕ) where
   good : Good p t s.cells []
@@ -32,17 +32,17 @@ module _ (p : Image) (t : Typing) (wired : IsWired p) (s : State) (w : WellTyped
   well : (u : State) → u.tasks ≡ s.tasks → u.items ≡ s.items → Good p t u.cells [] → WellTyped p t u
   well u tasks items now = search (arith, nat_tests, at_rest p t s w idle, good)
 
-  connects_well : (refused : Option Refusal) (class slots : ℕ) → WellTyped p t (connecting p c s refused (asked_server p class s.cells) slots)
+  connects_well : (refused : Option CommandRefusal) (class slots : ℕ) → WellTyped p t (connecting p c s refused (asked_server p class s.cells) slots)
   connects_well refused class slots = go refused (asked_server p class s.cells) refl
     where
-      go : (r : Option Refusal) (x : Option Listed) → asked_server p class s.cells ≡ x → WellTyped p t (connecting p c s r x slots)
+      go : (r : Option CommandRefusal) (x : Option Listed) → asked_server p class s.cells ≡ x → WellTyped p t (connecting p c s r x slots)
       go None (Some x) e =
           let l = asked_there p class s.cells x good.tidy e in
           well _ refl refl (grind (arith, nat_tests, good_asked p t s.cells l.0 l.2 (Connect_of c), good))
       go None None e = w
       go (Some r) x e = w
 
-  sends_well : (refused : Option Refusal) (name : ℕ) (words : List ℤ) → named s.cells name ≡ None → (k : Client) → client_at s.clients c ≡ k → WellTyped p t (sending p c s refused k name words)
+  sends_well : (refused : Option CommandRefusal) (name : ℕ) (words : List ℤ) → named s.cells name ≡ None → (k : Client) → client_at s.clients c ≡ k → WellTyped p t (sending p c s refused k name words)
   sends_well None name words free (Open server session slots) at =
       let there = server_there p c s good.tidy fit server (fit.listed server c (ap server_of at)) in
       well _ refl refl (rw there.1 at (good_sent p t s.cells good there.0 there.2 there.3 c name free (the_message there.0.name) refl refl refl refl refl
@@ -70,6 +70,6 @@ module _ (p : Image) (t : Typing) (wired : IsWired p) (s : State) (w : WellTyped
       go _ at = alone
 
   -- whatever is commanded
-  pub commanded_well : (command : Command) (name : ℕ) → named s.cells name ≡ None → WellTyped p t (commanded p c s command name)
+  pub commanded_well : (command : ClientCommand) (name : ℕ) → named s.cells name ≡ None → WellTyped p t (commanded p c s command name)
   commanded_well (Connect class slots) name free = connects_well (refusal p c s (Connect class slots)) class slots
   commanded_well x name free = grind (arith, nat_tests, sends_well, leaves_well)

@@ -8,7 +8,7 @@ use Rattle.aom_rules.specs.Typing.{Typing}
 use Rattle.aom_shape.specs.Kinds.{filled}
 use Rattle.aom_roles.specs.Things.{Program, field_thing, stands_for, is_object}
 use Rattle.aom_shape.specs.Shape.{Shape}
-use Rattle.aom_shape.specs.declared.kind.Entry.{Entry as Pushed}
+use Rattle.aom_shape.specs.declared.kind.CleanupEntry.{CleanupEntry}
 use Rattle.aom_shape.specs.declared.kind.Filling.{Filling}
 use Rattle.aom_shape.specs.declared.kind.Filling.TheVariants.{Full, Perhaps}
 use Rattle.aom_shape.specs.declared.kind.Kind.{Kind}
@@ -33,7 +33,7 @@ module _ (p : Image) (h : Sight) (o : Object) where
   either : (b : Bool) (k l : Kind) → IsOne k → IsOne l → IsOne (cond b k l)
   either x k l one other = grind arith
 
-  among_entries : (es : List Pushed) (items : List Form) (k : ℕ) (below : Kind) → IsOne below → IsOne (entry_claim es items k below)
+  among_entries : (es : List CleanupEntry) (items : List Form) (k : ℕ) (below : Kind) → IsOne below → IsOne (entry_claim es items k below)
   among_entries [] items k below one = one
   among_entries (x ∷ es) items k below one = grind (arith, nat_tests, either, among_entries es items k below one)
 

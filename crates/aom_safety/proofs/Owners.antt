@@ -15,7 +15,7 @@ use Rattle.aom_roles.specs.Shapes.{kind_of}
 use Rattle.aom_shape.specs.Kinds.{field, filled}
 use Rattle.aom_roles.specs.Things.{holder_of, Program, field_thing, stands_for}
 use Rattle.aom_rules.specs.Typing.{Typing}
-use Rattle.aom_shape.specs.declared.kind.Entry.{Entry as Pushed}
+use Rattle.aom_shape.specs.declared.kind.CleanupEntry.{CleanupEntry}
 use Rattle.aom_shape.specs.declared.kind.Filling.{Filling}
 use Rattle.aom_shape.specs.declared.kind.Filling.TheVariants.{Full, Perhaps}
 use Rattle.aom_shape.specs.declared.kind.Kind.{Kind}
@@ -185,10 +185,10 @@ module _ (p : Image) (cs : List Cell) (x : Thing) where
   registers_live (Dispatching w seats ∷ ls) f i h = not_here (Dispatching w seats) ls f i h (registers_live ls f i h)
 
   -- of a layer's own entries, over the items below them
-  abbrev ClaimsOver : List Pushed → List Layer → ℕ → Type 0
+  abbrev ClaimsOver : List CleanupEntry → List Layer → ℕ → Type 0
   ClaimsOver es ls k = HasThing (entry_claim es (items_of ls) k (claim p (declared p cs) ls (Entry k))) x
 
-  entries_live : (es : List Pushed) (ls : List Layer) (k : ℕ) → (Claims ls (Entry k) → over (items_of ls) k ≡ Some Object_form) → ClaimsOver es ls k →
+  entries_live : (es : List CleanupEntry) (ls : List Layer) (k : ℕ) → (Claims ls (Entry k) → over (items_of ls) k ≡ Some Object_form) → ClaimsOver es ls k →
       over (objects es (items_of ls)) k ≡ Some Object_form
   entries_live [] ls k below h = below h
   entries_live (e ∷ es) ls k below h = grind (arith, nat_tests, entries_live es ls k below)

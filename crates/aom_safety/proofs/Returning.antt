@@ -16,8 +16,8 @@ use Rattle.aom_shape.specs.Entries.{with_entry}
 use Rattle.aom_shape.specs.Shape.{Shape}
 use Rattle.aom_rules.specs.Typing.{Leads, Typing}
 use Rattle.aom_shape.specs.declared.kind.Age.TheVariants.{Ready}
-use Rattle.aom_shape.specs.declared.kind.Entry.{Entry as Pushed}
-use Rattle.aom_shape.specs.declared.kind.Entry.TheVariants.{Object as Pushed_object}
+use Rattle.aom_shape.specs.declared.kind.CleanupEntry.{CleanupEntry}
+use Rattle.aom_shape.specs.declared.kind.CleanupEntry.TheVariants.{Object as Pushed_object}
 use Rattle.aom_shape.specs.declared.kind.Kind.{Kind}
 use Rattle.aom_shape.specs.declared.kind.Kind.TheVariants.{Maybe, Null, Own, Word}
 use Rattle.aom_safety.proofs.Claimed.{claim-set_register, claim_frame, claim_push, claim_register_above, declared_moved, keep_fits, mark_claims, stack_moved}
@@ -81,11 +81,11 @@ module _ (p : Image) (t : Typing) (c : Choice) (s : State) (fr fr2 : Frame) (sh 
     stack = caller.4;
   }
     where
-      entry : Pushed
+      entry : CleanupEntry
       entry = Pushed_object x Ready
 
       -- what is left there
-      itself : Pushed
+      itself : CleanupEntry
       itself = Pushed_object (left_alone p x sh.entries e).class Ready
 
       spot : Place
@@ -478,7 +478,7 @@ module _ (p : Image) (t : Typing) (c : Choice) (s : State) (fr : Frame) (sh : Sh
   )
 
 -- over an unwinding an operation is over
-module _ (p : Image) (t : Typing) (c : Choice) (s : State) (fr : Frame) (sh : Shape) (code : ℤ) (es : List Pushed) (ls : List Layer) (at_hand : At p t s fr sh (Unwinding code es ∷ ls)) where
+module _ (p : Image) (t : Typing) (c : Choice) (s : State) (fr : Frame) (sh : Shape) (code : ℤ) (es : List CleanupEntry) (ls : List Layer) (at_hand : At p t s fr sh (Unwinding code es ∷ ls)) where
   pub law_return_unwound : (a : ℕ) → Law p t c s fr sh (Unwinding code es ∷ ls) at_hand (Return a)
   law_return_unwound a n leads =
       let below = Unwinding code es ∷ ls in

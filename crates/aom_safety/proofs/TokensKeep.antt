@@ -8,10 +8,10 @@ use Rattle.aom_image.specs.declared.method.Argument.{Argument}
 use Rattle.aom_image.specs.declared.method.Argument.TheVariants.{Own as Takes_own, Word as Takes_word}
 use Rattle.aom_image.specs.declared.method.Gives.{Gives}
 use Rattle.aom_clients.specs.declared.client.Client.{Client}
-use Rattle.aom_clients.specs.declared.refusal.Refusal.{Refusal}
+use Rattle.aom_clients.specs.declared.refusal.CommandRefusal.{CommandRefusal}
 use Rattle.aom_instructions.specs.declared.instr.Instr.{Instr}
 use Rattle.aom_instructions.specs.declared.instr.Instr.TheVariants as instrs
-use Rattle.aom_transcript.specs.declared.event.Command.{Command}
+use Rattle.aom_transcript.specs.declared.event.ClientCommand.{ClientCommand}
 use Rattle.aom_safety.proofs.Apart.{handed_apart, redeemed_by_apart}
 use Rattle.aom_safety.proofs.ClientsEffects.{Fine, IsUsual, fewer_on, fine_effect}
 use Rattle.aom_safety.proofs.ClientsMoves.{IsSteady}
@@ -162,12 +162,12 @@ comes_completed : (cs : List Cell) (o : Object) (f : Request → Request) → ((
 comes_completed cs o f fewer = comes_asked cs o.name (on_request f (requested cs o.name)) (fewer_on f fewer (requested cs o.name))
 
 module _ (p : Image) (client : ℕ) (s : State) (tidy : Tidy s.cells) where
-  comes_connecting : (refused : Option Refusal) (server : Option Listed) (slots : ℕ) → NoneComes s.cells (connecting p client s refused server slots).cells
+  comes_connecting : (refused : Option CommandRefusal) (server : Option Listed) (slots : ℕ) → NoneComes s.cells (connecting p client s refused server slots).cells
   comes_connecting None (Some x) slots = comes_served s.cells x.name _ refl
   comes_connecting None None slots = comes_itself s.cells
   comes_connecting (Some r) server slots = comes_itself s.cells
 
-  comes_sending : (refused : Option Refusal) (c : Client) (name : ℕ) (words : List ℤ) → NoneComes s.cells (sending p client s refused c name words).cells
+  comes_sending : (refused : Option CommandRefusal) (c : Client) (name : ℕ) (words : List ℤ) → NoneComes s.cells (sending p client s refused c name words).cells
   comes_sending x y name words = grind (arith, nat_tests, comes_then s.cells, comes_served s.cells, comes_more, comes_itself s.cells)
 
   comes_told : (c : Client) (cs : List Cell) → NoneComes cs (told p client s c cs)
@@ -179,7 +179,7 @@ module _ (p : Image) (client : ℕ) (s : State) (tidy : Tidy s.cells) where
       let us = withdrawn client s.cells in
       comes_then s.cells us (told p client s (client_at s.clients client) us) (comes_withdrawn s.cells tidy client) (comes_told (client_at s.clients client) us)
 
-  comes_commanded : (command : Command) (name : ℕ) → NoneComes s.cells (commanded p client s command name).cells
+  comes_commanded : (command : ClientCommand) (name : ℕ) → NoneComes s.cells (commanded p client s command name).cells
   comes_commanded x name = grind (arith, nat_tests, comes_connecting, comes_sending, comes_leaving)
 
 comes_taken : (s : State) (n : ℕ) (from to : Place) → NoneComes s.cells (moved from to (taken_from n s).cells)

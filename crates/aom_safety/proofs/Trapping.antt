@@ -11,8 +11,8 @@ use Rattle.aom_instructions.specs.declared.instr.Instr.TheVariants.{Trap}
 use Rattle.aom_instructions.specs.declared.instr.Target.{Target}
 use Rattle.aom_image.specs.declared.method.Gives.{Gives}
 use Rattle.aom_rules.specs.Typing.{IsTyped, Typing}
-use Rattle.aom_shape.specs.declared.kind.Entry.{Entry as Pushed_entry}
-use Rattle.aom_shape.specs.declared.kind.Entry.TheVariants.{Object as Pushed_object, Operation as Operation_entry}
+use Rattle.aom_shape.specs.declared.kind.CleanupEntry.{CleanupEntry}
+use Rattle.aom_shape.specs.declared.kind.CleanupEntry.TheVariants.{Object as Pushed_object, Operation as Operation_entry}
 use Rattle.aom_safety.proofs.Booting.{boot_keeps}
 use Rattle.aom_safety.proofs.Caught.{own_word, told_frame}
 use Rattle.aom_safety.proofs.ClientsKeep.{clients_keep}
@@ -55,7 +55,7 @@ marks_of_forms [] = refl
 marks_of_forms (A_mark ∷ items) = ap suc (marks_of_forms items)
 marks_of_forms (_ ∷ items) = marks_of_forms items
 
-pub marks_under : (es : List Pushed_entry) (fs : List Form) → mark_forms (objects es fs) ≡ mark_forms fs
+pub marks_under : (es : List CleanupEntry) (fs : List Form) → mark_forms (objects es fs) ≡ mark_forms fs
 marks_under [] fs = refl
 marks_under (Pushed_object c a ∷ es) fs = marks_under es fs
 marks_under (Operation_entry ∷ es) fs = marks_under es fs

@@ -17,7 +17,7 @@ use Rattle.aom_semantics.specs.World.{dispatched, past_native, polled, run_tasks
 use Rattle.std.specs.Prelude.{[], length}
 use Rattle.aom_semantics.specs.Clients.{commanded}
 use Rattle.aom_semantics.specs.Destruction.{begun}
-use Rattle.aom_transcript.specs.declared.event.Command.{Command}
+use Rattle.aom_transcript.specs.declared.event.ClientCommand.{ClientCommand}
 
 abbrev pub picked : ℕ → Seat → State → State
 picked m x s =
@@ -47,7 +47,7 @@ pub data Turned (p : Image) (s : State) : State → Type 0 where
   keeps_all : (r : Counters) → Turned p s (record s { rest = r })
   completes : (code : ℤ) (o : Object) (r : Counters) → int_eq code pending ≡ false → Turned p s (record s { cells = with_request (completed_with code) o s.cells; rest = r })
   kills : (n : ℕ) (r : Counters) (killed : List ℕ) → Turned p s (record s { cells = all_bereaved p n s.cells; rest = r; killed = killed })
-  obeys : (client : ℕ) (command : Command) (name : ℕ) → Turned p s (commanded p client (heard_one s) command name)
+  obeys : (client : ℕ) (command : ClientCommand) (name : ℕ) → Turned p s (commanded p client (heard_one s) command name)
   picks : (x : Seat) (u : State) → Picked p s x u → Turned p s u
 
 pub dispatched_so : (p : Image) (s u : State) (x : Seat) → dispatched (part_of p Handles x.object.thing) x s ≡ Goes u → (m : ℕ) × (part_of p Handles x.object.thing ≡ Some m) × (u ≡ picked m x s)
@@ -77,7 +77,7 @@ module _ (p : Image) (client : ℕ) (s : State) where
   abbrev Keeps_rest : State → Type 0
   Keeps_rest u = (u.rest ≡ s.rest) × (u.tasks ≡ s.tasks)
 
-  pub commanded_kept : (command : Command) (name : ℕ) → Keeps_rest (commanded p client s command name)
+  pub commanded_kept : (command : ClientCommand) (name : ℕ) → Keeps_rest (commanded p client s command name)
   commanded_kept x name = grind (arith, nat_tests)
 
 -- ---- a native that is polled

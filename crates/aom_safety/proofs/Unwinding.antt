@@ -4,7 +4,7 @@ use Rattle.std.proofs.Common.{List, [], ap, refl, true, ℤ, ◌∷◌, ◌≡�
 use Rattle.aom_image.specs.Image.{Image}
 use Rattle.aom_roles.specs.Roles.{is_cancel}
 use Rattle.aom_rules.specs.Typing.{IsTyped, Typing}
-use Rattle.aom_shape.specs.declared.kind.Entry.{Entry as Pushed}
+use Rattle.aom_shape.specs.declared.kind.CleanupEntry.{CleanupEntry}
 use Rattle.aom_safety.proofs.Arrival.{arrives}
 use Rattle.aom_safety.proofs.Dealing.{Dealing, deals}
 use Rattle.aom_safety.specs.Claims.{Dispatching, Layer, Mark, Unwinding, entry_form, forms, items_of, objects, tasks_of}
@@ -17,7 +17,7 @@ use Rattle.aom_safety.proofs.Items.{no_mark}
 -- one more entry to unwind
 module _ (p : Image) (t : Typing) (wired : IsWired p) (typed : IsTyped p t) (s : State) (code : ℤ) where
   -- an entry is left: it is dealt with over the unwinding
-  of_entry : (e : Pushed) (es : List Pushed) (ls : List Layer) → forms s.items ≡ entry_form e ∷ objects es (items_of ls) →
+  of_entry : (e : CleanupEntry) (es : List CleanupEntry) (ls : List Layer) → forms s.items ≡ entry_form e ∷ objects es (items_of ls) →
       AllUndo p s.items → Good p t s.cells (Unwinding code (e ∷ es) ∷ ls) → Keeps p t (unwound p code (tasks_of ls) s s.items)
   of_entry e es ls same undos good =
       let d : Dealing p t s e (Unwinding code (e ∷ es) ∷ ls) (Unwinding code es ∷ ls) = record {
@@ -35,7 +35,7 @@ module _ (p : Image) (t : Typing) (wired : IsWired p) (typed : IsTyped p t) (s :
       let w = deals p t wired typed s e (Unwinding code (e ∷ es) ∷ ls) (Unwinding code es ∷ ls) d in
       go e s.items same w.0 w.1
     where
-      go : (e : Pushed) (items : List Item) → forms items ≡ entry_form e ∷ objects es (items_of ls) → top_is_whole s.cells items ≡ true →
+      go : (e : CleanupEntry) (items : List Item) → forms items ≡ entry_form e ∷ objects es (items_of ls) → top_is_whole s.cells items ≡ true →
           WellTyped p t (dealt_with p items (Unwind code ∷ tasks_of ls) s) → Keeps p t (unwound p code (tasks_of ls) s items)
       go e [] same whole w = cc
       go e (An_object ∷ items) same whole w = grind (arith, nat_tests)
@@ -50,7 +50,7 @@ module _ (p : Image) (t : Typing) (wired : IsWired p) (typed : IsTyped p t) (s :
   of_none _ same undos good = absurd (assumption tt)
 
   pub unwinds :
-      (es : List Pushed) (ls : List Layer) → forms s.items ≡ objects es (items_of ls) → AllUndo p s.items → Good p t s.cells (Unwinding code es ∷ ls) →
+      (es : List CleanupEntry) (ls : List Layer) → forms s.items ≡ objects es (items_of ls) → AllUndo p s.items → Good p t s.cells (Unwinding code es ∷ ls) →
       Keeps p t (unwound p code (tasks_of ls) s s.items)
   unwinds [] ls same undos good = of_none ls same undos good
   unwinds (e ∷ es) ls same undos good = of_entry e es ls same undos good

@@ -6,8 +6,8 @@ use Rattle.aom_roles.specs.Things.{Holder, Program, field_thing, holder_of}
 use Rattle.aom_shape.specs.Shape.{Shape}
 use Rattle.aom_shape.specs.Kinds.{entry_kind, filled, register, field}
 use Rattle.aom_shape.specs.declared.kind.Age.TheVariants.{Ready}
-use Rattle.aom_shape.specs.declared.kind.Entry.{Entry as Pushed}
-use Rattle.aom_shape.specs.declared.kind.Entry.TheVariants.{Object as Pushed_object, Operation as Pushed_operation}
+use Rattle.aom_shape.specs.declared.kind.CleanupEntry.{CleanupEntry}
+use Rattle.aom_shape.specs.declared.kind.CleanupEntry.TheVariants.{Object as Pushed_object, Operation as Pushed_operation}
 use Rattle.aom_shape.specs.declared.kind.Filling.{Filling}
 use Rattle.aom_shape.specs.declared.kind.Filling.TheVariants.{Perhaps, Full}
 use Rattle.aom_shape.specs.declared.kind.Kind.{Kind}
@@ -33,7 +33,7 @@ pub data Layer : Type 0 where
   Dying : Object → Layer
   -- these sessions with a server that is going go first
   Ending : Object → (left : List ℕ) → Layer
-  Unwinding : (code : ℤ) (entries : List Pushed) → Layer
+  Unwinding : (code : ℤ) (entries : List CleanupEntry) → Layer
   Dispatching : Dispatch → (seats : List Seat) → Layer
 
 abbrev pub task_of : Layer → Task
@@ -48,7 +48,7 @@ abbrev pub tasks_of : List Layer → List Task
 tasks_of [] = []
 tasks_of (l ∷ ls) = task_of l ∷ tasks_of ls
 
-abbrev pub entries_of : Layer → List Pushed
+abbrev pub entries_of : Layer → List CleanupEntry
 entries_of (Method fr sh) = sh.entries
 entries_of (Mark gv) = []
 entries_of (Dying o) = []
@@ -70,12 +70,12 @@ form A_mark = Mark_form
 abbrev pub forms : List Item → List Form
 forms items = map form items
 
-abbrev pub entry_form : Pushed → Form
+abbrev pub entry_form : CleanupEntry → Form
 entry_form (Pushed_object c a) = Object_form
 entry_form Pushed_operation = Operation_form
 
 -- an item for each entry, over others
-abbrev pub objects : List Pushed → List Form → List Form
+abbrev pub objects : List CleanupEntry → List Form → List Form
 objects [] below = below
 objects (e ∷ es) below = entry_form e ∷ objects es below
 
@@ -92,7 +92,7 @@ items_of [] = []
 items_of (l ∷ ls) = layer_items l (items_of ls)
 
 -- a claim of each layer goes before those of the layers below it
-abbrev pub entry_claim : List Pushed → List Form → ℕ → Kind → Kind
+abbrev pub entry_claim : List CleanupEntry → List Form → ℕ → Kind → Kind
 entry_claim [] items k below = below
 entry_claim (x ∷ xs) items k below = cond (length (objects xs items) == k) (entry_kind x) (entry_claim xs items k below)
 

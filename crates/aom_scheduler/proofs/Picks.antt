@@ -8,14 +8,14 @@ use Rattle.std.proofs.lemmas.List.Elements.{All-nil}
 use Rattle.std.proofs.lemmas.Int.{ints}
 use Rattle.std.proofs.lemmas.Option.{same_Some, slice_get_within, get_or_from_slice_get, IfSome_then}
 use Rattle.aom_scheduler.specs.Roster.{before, first_ready, IsPick, IsBehind}
-use Rattle.aom_scheduler.specs.declared.entry.Entry.{Entry}
+use Rattle.aom_scheduler.specs.declared.entry.ScheduleEntry.{ScheduleEntry}
 use Rattle.aom_scheduler.proofs.Items.{pairs-tail}
 
 le-cases : (a b : ℤ) → int_le a b ≡ true → (a <ℤ b) ⊎ (a ≡ b)
 le-cases a b le = grind (arith, ints)
 
 -- all that follow the first entry are behind it
-behind-first : (x : Entry) (xs : List Entry) → AllPairs (λ e f. before e f ≡ true) (x ∷ xs) → IsBehind (x ∷ xs) 0 x
+behind-first : (x : ScheduleEntry) (xs : List ScheduleEntry) → AllPairs (λ e f. before e f ≡ true) (x ∷ xs) → IsBehind (x ∷ xs) 0 x
 behind-first x xs sorted zero e is differs ready = absurd (differs refl)
 behind-first x xs sorted (suc k) e is differs ready =
     let stands : get_or xs k e ≡ e = get_or_from_slice_get xs k e e is in
@@ -23,14 +23,14 @@ behind-first x xs sorted (suc k) e is differs ready =
     elim (le-cases e.priority x.priority ranks) [ inl lower ↦ inl lower | inr same ↦ inr (same, omega arith) ]
 
 -- an entry in front that waits changes no pick
-later-pick : (x : Entry) (xs : List Entry) (id : ℕ) → x.is_ready ≡ false → IsPick xs id → IsPick (x ∷ xs) id
+later-pick : (x : ScheduleEntry) (xs : List ScheduleEntry) (id : ℕ) → x.is_ready ≡ false → IsPick xs id → IsPick (x ∷ xs) id
 later-pick x xs id waits p =
     record { at = suc p.at; entry = p.entry; there = p.there; same = p.same; ready = p.ready; others = others }
   where
     others : IsBehind (x ∷ xs) (suc p.at) p.entry
     others y e is differs ready = grind (arith, nat_tests, same_Some)
 
-pub pick-first : (xs : List Entry) → AllPairs (λ e f. before e f ≡ true) xs → IfSome (first_ready xs) (IsPick xs)
+pub pick-first : (xs : List ScheduleEntry) → AllPairs (λ e f. before e f ≡ true) xs → IfSome (first_ready xs) (IsPick xs)
 pick-first [] sorted = tt
 pick-first (x ∷ xs) sorted =
     elim (cases_Bool x.is_ready) [
@@ -50,6 +50,6 @@ front-is now (i ∷ is) n (Some x) long some first = ap Some first
 front-is now _ n _ long some first = absurd (grind (arith, long, some.0, some.1))
 
 -- where there is no first, none is ready
-pub none-ready : (xs : List Entry) → IsNone (first_ready xs) → All (λ e. e.is_ready ≡ false) xs
+pub none-ready : (xs : List ScheduleEntry) → IsNone (first_ready xs) → All (λ e. e.is_ready ≡ false) xs
 none-ready [] none = All-nil (λ e. e.is_ready ≡ false)
 none-ready (x ∷ xs) none = grind (arith, none-ready xs)

@@ -13,7 +13,7 @@ use Rattle.std.specs.List.Sorted.{IsPartitionPoint}
 use Rattle.aom_scheduler.specs.Order.{placed, without, place_of, IsOrdered}
 use Rattle.aom_scheduler.specs.Roster.{Roster, place, before, marked, marked_entry}
 use Rattle.aom_scheduler.specs.Places.{or_else, numbered, Knows, IsIndexed}
-use Rattle.aom_scheduler.specs.declared.entry.Entry.{Entry}
+use Rattle.aom_scheduler.specs.declared.entry.ScheduleEntry.{ScheduleEntry}
 use Rattle.aom_scheduler.proofs.Items.{IsAt, IsAbsent, AreDistinct, Found, there, nowhere, find_it, at-place, place-at, place-absent, absent-place}
 use Rattle.aom_scheduler.proofs.Items.{absent-head, absent-tail, at-from_take, place-take_other, place-take_same, at-within, at-number, IsRanking}
 use Rattle.aom_scheduler.proofs.Items.{All-from_placed, ordered-placed, ordered-without, ordered-map, take-insert, take-remove, without-at, distinct-tail}
@@ -21,7 +21,7 @@ use Rattle.aom_scheduler.proofs.Items.{distinct-head, few, placed-point, at_head
 use Rattle.std.proofs.lemmas.Option.{same_Some}
 
 -- the number of an entry
-abbrev pub id_of : Entry → ℕ
+abbrev pub id_of : ScheduleEntry → ℕ
 id_of e = e.id
 
 -- priorities rank
@@ -29,7 +29,7 @@ pub by_priority : IsRanking before
 by_priority = search (arith, nat_tests, ints)
 
 -- one entry more is numbered
-pub numbered-more : (entries : List Entry) (places start : List (Option ℕ)) (at : ℕ) (e : Entry)
+pub numbered-more : (entries : List ScheduleEntry) (places start : List (Option ℕ)) (at : ℕ) (e : ScheduleEntry)
     → AreDistinct id_of entries → at < length entries → e ≡ get_or entries at e → e.id < length places
     → ((id : ℕ) → get_or places id None ≡ numbered id (take at entries) start)
     → (id : ℕ) → get_or (set places e.id (Some at)) id None ≡ numbered id (take (suc at) entries) start
@@ -47,7 +47,7 @@ numbered-more entries places start at e distinct within is small before_it id =
     ]
 
 -- what is absent beside an item that goes is absent, but for that item
-absent-without : (gone id : ℕ) (xs : List Entry) → id ≢ gone → IsAbsent id_of id (without id_of gone xs) → IsAbsent id_of id xs
+absent-without : (gone id : ℕ) (xs : List ScheduleEntry) → id ≢ gone → IsAbsent id_of id (without id_of gone xs) → IsAbsent id_of id xs
 absent-without gone id [] other absent = absent
 absent-without gone id (x ∷ xs) other absent =
     elim (cases_Bool (id_of x == gone)) [
@@ -68,14 +68,14 @@ absent-without gone id (x ∷ xs) other absent =
     swapped false h = h
 
 -- before an insertion the places of those in front are known
-pub known-insert : (entries : List Entry) (places : List (Option ℕ)) (at : ℕ) (e : Entry) → IsIndexed entries places → at ≤ length entries
+pub known-insert : (entries : List ScheduleEntry) (places : List (Option ℕ)) (at : ℕ) (e : ScheduleEntry) → IsIndexed entries places → at ≤ length entries
     → Knows places (take at (insert entries at e))
 known-insert entries places at e indexed within id i is =
     let front : IsAt id_of id (take at entries) i = grind (arith, take-insert entries at e within, place-at) in
     indexed.stands id ∙ at-place id_of id entries i (at-from_take id_of id entries at i front).1
 
 -- so before a removal
-pub known-remove : (entries : List Entry) (places : List (Option ℕ)) (at gone : ℕ) → IsIndexed entries places → place_of id_of gone entries ≡ Some at
+pub known-remove : (entries : List ScheduleEntry) (places : List (Option ℕ)) (at gone : ℕ) → IsIndexed entries places → place_of id_of gone entries ≡ Some at
     → Knows (set places gone None) (take at (remove entries at))
 known-remove entries places at gone indexed here id i is =
     let found = place-at id_of gone entries at here in
@@ -87,7 +87,7 @@ known-remove entries places at gone indexed here id i is =
     get_or-set_other places gone id None None other ∙ indexed.stands id ∙ there_it
 
 -- what is indexed after an insertion
-pub indexed-insert : (entries after : List Entry) (places now : List (Option ℕ)) (e : Entry) → IsIndexed entries places → e.id < length places
+pub indexed-insert : (entries after : List ScheduleEntry) (places now : List (Option ℕ)) (e : ScheduleEntry) → IsIndexed entries places → e.id < length places
     → place_of id_of e.id entries ≡ None
     → after ≡ placed before e entries → length now ≡ length places → ((id : ℕ) → get_or now id None ≡ numbered id after places) → IsIndexed after now
 indexed-insert entries after places now e indexed small new is same says =
@@ -104,7 +104,7 @@ indexed-insert entries after places now e indexed small new is same says =
         indexed.stands id ∙ absent-place id_of id entries was
 
 -- after a removal
-pub indexed-remove : (entries after : List Entry) (places now : List (Option ℕ)) (gone : ℕ) → IsIndexed entries places → gone < length places
+pub indexed-remove : (entries after : List ScheduleEntry) (places now : List (Option ℕ)) (gone : ℕ) → IsIndexed entries places → gone < length places
     → after ≡ without id_of gone entries → length now ≡ length places → ((id : ℕ) → get_or now id None ≡ numbered id after (set places gone None))
     → IsIndexed after now
 indexed-remove entries after places now gone indexed small is same says =
@@ -124,24 +124,24 @@ indexed-remove entries after places now gone indexed small is same says =
         ]
 
 -- a mark keeps the object and its priority
-marked-id : (id : ℕ) (ready : Bool) (e : Entry) → id_of (marked_entry id ready e) ≡ id_of e
+marked-id : (id : ℕ) (ready : Bool) (e : ScheduleEntry) → id_of (marked_entry id ready e) ≡ id_of e
 marked-id id ready e = grind (arith, nat_tests, cases_Bool, cond-true, cond-false)
 
-marked-priority : (id : ℕ) (ready : Bool) (e : Entry) → (marked_entry id ready e).priority ≡ e.priority
+marked-priority : (id : ℕ) (ready : Bool) (e : ScheduleEntry) → (marked_entry id ready e).priority ≡ e.priority
 marked-priority id ready e = grind (arith, nat_tests, cases_Bool, cond-true, cond-false)
 
-pub marked-place : (gone : ℕ) (ready : Bool) (id : ℕ) (xs : List Entry) → place_of id_of id (marked gone ready xs) ≡ place_of id_of id xs
+pub marked-place : (gone : ℕ) (ready : Bool) (id : ℕ) (xs : List ScheduleEntry) → place_of id_of id (marked gone ready xs) ≡ place_of id_of id xs
 marked-place gone ready id [] = refl
 marked-place gone ready id (x ∷ xs) = grind (arith, marked-place gone ready id xs)
 
 -- a mark is a write at the object's place
-pub marked-absent : (id : ℕ) (ready : Bool) (xs : List Entry) → IsAbsent id_of id xs → marked id ready xs ≡ xs
+pub marked-absent : (id : ℕ) (ready : Bool) (xs : List ScheduleEntry) → IsAbsent id_of id xs → marked id ready xs ≡ xs
 marked-absent id ready [] absent = refl
 marked-absent id ready (x ∷ xs) absent =
     ap (λ y. y ∷ marked id ready xs) (cond-false (x.id == id) (record x { is_ready = ready }) x (ne_eqb (id_of x) id (absent-head id_of id x xs absent)))
     ∙ ap (λ ys. x ∷ ys) (marked-absent id ready xs (absent-tail id_of id x xs absent))
 
-pub marked-at : (id : ℕ) (ready : Bool) (xs : List Entry) (i : ℕ) (d : Entry) → AreDistinct id_of xs → IsAt id_of id xs i
+pub marked-at : (id : ℕ) (ready : Bool) (xs : List ScheduleEntry) (i : ℕ) (d : ScheduleEntry) → AreDistinct id_of xs → IsAt id_of id xs i
     → set xs i (record (get_or xs i d) { is_ready = ready }) ≡ marked id ready xs
 marked-at id ready _ _ d distinct (at_head x xs same) =
     sym (ap (λ y. y ∷ marked id ready xs) (cond-true (x.id == id) (record x { is_ready = ready }) x (eq-eqb (id_of x) id same))
@@ -150,7 +150,7 @@ marked-at id ready _ _ d distinct (in_tail x xs other at) = ap (λ ys. x ∷ ys)
     ∙ sym (ap (λ y. y ∷ marked id ready xs) (cond-false (x.id == id) (record x { is_ready = ready }) x (ne_eqb (id_of x) id other)))
 
 -- after a mark all stand where they stood
-pub indexed-mark : (entries : List Entry) (places : List (Option ℕ)) (id : ℕ) (ready : Bool) → IsIndexed entries places
+pub indexed-mark : (entries : List ScheduleEntry) (places : List (Option ℕ)) (id : ℕ) (ready : Bool) → IsIndexed entries places
     → IsIndexed (marked id ready entries) places
 indexed-mark entries places id ready indexed =
     record {
@@ -158,11 +158,11 @@ indexed-mark entries places id ready indexed =
       stands = λ other. indexed.stands other ∙ sym (marked-place id ready other entries);
     }
   where
-    standing : (x y : Entry) → before (marked_entry id ready x) (marked_entry id ready y) ≡ before x y
+    standing : (x y : ScheduleEntry) → before (marked_entry id ready x) (marked_entry id ready y) ≡ before x y
     standing x y = grind (arith, nat_tests, marked-priority id ready y, marked-priority id ready x)
 
 -- what holds when an entry is put at its place
-pub record Insertion (entries : List Entry) (places : List (Option ℕ)) (at : ℕ) (e : Entry) : Type 0 where
+pub record Insertion (entries : List ScheduleEntry) (places : List (Option ℕ)) (at : ℕ) (e : ScheduleEntry) : Type 0 where
   pub indexed : IsIndexed entries places
   pub small : e.id < length places
   pub new : place_of id_of e.id entries ≡ None
@@ -172,7 +172,7 @@ pub record Insertion (entries : List Entry) (places : List (Option ℕ)) (at : �
   pub many : length (insert entries at e) ≤ length places
   pub known : Knows places (take at (insert entries at e))
 
-pub insertion : (entries : List Entry) (places : List (Option ℕ)) (at : ℕ) (e : Entry) → IsIndexed entries places → e.id < length places
+pub insertion : (entries : List ScheduleEntry) (places : List (Option ℕ)) (at : ℕ) (e : ScheduleEntry) → IsIndexed entries places → e.id < length places
     → IsNone (place_of id_of e.id entries)
     → at ≤ length entries → IsPartitionPoint (λ f. before f e ≡ true) (λ f. before f e ≡ false) entries at → Insertion entries places at e
 insertion entries places at e indexed small new within point =
@@ -197,7 +197,7 @@ pub written : {X : Type 0} (n : ℕ) (old new : List X) → n ≡ length new →
 written n old new is = ap (λ k. take k (new ++ drop (length new) old)) is ∙ take-append_seam new (drop (length new) old)
 
 -- the same from what the fields and a search among them say
-pub insertion-from : {roster : Roster} {entries shown : List Entry} {places : List (Option ℕ)} (at : ℕ) (e : Entry)
+pub insertion-from : {roster : Roster} {entries shown : List ScheduleEntry} {places : List (Option ℕ)} (at : ℕ) (e : ScheduleEntry)
     → record { entries = entries; limit = length places } ≡ roster → shown ≡ entries
     → IsIndexed entries places → e.id < roster.limit → IsNone (place e.id roster) → at ≤ length shown
     → IsPartitionPoint (λ f. before f e ≡ true) (λ f. before f e ≡ false) shown at → Insertion entries places at e
@@ -208,28 +208,28 @@ pub when_ok : {X T E : Type 0} {r : Result T E} {t : T} {now x : X} (y : X) → 
 when_ok {x = x} y ok is = is ∙ ap (λ s. if is_ok s then x else y) ok
 
 -- the places after the entry is put there and those behind it are numbered anew
-pub indexed-by_insertion : (entries shown : List Entry) (places lent now : List (Option ℕ)) (at : ℕ) (e : Entry) → Insertion entries places at e
+pub indexed-by_insertion : (entries shown : List ScheduleEntry) (places lent now : List (Option ℕ)) (at : ℕ) (e : ScheduleEntry) → Insertion entries places at e
     → shown ≡ insert entries at e → lent ≡ places
     → length now ≡ length lent → ((id : ℕ) → get_or now id None ≡ numbered id shown lent) → IsIndexed shown now
 indexed-by_insertion entries shown places lent now at e made is same long says =
     grind (arith, indexed-insert entries shown places now e made.indexed made.small made.new (is ∙ made.is))
 
 -- rosters of the same entries and limit
-pub same_roster : (xs ys : List Entry) (m n : ℕ) → xs ≡ ys → m ≡ n → ◌≡◌ {A = Roster} (record { entries = xs; limit = m }) (record { entries = ys; limit = n })
+pub same_roster : (xs ys : List ScheduleEntry) (m n : ℕ) → xs ≡ ys → m ≡ n → ◌≡◌ {A = Roster} (record { entries = xs; limit = m }) (record { entries = ys; limit = n })
 same_roster xs ys m n p q = cc
 
 -- an object that has an entry has it where its place says, in the fields too
-pub stands-in : (roster : Roster) (entries : List Entry) (limit id at : ℕ) (o : Option ℕ) → record { entries = entries; limit = limit } ≡ roster
+pub stands-in : (roster : Roster) (entries : List ScheduleEntry) (limit id at : ℕ) (o : Option ℕ) → record { entries = entries; limit = limit } ≡ roster
     → o ≡ place id roster → o ≡ Some at → IsAt id_of id entries at
 stands-in roster entries limit id at o view is some = place-at id_of id entries at (ap (λ r. place id r) view ∙ sym is ∙ some)
 
 -- the entry that is written over, marked
-pub marked-in : (entries : List Entry) (id at : ℕ) (ready : Bool) (e : Entry) → AreDistinct id_of entries → IsAt id_of id entries at
+pub marked-in : (entries : List ScheduleEntry) (id at : ℕ) (ready : Bool) (e : ScheduleEntry) → AreDistinct id_of entries → IsAt id_of id entries at
     → e ≡ get_or entries at e → set entries at (record e { is_ready = ready }) ≡ marked id ready entries
 marked-in entries id at ready e distinct found is = grind (arith, marked-at id ready entries at e distinct found)
 
 -- what holds when the entry at a place goes
-pub record Removal (entries : List Entry) (places : List (Option ℕ)) (at gone : ℕ) : Type 0 where
+pub record Removal (entries : List ScheduleEntry) (places : List (Option ℕ)) (at gone : ℕ) : Type 0 where
   pub indexed : IsIndexed entries places
   pub small : gone < length places
   pub within : at < length entries
@@ -239,7 +239,7 @@ pub record Removal (entries : List Entry) (places : List (Option ℕ)) (at gone 
   pub ordered : IsOrdered id_of before (length places) (remove entries at)
   pub left : at ≤ length (remove entries at)
 
-pub removal : (entries : List Entry) (places : List (Option ℕ)) (at gone : ℕ) → IsIndexed entries places → IsAt id_of gone entries at
+pub removal : (entries : List ScheduleEntry) (places : List (Option ℕ)) (at gone : ℕ) → IsIndexed entries places → IsAt id_of gone entries at
     → Removal entries places at gone
 removal entries places at gone indexed found =
     let within : at < length entries = at-within id_of gone entries at found in
@@ -256,23 +256,23 @@ removal entries places at gone indexed found =
       left = omega (arith, length-remove entries at within);
     }
   where
-    d : Entry
+    d : ScheduleEntry
     d = record { id = 0; priority = pos 0; is_ready = false }
 
 -- the same from what the fields say
-pub removal-from : {roster : Roster} {entries : List Entry} {places : List (Option ℕ)} {at : ℕ} {o : Option ℕ} (gone : ℕ)
+pub removal-from : {roster : Roster} {entries : List ScheduleEntry} {places : List (Option ℕ)} {at : ℕ} {o : Option ℕ} (gone : ℕ)
     → record { entries = entries; limit = length places } ≡ roster → o ≡ place gone roster → o ≡ Some at → IsIndexed entries places
     → Removal entries places at gone
 removal-from {roster} {entries} {places} {at} {o} gone view is some indexed =
     removal entries places at gone indexed (stands-in roster entries (length places) gone at o view is some)
 
 -- the entries that are left, as far as the places go that are written
-pub ordered-left : (entries shown : List Entry) (places lent : List (Option ℕ)) (at gone : ℕ) → Removal entries places at gone
+pub ordered-left : (entries shown : List ScheduleEntry) (places lent : List (Option ℕ)) (at gone : ℕ) → Removal entries places at gone
     → shown ≡ remove entries at → lent ≡ set places gone None → IsOrdered id_of before (length lent) shown
 ordered-left entries shown places lent at gone made is same = grind (arith, length-set places gone None)
 
 -- the places after the entry is gone and those behind it are numbered anew
-pub indexed-by_removal : (entries shown : List Entry) (places lent now : List (Option ℕ)) (at gone : ℕ) → Removal entries places at gone
+pub indexed-by_removal : (entries shown : List ScheduleEntry) (places lent now : List (Option ℕ)) (at gone : ℕ) → Removal entries places at gone
     → shown ≡ remove entries at → lent ≡ set places gone None
     → length now ≡ length lent → ((id : ℕ) → get_or now id None ≡ numbered id shown lent) → IsIndexed shown now
 indexed-by_removal entries shown places lent now at gone made is same long says =

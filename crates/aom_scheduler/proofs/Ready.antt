@@ -11,78 +11,78 @@ use Rattle.std.specs.List.Sorted.{IsPartitionPoint, IsPartitionedBy}
 use Rattle.aom_scheduler.specs.Order.{placed, without, place_of}
 use Rattle.aom_scheduler.specs.Roster.{Roster, IsSound, before, marked, marked_entry, ready_ids, first_ready}
 use Rattle.aom_scheduler.specs.Places.{stands_before}
-use Rattle.aom_scheduler.specs.declared.entry.Entry.{Entry}
+use Rattle.aom_scheduler.specs.declared.entry.ScheduleEntry.{ScheduleEntry}
 use Rattle.aom_scheduler.proofs.Items.{IsAt, AreDistinct, own-place, at-place, distinct-head, distinct-tail, few, at_head, in_tail}
 use Rattle.aom_scheduler.proofs.Places.{id_of, marked-absent}
 use Rattle.aom_scheduler.specs.Ready.{IsReadyAt, IsWaitingAt}
 use Rattle.std.proofs.lemmas.List.Edits.{length-insert}
 
-ready-first : (e : Entry) (es : List Entry) → e.is_ready ≡ true → ready_ids (e ∷ es) ≡ e.id ∷ ready_ids es
+ready-first : (e : ScheduleEntry) (es : List ScheduleEntry) → e.is_ready ≡ true → ready_ids (e ∷ es) ≡ e.id ∷ ready_ids es
 ready-first e es is = ap (map (λ f. f.id)) (cond-true e.is_ready (e ∷ filter (λ f. f.is_ready) es) (filter (λ f. f.is_ready) es) is)
 
-ready-skipped : (e : Entry) (es : List Entry) → e.is_ready ≡ false → ready_ids (e ∷ es) ≡ ready_ids es
+ready-skipped : (e : ScheduleEntry) (es : List ScheduleEntry) → e.is_ready ≡ false → ready_ids (e ∷ es) ≡ ready_ids es
 ready-skipped e es is = ap (map (λ f. f.id)) (cond-false e.is_ready (e ∷ filter (λ f. f.is_ready) es) (filter (λ f. f.is_ready) es) is)
 
-ready-append : (xs ys : List Entry) → ready_ids (xs ++ ys) ≡ ready_ids xs ++ ready_ids ys
+ready-append : (xs ys : List ScheduleEntry) → ready_ids (xs ++ ys) ≡ ready_ids xs ++ ready_ids ys
 ready-append xs ys = grind (arith, nat_tests, filter-append, map-append)
 
-ready-same : (e : Entry) (xs ys : List Entry) → ready_ids xs ≡ ready_ids ys → ready_ids (e ∷ xs) ≡ ready_ids (e ∷ ys)
+ready-same : (e : ScheduleEntry) (xs ys : List ScheduleEntry) → ready_ids xs ≡ ready_ids ys → ready_ids (e ∷ xs) ≡ ready_ids (e ∷ ys)
 ready-same e xs ys same = grind arith
 
 -- no more are ready than have an entry
-pub length-ready : (xs : List Entry) → length (ready_ids xs) ≤ length xs
+pub length-ready : (xs : List ScheduleEntry) → length (ready_ids xs) ≤ length xs
 length-ready [] = omega arith
 length-ready (x ∷ xs) = grind (arith, length-ready xs)
 
 -- an entry that waits adds nobody
-pub ready-placed : (e : Entry) (xs : List Entry) → e.is_ready ≡ false → ready_ids (placed before e xs) ≡ ready_ids xs
+pub ready-placed : (e : ScheduleEntry) (xs : List ScheduleEntry) → e.is_ready ≡ false → ready_ids (placed before e xs) ≡ ready_ids xs
 ready-placed e [] waits = ready-skipped e [] waits
 ready-placed e (x ∷ xs) waits = grind (arith, ready-placed e xs waits)
 
-marked-here : (id : ℕ) (ready : Bool) (x : Entry) → id_of x ≡ id → marked_entry id ready x ≡ record x { is_ready = ready }
+marked-here : (id : ℕ) (ready : Bool) (x : ScheduleEntry) → id_of x ≡ id → marked_entry id ready x ≡ record x { is_ready = ready }
 marked-here id ready x same = cond-true (x.id == id) (record x { is_ready = ready }) x (eq-eqb (id_of x) id same)
 
-marked-other : (id : ℕ) (ready : Bool) (x : Entry) → id_of x ≢ id → marked_entry id ready x ≡ x
+marked-other : (id : ℕ) (ready : Bool) (x : ScheduleEntry) → id_of x ≢ id → marked_entry id ready x ≡ x
 marked-other id ready x other = cond-false (x.id == id) (record x { is_ready = ready }) x (ne_eqb (id_of x) id other)
 
 -- the list of a marked object and the rest
-marked-first : (id : ℕ) (ready : Bool) (x : Entry) (xs : List Entry) → AreDistinct id_of (x ∷ xs) → id_of x ≡ id
+marked-first : (id : ℕ) (ready : Bool) (x : ScheduleEntry) (xs : List ScheduleEntry) → AreDistinct id_of (x ∷ xs) → id_of x ≡ id
     → marked id ready (x ∷ xs) ≡ record x { is_ready = ready } ∷ xs
 marked-first id ready x xs distinct same = ap (λ y. y ∷ marked id ready xs) (marked-here id ready x same)
     ∙ ap (λ ys. record x { is_ready = ready } ∷ ys) (marked-absent id ready xs
-    (subst (λ n. (k : ℕ) (d : Entry) → k < length xs → id_of (get_or xs k d) ≢ n) same (distinct-head id_of x xs distinct)))
+    (subst (λ n. (k : ℕ) (d : ScheduleEntry) → k < length xs → id_of (get_or xs k d) ≢ n) same (distinct-head id_of x xs distinct)))
 
-marked-later : (id : ℕ) (ready : Bool) (x : Entry) (xs : List Entry) → id_of x ≢ id → marked id ready (x ∷ xs) ≡ x ∷ marked id ready xs
+marked-later : (id : ℕ) (ready : Bool) (x : ScheduleEntry) (xs : List ScheduleEntry) → id_of x ≢ id → marked id ready (x ∷ xs) ≡ x ∷ marked id ready xs
 marked-later id ready x xs other = ap (λ y. y ∷ marked id ready xs) (marked-other id ready x other)
 
-abbrev with_ready : Entry → List Entry → Bool → List Entry
+abbrev with_ready : ScheduleEntry → List ScheduleEntry → Bool → List ScheduleEntry
 with_ready x xs b = record x { is_ready = b } ∷ xs
 
 -- marked as it is
-pub marked-same : (id : ℕ) (xs : List Entry) (i : ℕ) (d : Entry) (ready : Bool) → AreDistinct id_of xs → IsAt id_of id xs i
+pub marked-same : (id : ℕ) (xs : List ScheduleEntry) (i : ℕ) (d : ScheduleEntry) (ready : Bool) → AreDistinct id_of xs → IsAt id_of id xs i
     → (get_or xs i d).is_ready ≡ ready → marked id ready xs ≡ xs
 marked-same id _ _ d ready distinct (at_head x xs same) is = grind (arith, marked-first id ready x xs distinct same)
 marked-same id _ _ d ready distinct (in_tail x xs other at) is =
     marked-later id ready x xs other ∙ ap (λ ys. x ∷ ys) (marked-same id xs _ d ready (distinct-tail id_of x xs distinct) at is)
 
 -- one more is ready
-pub ready-more : (id : ℕ) (xs : List Entry) (i : ℕ) (d : Entry) → AreDistinct id_of xs → IsAt id_of id xs i → (get_or xs i d).is_ready ≡ false
+pub ready-more : (id : ℕ) (xs : List ScheduleEntry) (i : ℕ) (d : ScheduleEntry) → AreDistinct id_of xs → IsAt id_of id xs i → (get_or xs i d).is_ready ≡ false
     → insert (ready_ids xs) (length (ready_ids (take i xs))) id ≡ ready_ids (marked id true xs)
 ready-more id _ _ d distinct (at_head x xs same) is = grind (arith, marked-first id)
 ready-more id _ _ d distinct (in_tail {i = i} x xs other at) is = grind (arith, ready-more id xs i d (distinct-tail id_of x xs distinct) at is)
 
 -- one fewer is ready
-pub ready-less : (id : ℕ) (xs : List Entry) (i : ℕ) (d : Entry) → AreDistinct id_of xs → IsAt id_of id xs i → (get_or xs i d).is_ready ≡ true
+pub ready-less : (id : ℕ) (xs : List ScheduleEntry) (i : ℕ) (d : ScheduleEntry) → AreDistinct id_of xs → IsAt id_of id xs i → (get_or xs i d).is_ready ≡ true
     → (remove (ready_ids xs) (length (ready_ids (take i xs))) ≡ ready_ids (marked id false xs)) × (length (ready_ids (take i xs)) < length (ready_ids xs))
 ready-less id _ _ d distinct (at_head x xs same) is = search (arith, nat_tests, ready-first x xs is, ready-skipped, marked-first id)
 ready-less id _ _ d distinct (in_tail {i = i} x xs other at) is = grind (arith, ready-less id xs i d (distinct-tail id_of x xs distinct) at is)
 
 -- an object that waits goes, and those that are ready stay
-pub ready-without : (id : ℕ) (xs : List Entry) → ready_ids (without id_of id (marked id false xs)) ≡ ready_ids (marked id false xs)
+pub ready-without : (id : ℕ) (xs : List ScheduleEntry) → ready_ids (without id_of id (marked id false xs)) ≡ ready_ids (marked id false xs)
 ready-without id [] = refl
 ready-without id (x ∷ xs) = grind (arith, ready-without id xs)
 
-pub without-marked : (id : ℕ) (ready : Bool) (xs : List Entry) → without id_of id (marked id ready xs) ≡ without id_of id xs
+pub without-marked : (id : ℕ) (ready : Bool) (xs : List ScheduleEntry) → without id_of id (marked id ready xs) ≡ without id_of id xs
 without-marked id ready [] = refl
 without-marked id ready (x ∷ xs) = grind (arith, without-marked id ready xs)
 
@@ -108,37 +108,37 @@ module _ {A : Type 0} (p : A → Bool) (us vs : List A) where
       ]
 
 -- the test that a search among the ready makes
-abbrev pub is_in_front : List Entry → ℕ → ℕ → Bool
+abbrev pub is_in_front : List ScheduleEntry → ℕ → ℕ → Bool
 is_in_front xs i id = stands_before i (place_of id_of id xs)
 
-own : (xs : List Entry) (i k : ℕ) (d : Entry) → AreDistinct id_of xs → k < length xs → is_in_front xs i (id_of (get_or xs k d)) ≡ nat_lt k i
+own : (xs : List ScheduleEntry) (i k : ℕ) (d : ScheduleEntry) → AreDistinct id_of xs → k < length xs → is_in_front xs i (id_of (get_or xs k d)) ≡ nat_lt k i
 own xs i k d distinct within = ap (stands_before i) (at-place id_of (id_of (get_or xs k d)) xs k (own-place id_of xs k d distinct within))
 
-ready-all : (p : ℕ → Bool) (b : Bool) (xs : List Entry) → All (λ e. p (id_of e) ≡ b) xs → All (λ n. p n ≡ b) (ready_ids xs)
+ready-all : (p : ℕ → Bool) (b : Bool) (xs : List ScheduleEntry) → All (λ e. p (id_of e) ≡ b) xs → All (λ n. p n ≡ b) (ready_ids xs)
 ready-all p b xs all = All-map (λ n. p n ≡ b) id_of (filter (λ e. e.is_ready) xs) (All-filter (λ e. e.is_ready) (λ e. p (id_of e) ≡ b) xs all)
 
-front-all : (xs : List Entry) (i : ℕ) → AreDistinct id_of xs → i ≤ length xs → All (λ n. is_in_front xs i n ≡ true) (ready_ids (take i xs))
+front-all : (xs : List ScheduleEntry) (i : ℕ) → AreDistinct id_of xs → i ≤ length xs → All (λ n. is_in_front xs i n ≡ true) (ready_ids (take i xs))
 front-all xs i distinct le = ready-all (is_in_front xs i) true (take i xs) all
   where
     all : All (λ e. is_in_front xs i (id_of e) ≡ true) (take i xs)
     all k d within = grind (arith, nat_tests, length-take-le, id_of, get_or-take, own, lt-ltb)
 
-behind-all : (xs : List Entry) (i : ℕ) → AreDistinct id_of xs → i ≤ length xs → All (λ n. is_in_front xs i n ≡ false) (ready_ids (drop i xs))
+behind-all : (xs : List ScheduleEntry) (i : ℕ) → AreDistinct id_of xs → i ≤ length xs → All (λ n. is_in_front xs i n ≡ false) (ready_ids (drop i xs))
 behind-all xs i distinct le = ready-all (is_in_front xs i) false (drop i xs) all
   where
     all : All (λ e. is_in_front xs i (id_of e) ≡ false) (drop i xs)
     all k d within = grind (arith, nat_tests, id_of, get_or-drop, own, length-drop, le-ltb)
 
-halves : (xs : List Entry) (i : ℕ) → ready_ids (take i xs) ++ ready_ids (drop i xs) ≡ ready_ids xs
+halves : (xs : List ScheduleEntry) (i : ℕ) → ready_ids (take i xs) ++ ready_ids (drop i xs) ≡ ready_ids xs
 halves xs i = sym (ready-append (take i xs) (drop i xs)) ∙ ap ready_ids (take-append-drop i xs)
 
 -- a search among the ready is one in an order
-pub searchable-ready : (xs : List Entry) (i : ℕ) → AreDistinct id_of xs → i ≤ length xs → IsPartitionedBy (is_in_front xs i) (ready_ids xs)
+pub searchable-ready : (xs : List ScheduleEntry) (i : ℕ) → AreDistinct id_of xs → i ≤ length xs → IsPartitionedBy (is_in_front xs i) (ready_ids xs)
 searchable-ready xs i distinct le = subst (IsPartitionedBy (is_in_front xs i)) (halves xs i)
     (searchable-split (is_in_front xs i) (ready_ids (take i xs)) (ready_ids (drop i xs)) (front-all xs i distinct le) (behind-all xs i distinct le))
 
 -- and ends after those that are ready before the place
-pub point-ready : (xs : List Entry) (i at : ℕ) → AreDistinct id_of xs → i ≤ length xs → at ≤ length (ready_ids xs)
+pub point-ready : (xs : List ScheduleEntry) (i at : ℕ) → AreDistinct id_of xs → i ≤ length xs → at ≤ length (ready_ids xs)
     → IsPartitionPoint (λ n. is_in_front xs i n ≡ true) (λ n. is_in_front xs i n ≡ false) (ready_ids xs) at → at ≡ length (ready_ids (take i xs))
 point-ready xs i at distinct le within point =
     let split = sym (halves xs i) in
@@ -146,7 +146,7 @@ point-ready xs i at distinct le within point =
     (subst (λ ids. at ≤ length ids) split within) (grind (arith, nat_tests))
 
 -- the first that is ready is the first of those
-pub first-is : (xs : List Entry) → first_ready xs ≡ slice_get (ready_ids xs) 0
+pub first-is : (xs : List ScheduleEntry) → first_ready xs ≡ slice_get (ready_ids xs) 0
 first-is [] = refl
 first-is (x ∷ xs) = grind (arith, first-is xs)
 
@@ -170,7 +170,7 @@ pub none-among : (r : Roster) (place : ℕ) → IsSound r → place ≤ length r
 none-among r place sound within first is not = grind (arith, none-front r place, front-all r.entries place sound.distinct within, halves r.entries place)
 
 -- an object that stands there is ready
-pub ready-at : (r : Roster) (id place at : ℕ) (d : Entry) → IsSound r → IsAt id_of id r.entries place → at ≡ length (ready_ids (take place r.entries))
+pub ready-at : (r : Roster) (id place at : ℕ) (d : ScheduleEntry) → IsSound r → IsAt id_of id r.entries place → at ≡ length (ready_ids (take place r.entries))
     → (get_or r.entries place d).is_ready ≡ true → IsReadyAt r id at
 ready-at r id place at d sound found here ready =
     let fewer = ready-less id r.entries place d sound.distinct found ready in
@@ -181,7 +181,7 @@ ready-at r id place at d sound found here ready =
     }
 
 -- or it waits
-pub waiting-at : (r : Roster) (id place at : ℕ) (d : Entry) → IsSound r → IsAt id_of id r.entries place → at ≡ length (ready_ids (take place r.entries))
+pub waiting-at : (r : Roster) (id place at : ℕ) (d : ScheduleEntry) → IsSound r → IsAt id_of id r.entries place → at ≡ length (ready_ids (take place r.entries))
     → (get_or r.entries place d).is_ready ≡ false → IsWaitingAt r id at
 waiting-at r id place at d sound found here waits =
     let inside : at ≤ length (ready_ids r.entries) =

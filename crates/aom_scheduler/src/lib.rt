@@ -21,7 +21,7 @@ mod schedule;
 mod timer;
 mod timers;
 
-pub use entry::Entry;
+pub use entry::ScheduleEntry;
 pub use request::{PENDING, State};
 pub use requests::Requests;
 pub use schedule::Schedule;

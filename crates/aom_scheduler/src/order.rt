@@ -4,9 +4,9 @@ ghost use Rattle.std.specs.List.Sorted.{IsPartitionPoint};
 ghost use Rattle.aom_scheduler.specs.Order.{placed, without};
 ghost use Rattle.aom_scheduler.specs.Roster.{before, place, IsEnlisted, marked, IsSound};
 ghost use Rattle.aom_scheduler.specs.Places.{numbered, Knows, stands_before};
-ghost use Rattle.aom_scheduler.specs.declared.entry.Entry.{Entry};
+ghost use Rattle.aom_scheduler.specs.declared.entry.ScheduleEntry.{ScheduleEntry};
 
-use crate::Entry;
+use crate::ScheduleEntry;
 use aom_cells::CellId;
 use std::alloc::{AllocError, Global};
 use std::marker::Model;
@@ -14,7 +14,7 @@ use std::marker::Model;
 /// Entries by falling priority, the first enlisted first among equals.
 #[derive(Drop)]
 pub struct Order {
-    entries: Vec<Entry>,
+    entries: Vec<ScheduleEntry>,
     /// Where each object stands, by its id.
     places: Vec<Option<u16>>,
 }
@@ -63,7 +63,7 @@ impl Order {
         let _ = &self.entries;
     }
 
-    pub fn entry(&self, place: usize) -> Option<Entry>
+    pub fn entry(&self, place: usize) -> Option<ScheduleEntry>
         ensures { result ≡ slice_get self.now.entries place }
     {
         self.entries.get(place).copied()
@@ -79,7 +79,7 @@ impl Order {
     /// Whether the entry at this place is ready.
     pub fn is_ready(&self, at: usize) -> bool
         requires { at < length self.now.entries }
-        ensures { (d : Entry) → result ≡ (slice_index_or self.now.entries at d).is_ready }
+        ensures { (d : ScheduleEntry) → result ≡ (slice_index_or self.now.entries at d).is_ready }
     {
         self.entries[at].is_ready
     }
@@ -92,7 +92,7 @@ impl Order {
     }
 
     /// Adds the entry of an object that has none.
-    pub fn insert(&mut self, entry: Entry)
+    pub fn insert(&mut self, entry: ScheduleEntry)
         requires below { entry.id < self.old.limit }
         requires unlisted { IsNone (place entry.id self.old) }
         ensures { self.new ≡ record self.old { entries = placed before entry self.old.entries } }
@@ -124,7 +124,7 @@ impl Order {
 }
 
 /// The place after all entries of at least this one's priority.
-fn place_for(entries: &[Entry], entry: &Entry) -> usize
+fn place_for(entries: &[ScheduleEntry], entry: &ScheduleEntry) -> usize
     requires { AllPairs (λ e f. before e f ≡ true) entries.now }
     ensures bound { result ≤ length entries.now }
     ensures point { IsPartitionPoint (λ e. before e entry.now ≡ true) (λ e. before e entry.now ≡ false) entries.now result }
@@ -133,7 +133,7 @@ fn place_for(entries: &[Entry], entry: &Entry) -> usize
 }
 
 /// Writes anew where the entries from `from` on stand.
-fn renumber(places: &mut [Option<u16>], entries: &[Entry], from: usize)
+fn renumber(places: &mut [Option<u16>], entries: &[ScheduleEntry], from: usize)
     requires few { length entries.now ≤ 4096 }
     requires below { All (λ e. e.id < length places.old) entries.now }
     requires distinct { AllPairs (λ e f. e.id ≢ f.id) entries.now }

@@ -5,7 +5,7 @@ ghost use Rattle.aom_scheduler.specs.Order.{placed, without};
 ghost use Rattle.aom_scheduler.specs.Ready.{IsReadyAt, IsWaitingAt};
 ghost use Rattle.aom_scheduler.specs.Roster.{before, place, IsEnlisted, waiting, marked, first_ready, ready_ids, IsPick, IsSound};
 
-use crate::Entry;
+use crate::ScheduleEntry;
 use crate::order::Order;
 use aom_cells::CellId;
 use std::alloc::{AllocError, Global};
@@ -63,7 +63,7 @@ impl Schedule {
     }
 
     /// The entry at this place in the order of choice, 0 the first.
-    pub fn entry(&self, place: usize) -> Option<Entry>
+    pub fn entry(&self, place: usize) -> Option<ScheduleEntry>
         ensures { result ≡ slice_get self.now.entries place }
     {
         self.order.entry(place)
@@ -81,7 +81,7 @@ impl Schedule {
         requires unlisted { IsNone (place id self.old) }
         ensures { self.new ≡ record self.old { entries = placed before (waiting id priority) self.old.entries } }
     {
-        self.order.insert(Entry {
+        self.order.insert(ScheduleEntry {
             id,
             priority,
             is_ready: false,

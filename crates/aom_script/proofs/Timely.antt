@@ -8,8 +8,8 @@ use Rattle.std.specs.List.{All}
 use Rattle.std.proofs.lemmas.List.Elements.{All-nil, All-cons}
 use Rattle.aom_text.specs.Numbers.{number_below, number_within, number_signed}
 use Rattle.aom_text.specs.declared.number.Number.{Number}
-use Rattle.aom_transcript.specs.declared.event.Command.{Command}
-use Rattle.aom_transcript.specs.declared.event.Command.TheVariants.{Connect, Close, Die}
+use Rattle.aom_transcript.specs.declared.event.ClientCommand.{ClientCommand}
+use Rattle.aom_transcript.specs.declared.event.ClientCommand.TheVariants.{Connect, Close, Die}
 use Rattle.aom_transcript.specs.declared.event.Event.{Event}
 use Rattle.aom_transcript.specs.declared.event.Event.TheVariants.{Tell, Kill, Client}
 use Rattle.aom_transcript.specs.declared.event.TimedEvent.{TimedEvent}
@@ -46,10 +46,10 @@ mapped x make y e holds is = grind arith
 below : (low high : ℕ) (n : Number) (k : ℕ) → number_within low high n ≡ Some k → k < high + 1
 below low high n k is = let small = (in_range low high n k is).1 in omega (arith, small)
 
-send_fits : (a b c d e : Option ℤ) (command : Command) → send_of a b c d e ≡ Some command → SlotsFit command
+send_fits : (a b c d e : Option ℤ) (command : ClientCommand) → send_of a b c d e ≡ Some command → SlotsFit command
 send_fits a b c d e command is = grind arith
 
-slots_fit : (numbers : CommandNumbers) (command : Command) → command_within numbers ≡ Some command → SlotsFit command
+slots_fit : (numbers : CommandNumbers) (command : ClientCommand) → command_within numbers ≡ Some command → SlotsFit command
 slots_fit (ToConnect class slots) command is = made SlotsFit Connect (number_within 0 255 class) (number_within 0 64 slots) command (λ k n at few. (in_range 0 64 slots n few).1) is
 slots_fit (ToSend a b c d e) command is = send_fits (number_signed a) (number_signed b) (number_signed c) (number_signed d) (number_signed e) command is
 slots_fit ToClose command is = let same : Close ≡ command = cc in subst SlotsFit same tt

@@ -6,8 +6,8 @@ use Rattle.aom_text.specs.Words.{is_plain, is_none_left, words}
 use Rattle.aom_text.specs.Text.{lines_of}
 use Rattle.aom_text.specs.Numbers.{number_of, number_below, number_within, number_signed}
 use Rattle.aom_text.specs.declared.number.Number.{Number}
-use Rattle.aom_transcript.specs.declared.event.Command.{Command}
-use Rattle.aom_transcript.specs.declared.event.Command.TheVariants.{Connect, Send, Close, Die}
+use Rattle.aom_transcript.specs.declared.event.ClientCommand.{ClientCommand}
+use Rattle.aom_transcript.specs.declared.event.ClientCommand.TheVariants.{Connect, Send, Close, Die}
 use Rattle.aom_transcript.specs.declared.event.Event.{Event}
 use Rattle.aom_transcript.specs.declared.event.Event.TheVariants.{Tell, Kill, Client}
 use Rattle.aom_transcript.specs.declared.event.TimedEvent.{TimedEvent}
@@ -122,12 +122,12 @@ both make (Some a) (Some b) = Some (make a b)
 both make _ _ = None
 
 -- all five words of a message
-abbrev pub send_of : Option ℤ → Option ℤ → Option ℤ → Option ℤ → Option ℤ → Option Command
+abbrev pub send_of : Option ℤ → Option ℤ → Option ℤ → Option ℤ → Option ℤ → Option ClientCommand
 send_of (Some function) (Some first) (Some second) (Some third) (Some fourth) = Some (Send (function ∷ first ∷ second ∷ third ∷ fourth ∷ []))
 send_of _ _ _ _ _ = None
 
 -- a class has a number below 256, and a session 64 slots at most
-abbrev pub command_within : CommandNumbers → Option Command
+abbrev pub command_within : CommandNumbers → Option ClientCommand
 command_within (ToConnect class slots) = both Connect (number_within 0 255 class) (number_within 0 64 slots)
 command_within (ToSend function first second third fourth) = send_of (number_signed function) (number_signed first) (number_signed second) (number_signed third) (number_signed fourth)
 command_within ToClose = Some Close
@@ -237,7 +237,7 @@ abbrev pub Rises : ℕ → List TimedEvent → Type 0
 Rises time [] = Unit {0}
 Rises time (event ∷ events) = (time ≤ event.time) × Rises event.time events
 
-abbrev pub SlotsFit : Command → Type 0
+abbrev pub SlotsFit : ClientCommand → Type 0
 SlotsFit (Connect class slots) = slots ≤ 64
 SlotsFit _ = Unit {0}
 

@@ -8,10 +8,10 @@ ghost use Rattle.aom_script.specs.declared.reading.CommandNumbers.TheVariants.{T
 
 use crate::ScriptFaultKind;
 use crate::reading::{CommandNumbers, EventNumbers, Reading};
-use aom_text::{Number, Words};
+use aom_text::{Number, WordCursor};
 
 /// Reads the line of a client by its kind, its time and the words after them.
-pub fn read_client(kind: &[u8], time: &[u8], words: Words) -> Result<Reading, ScriptFaultKind>
+pub fn read_client(kind: &[u8], time: &[u8], words: WordCursor) -> Result<Reading, ScriptFaultKind>
     ensures { result ≡ client_says kind.now (time.now ∷ words.entry) }
 {
     if kind == b"connect".as_slice() {
@@ -24,7 +24,7 @@ pub fn read_client(kind: &[u8], time: &[u8], words: Words) -> Result<Reading, Sc
 }
 
 /// Reads the line of a client that closes its session or dies.
-fn read_end(kind: &[u8], time: &[u8], words: Words) -> Result<Reading, ScriptFaultKind>
+fn read_end(kind: &[u8], time: &[u8], words: WordCursor) -> Result<Reading, ScriptFaultKind>
     ensures { result ≡ (if bytes_eq kind.now (codes "close") then leaving_says ToClose (time.now ∷ words.entry) else if bytes_eq kind.now (codes "die") then leaving_says ToDie (time.now ∷ words.entry) else Err BadLine) }
 {
     if kind == b"close".as_slice() {
@@ -36,7 +36,7 @@ fn read_end(kind: &[u8], time: &[u8], words: Words) -> Result<Reading, ScriptFau
     }
 }
 
-fn read_connect(time: &[u8], mut words: Words) -> Result<Reading, ScriptFaultKind>
+fn read_connect(time: &[u8], mut words: WordCursor) -> Result<Reading, ScriptFaultKind>
     ensures { result ≡ connect_says (time.now ∷ words.entry) }
 {
     match (words.next(), words.next(), words.next()) {
@@ -69,7 +69,7 @@ fn read_connected(
     }
 }
 
-fn read_send(time: &[u8], mut words: Words) -> Result<Reading, ScriptFaultKind>
+fn read_send(time: &[u8], mut words: WordCursor) -> Result<Reading, ScriptFaultKind>
     ensures { result ≡ send_says (time.now ∷ words.entry) }
 {
     match words.next() {
@@ -79,7 +79,11 @@ fn read_send(time: &[u8], mut words: Words) -> Result<Reading, ScriptFaultKind>
 }
 
 /// Reads the words of a message.
-fn read_message(time: &[u8], client: &[u8], mut words: Words) -> Result<Reading, ScriptFaultKind>
+fn read_message(
+    time: &[u8],
+    client: &[u8],
+    mut words: WordCursor,
+) -> Result<Reading, ScriptFaultKind>
     ensures { result ≡ message_says time.now client.now words.entry }
 {
     match (
@@ -117,7 +121,7 @@ fn message_of(
 
 fn read_leaving(
     time: &[u8],
-    mut words: Words,
+    mut words: WordCursor,
     command: CommandNumbers,
 ) -> Result<Reading, ScriptFaultKind>
     ensures { result ≡ leaving_says command (time.now ∷ words.entry) }

@@ -6,7 +6,7 @@ ghost use Rattle.aom_script.specs.Script.{command_within, event_within, line_say
 use crate::ScriptFaultKind;
 use crate::reading::{CommandNumbers, EventNumbers, Reading};
 use aom_text::Number;
-use aom_transcript::{Command, Event, TimedEvent};
+use aom_transcript::{ClientCommand, Event, TimedEvent};
 
 /// The most lines of a script's text.
 const MOST_LINES: u32 = 65536;
@@ -68,19 +68,19 @@ fn event_within(numbers: EventNumbers) -> Option<Event>
     }
 }
 
-fn command_within(numbers: CommandNumbers) -> Option<Command>
+fn command_within(numbers: CommandNumbers) -> Option<ClientCommand>
     ensures { result ≡ command_within numbers }
 {
     match numbers {
-        CommandNumbers::ToConnect(class, slots) => Some(Command::Connect(
+        CommandNumbers::ToConnect(class, slots) => Some(ClientCommand::Connect(
             class.within(0, 255)? as u8,
             slots.within(0, 64)? as u8,
         )),
         CommandNumbers::ToSend(function, first, second, third, fourth) => {
             message_within(function, first, second, third, fourth)
         }
-        CommandNumbers::ToClose => Some(Command::Close),
-        CommandNumbers::ToDie => Some(Command::Die),
+        CommandNumbers::ToClose => Some(ClientCommand::Close),
+        CommandNumbers::ToDie => Some(ClientCommand::Die),
     }
 }
 
@@ -91,7 +91,7 @@ fn message_within(
     second: Number,
     third: Number,
     fourth: Number,
-) -> Option<Command>
+) -> Option<ClientCommand>
     ensures { result ≡ send_of (number_signed function) (number_signed first) (number_signed second) (number_signed third) (number_signed fourth) }
 {
     let function = function.signed()?;
@@ -99,7 +99,7 @@ fn message_within(
     let second = second.signed()?;
     let third = third.signed()?;
     let fourth = fourth.signed()?;
-    Some(Command::Send([function, first, second, third, fourth]))
+    Some(ClientCommand::Send([function, first, second, third, fourth]))
 }
 
 /// The number of a native.

@@ -5,7 +5,7 @@ ghost use Rattle.aom_script.specs.Script.{event_says, is_back, is_refusal, kill_
 
 use crate::ScriptFaultKind;
 use crate::clients::read_client;
-use aom_text::{Number, Words, is_text_word};
+use aom_text::{Number, WordCursor, is_text_word};
 
 /// The numbers of what a client does.
 #[derive(Clone, Copy)]
@@ -45,7 +45,7 @@ impl Reading {
         ensures { result ≡ reading_of line.now }
     {
         if is_text_word(line) {
-            read_words(Words::of(line))
+            read_words(WordCursor::of(line))
         } else {
             Err(ScriptFaultKind::NotAscii)
         }
@@ -63,7 +63,7 @@ impl Reading {
 }
 
 /// Reads the words of a line.
-fn read_words(mut words: Words) -> Result<Reading, ScriptFaultKind>
+fn read_words(mut words: WordCursor) -> Result<Reading, ScriptFaultKind>
     ensures { result ≡ words_say words.entry }
 {
     let Some(first) = words.next() else {
@@ -80,7 +80,7 @@ fn read_words(mut words: Words) -> Result<Reading, ScriptFaultKind>
 }
 
 /// Whether the first word is `refuse`, with one word behind it that is read.
-fn is_refusal(first: &[u8], others: &Words) -> bool
+fn is_refusal(first: &[u8], others: &WordCursor) -> bool
     ensures { result ≡ is_refusal first.now others.now }
 {
     first == b"refuse".as_slice() && others.is_empty()
@@ -96,7 +96,7 @@ fn read_refusal(request: &[u8]) -> Result<Reading, ScriptFaultKind>
 }
 
 /// Reads a timed line by its kind, its time and the words after them.
-fn read_timed(kind: &[u8], time: &[u8], words: Words) -> Result<Reading, ScriptFaultKind>
+fn read_timed(kind: &[u8], time: &[u8], words: WordCursor) -> Result<Reading, ScriptFaultKind>
     ensures { result ≡ timed_says kind.now (time.now ∷ words.entry) }
 {
     if kind == b"event".as_slice() {
@@ -108,7 +108,7 @@ fn read_timed(kind: &[u8], time: &[u8], words: Words) -> Result<Reading, ScriptF
     }
 }
 
-fn read_event(time: &[u8], mut words: Words) -> Result<Reading, ScriptFaultKind>
+fn read_event(time: &[u8], mut words: WordCursor) -> Result<Reading, ScriptFaultKind>
     ensures { result ≡ event_says (time.now ∷ words.entry) }
 {
     match (words.next(), words.next()) {
@@ -129,7 +129,7 @@ fn read_tell(time: &[u8], native: &[u8], word: &[u8]) -> Result<Reading, ScriptF
     }
 }
 
-fn read_kill(time: &[u8], mut words: Words) -> Result<Reading, ScriptFaultKind>
+fn read_kill(time: &[u8], mut words: WordCursor) -> Result<Reading, ScriptFaultKind>
     ensures { result ≡ kill_says (time.now ∷ words.entry) }
 {
     match words.next() {

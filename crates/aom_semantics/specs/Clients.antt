@@ -9,15 +9,15 @@ use Rattle.aom_roles.specs.Things.{is_object}
 use Rattle.aom_roles.specs.Shapes.{kind_of}
 use Rattle.aom_clients.specs.declared.client.Client.{Client}
 use Rattle.aom_clients.specs.declared.client.Client.TheVariants.{Unconnected, Connecting, Open, Closing, Dead, Dying}
-use Rattle.aom_clients.specs.declared.refusal.Refusal.{Refusal}
-use Rattle.aom_clients.specs.declared.refusal.Refusal.TheVariants.{NotFound, ServerBusy}
+use Rattle.aom_clients.specs.declared.refusal.CommandRefusal.{CommandRefusal}
+use Rattle.aom_clients.specs.declared.refusal.CommandRefusal.TheVariants.{NotFound, ServerBusy}
 use Rattle.aom_clients.specs.Table.{at_gone, row}
 use Rattle.aom_roles.specs.Tables.{at, put_at}
 use Rattle.aom_semantics.specs.Places.{Asked, Cell, Close_of, Connect_of, Message_of, Elsewhere, Object, Queued, Request, service_of, unserved}
 use Rattle.aom_semantics.specs.Servers.{asked_last, is_server, reserved, seats_taken, slots_taken, withdrawn, all_unslotted}
 use Rattle.aom_semantics.specs.State.{State}
-use Rattle.aom_transcript.specs.declared.event.Command.{Command}
-use Rattle.aom_transcript.specs.declared.event.Command.TheVariants.{Connect, Send, Close, Die}
+use Rattle.aom_transcript.specs.declared.event.ClientCommand.{ClientCommand}
+use Rattle.aom_transcript.specs.declared.event.ClientCommand.TheVariants.{Connect, Send, Close, Die}
 
 -- how many clients there are
 abbrev pub client_count : ℕ
@@ -75,7 +75,7 @@ most_of _ = 0
 abbrev pub asked_server : Image → ℕ → List Cell → Option Listed
 asked_server p class cs = cond (is_server p (An_object_of class)) (first_listed class cs) None
 
-abbrev pub asked_of : Option Refusal → ℕ → Option Listed → List Cell → Option Refusal
+abbrev pub asked_of : Option CommandRefusal → ℕ → Option Listed → List Cell → Option CommandRefusal
 asked_of (Some refusal) most server cs = Some refusal
 asked_of None most None cs = Some NotFound
 asked_of None most (Some x) cs = cond (nat_lt (seats_taken (service_of cs x.name)) most) None (Some ServerBusy)
@@ -107,18 +107,18 @@ module _ (p : Image) (client : ℕ) (s : State) where
   abbrev pub own : Client
   own = client_at s.clients client
 
-  abbrev pub room : Option Refusal → Option Refusal
+  abbrev pub room : Option CommandRefusal → Option CommandRefusal
   room (Some refusal) = Some refusal
   room None = cond (nat_lt (slots_taken client s.cells) (slots_of own) && nat_lt (count_messages s.cells) p.header.messages) None (Some ServerBusy)
 
   -- why a command is refused, if it is
-  abbrev pub refusal : Command → Option Refusal
+  abbrev pub refusal : ClientCommand → Option CommandRefusal
   refusal (Connect class slots) = asked_of (row own).connect (most_of (kind_of p (Some class))) (asked_server p class s.cells) s.cells
   refusal (Send words) = room (row own).send
   refusal Close = None
   refusal Die = None
 
-  abbrev pub connecting : Option Refusal → Option Listed → ℕ → State
+  abbrev pub connecting : Option CommandRefusal → Option Listed → ℕ → State
   connecting None (Some x) slots = record s { cells = reserved (asked_last (Connect_of client)) x.name s.cells; clients = with_client client (Connecting x.name slots) s.clients }
   connecting _ server slots = s
 
@@ -126,7 +126,7 @@ module _ (p : Image) (client : ℕ) (s : State) where
   abbrev pub with_message : ℕ → List ℤ → ℕ → List Cell
   with_message name words server = sent_message client name words server ∷ reserved (asked_last (Message_of client name)) server s.cells
 
-  abbrev pub sending : Option Refusal → Client → ℕ → List ℤ → State
+  abbrev pub sending : Option CommandRefusal → Client → ℕ → List ℤ → State
   sending None (Open server session slots) name words = record s { cells = with_message name words server }
   sending _ _ name words = s
 
@@ -140,7 +140,7 @@ module _ (p : Image) (client : ℕ) (s : State) where
   leaving (Some to) = record s { cells = told own (withdrawn client s.cells); clients = with_client client to s.clients }
 
   -- what it comes to, with that name for a message
-  abbrev pub commanded : Command → ℕ → State
+  abbrev pub commanded : ClientCommand → ℕ → State
   commanded (Connect class slots) name = connecting (refusal (Connect class slots)) (asked_server p class s.cells) slots
   commanded (Send words) name = sending (refusal (Send words)) own name words
   commanded Close name = leaving (row own).close

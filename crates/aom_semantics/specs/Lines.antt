@@ -1,8 +1,8 @@
 -- What clients are told: how that is completed which they asked for, and why a command is refused.
 use Rattle.std.specs.Prelude.{ℕ, ℤ, pos, cond, flat_map, List, [], ◌∷◌, Option, Some, None}
 use Rattle.aom_clients.specs.Table.{code_of}
-use Rattle.aom_clients.specs.declared.refusal.Refusal.{Refusal}
-use Rattle.aom_clients.specs.declared.refusal.Refusal.TheVariants.{ServerTerminated}
+use Rattle.aom_clients.specs.declared.refusal.CommandRefusal.{CommandRefusal}
+use Rattle.aom_clients.specs.declared.refusal.CommandRefusal.TheVariants.{ServerTerminated}
 use Rattle.aom_image.specs.declared.method.Thing.{Thing}
 use Rattle.aom_image.specs.declared.method.Thing.TheVariants.{Object as An_object_of}
 use Rattle.aom_semantics.specs.Places.{Asked, Cell, Close_of, Connect_of, Elsewhere, In_service, Message_of, Object, Sender, held, service_of}
@@ -45,7 +45,7 @@ dispatch_lines cs (Of_server x c stage) = stage_lines cs c stage
 dispatch_lines cs _ = []
 
 -- a command is refused
-abbrev pub refusal_line : ℕ → Option Refusal → List Line
+abbrev pub refusal_line : ℕ → Option CommandRefusal → List Line
 refusal_line c None = []
 refusal_line c (Some refusal) = Refuse c (code_of refusal) ∷ []
 

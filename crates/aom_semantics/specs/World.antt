@@ -16,7 +16,7 @@ use Rattle.aom_semantics.specs.Places.{Cell, Object, Request, Timer, named, requ
 use Rattle.aom_semantics.specs.State.{AtRoot, Inside, frame_of, Seat, Task, Run, Trapped, Dispatched, Of_main, Of_object, A_mark, State, Choice, Outcome, Goes, IsStuck, CompletedTwice, NullOrDead, Stray, WrongKind, guarded, Frame, Stage, Accepts, Serves, Parts, Of_server, FitsWord}
 use Rattle.aom_semantics.specs.Moves.{step, written, IsOpen}
 use Rattle.aom_transcript.specs.declared.event.Event.{Event}
-use Rattle.aom_transcript.specs.declared.event.Command.{Command}
+use Rattle.aom_transcript.specs.declared.event.ClientCommand.{ClientCommand}
 use Rattle.aom_transcript.specs.declared.event.Event.TheVariants.{Client, Kill, Tell}
 use Rattle.aom_transcript.specs.declared.event.TimedEvent.{TimedEvent}
 use Rattle.aom_transcript.specs.declared.line.Line.{Line}
@@ -219,7 +219,7 @@ pub data Turning : Type 0 where
   -- a native is polled, and completes that, or nothing
   Polls : (native : ℕ) → Option Completion → Turning
   -- a client's command, with a name for what it sends
-  Obeys : (client : ℕ) → Command → (name : ℕ) → Turning
+  Obeys : (client : ℕ) → ClientCommand → (name : ℕ) → Turning
   -- an object or a server is dispatched
   Picks : Seat → Turning
   -- a signal, and no object is ready

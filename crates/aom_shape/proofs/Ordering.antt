@@ -10,7 +10,7 @@ use Rattle.aom_shape.specs.Order.WeakerFilling.{alike_filling}
 use Rattle.aom_shape.specs.Shape.{Shape}
 use Rattle.aom_roles.specs.Tables.{at}
 use Rattle.aom_shape.specs.Tests.{no_more, all_no_more, no_more_filling, all_no_more_fillings, same_delivery, same_entry, same_entries}
-use Rattle.aom_shape.specs.declared.kind.Entry.{Entry}
+use Rattle.aom_shape.specs.declared.kind.CleanupEntry.{CleanupEntry}
 use Rattle.aom_shape.specs.declared.kind.Kind.{Kind}
 use Rattle.aom_shape.specs.declared.kind.Kind.TheVariants.{Unset}
 use Rattle.aom_shape.specs.declared.kind.Filling.{Filling}
@@ -107,31 +107,31 @@ pub passes_not : {A : Type 0} (r : Bool) → IsTrue r ↔ A → r ≡ false → 
 passes_not r h f a = false≢true (sym f ∙ h.1 a)
 
 -- the test on entries passes exactly where they are the same
-entry_is : (x y : Entry) → same_entry x y ≡ true → x ≡ y
+entry_is : (x y : CleanupEntry) → same_entry x y ≡ true → x ≡ y
 entry_is x y h = grind arith
 
-entry_self : (x : Entry) → same_entry x x ≡ true
+entry_self : (x : CleanupEntry) → same_entry x x ≡ true
 entry_self x = grind arith
 
-pub entries_are : (xs ys : List Entry) → same_entries xs ys ≡ true → xs ≡ ys
+pub entries_are : (xs ys : List CleanupEntry) → same_entries xs ys ≡ true → xs ≡ ys
 entries_are [] [] h = refl
 entries_are (x ∷ xs) (y ∷ ys) h = let same = and_parts (same_entry x y) (same_entries xs ys) h in rw (entry_is x y same.0, entries_are xs ys same.1) refl
 entries_are _ _ h = cc
 
-pub entries_self : (xs : List Entry) → same_entries xs xs ≡ true
+pub entries_self : (xs : List CleanupEntry) → same_entries xs xs ≡ true
 entries_self [] = refl
 entries_self (x ∷ xs) = rw (entry_self x, entries_self xs)
 
-pub entries_differ : (xs ys : List Entry) → length xs ≢ length ys → same_entries xs ys ≡ false
+pub entries_differ : (xs ys : List CleanupEntry) → length xs ≢ length ys → same_entries xs ys ≡ false
 entries_differ [] [] h = absurd (h refl)
 entries_differ [] (y ∷ ys) h = refl
 entries_differ (x ∷ xs) [] h = refl
 entries_differ (x ∷ xs) (y ∷ ys) h = rw (entries_differ xs ys (λ e. h (ap suc e))) (and-false (same_entry x y))
 
 -- both have ended
-pub entries_ended : (xs ys : List Entry) → length xs ≡ length ys → (length xs ≡ 0) ⊎ (length ys ≡ 0) → same_entries xs ys ≡ true
+pub entries_ended : (xs ys : List CleanupEntry) → length xs ≡ length ys → (length xs ≡ 0) ⊎ (length ys ≡ 0) → same_entries xs ys ≡ true
 entries_ended [] [] e h = refl
 entries_ended _ _ e h = absurd (omega arith)
 
-pub entries_tested : (xs ys : List Entry) (r : Bool) → r ≡ same_entries xs ys → IsTrue r ↔ (xs ≡ ys)
+pub entries_tested : (xs ys : List CleanupEntry) (r : Bool) → r ≡ same_entries xs ys → IsTrue r ↔ (xs ≡ ys)
 entries_tested xs ys r h = (λ e. entries_are xs ys (rw (← h) e), λ e. rw (h, ← e) (entries_self xs))

@@ -3,7 +3,7 @@ use Rattle.std.proofs.Common.{◌≡◌, ℕ, zero, suc, ◌<◌, ◌-◌, ◌&&
 use Rattle.aom_shape.specs.Entries.{readied_at, readied_entry, without_top}
 use Rattle.aom_shape.specs.Piles.{AllThere, Extends, Stands, entries_of, listed, node_at}
 use Rattle.aom_shape.specs.Tests.{same_entries, same_entry}
-use Rattle.aom_shape.specs.declared.kind.Entry.{Entry}
+use Rattle.aom_shape.specs.declared.kind.CleanupEntry.{CleanupEntry}
 use Rattle.aom_shape.specs.declared.piles.Node.{Node}
 use Rattle.aom_shape.specs.declared.piles.Pile.{Pile}
 
@@ -43,14 +43,14 @@ extends_along a b c h k = record {
 }
 
 -- the pile with one more node on top
-pub pushed_stands : (nodes : List Node) (pile : Pile) (e : Entry) → Stands nodes pile → AllThere (suc pile.height) (nodes ++ record { entry = e; below = pile.top } ∷ []) (length nodes)
+pub pushed_stands : (nodes : List Node) (pile : Pile) (e : CleanupEntry) → Stands nodes pile → AllThere (suc pile.height) (nodes ++ record { entry = e; below = pile.top } ∷ []) (length nodes)
 pushed_stands nodes pile e h =
     let x : Node = record { entry = e; below = pile.top } in (
       omega (arith, length-append nodes (x ∷ [])),
       rw (at_last nodes x) (still_there pile.height nodes x pile.top h),
     )
 
-pub pushed_entries : (nodes : List Node) (pile : Pile) (e : Entry) →
+pub pushed_entries : (nodes : List Node) (pile : Pile) (e : CleanupEntry) →
     Stands nodes pile → listed (suc pile.height) (nodes ++ record { entry = e; below = pile.top } ∷ []) (length nodes) ≡ e ∷ entries_of nodes pile
 pushed_entries nodes pile e h =
     let x : Node = record { entry = e; below = pile.top } in

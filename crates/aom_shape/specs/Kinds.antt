@@ -15,8 +15,8 @@ use Rattle.aom_shape.specs.declared.kind.Filling.{Filling}
 use Rattle.aom_shape.specs.declared.kind.Filling.TheVariants.{Empty, Full, Perhaps}
 use Rattle.aom_shape.specs.declared.kind.Delivery.{Delivery}
 use Rattle.aom_shape.specs.declared.kind.Delivery.TheVariants.{Here, Gone}
-use Rattle.aom_shape.specs.declared.kind.Entry.{Entry}
-use Rattle.aom_shape.specs.declared.kind.Entry.TheVariants.{Object as An_object, Operation}
+use Rattle.aom_shape.specs.declared.kind.CleanupEntry.{CleanupEntry}
+use Rattle.aom_shape.specs.declared.kind.CleanupEntry.TheVariants.{Object as An_object, Operation}
 
 -- the kind of a field that is declared for that thing
 abbrev pub filled : Option Thing → Filling → Kind
@@ -31,7 +31,7 @@ filling_of (Own t a) = Full
 filling_of _ = Perhaps
 
 -- the kind of what a cleanup entry owns
-abbrev pub entry_kind : Entry → Kind
+abbrev pub entry_kind : CleanupEntry → Kind
 entry_kind (An_object c a) = Own (Object c) a
 entry_kind Operation = Null
 
@@ -105,7 +105,7 @@ abbrev pub none_owns : List Kind → Bool
 none_owns [] = true
 none_owns (k ∷ ks) = is_unowning k && none_owns ks
 
-abbrev pub no_entry : List Entry → Bool
+abbrev pub no_entry : List CleanupEntry → Bool
 no_entry [] = true
 no_entry (e ∷ es) = false
 

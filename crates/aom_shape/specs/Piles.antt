@@ -1,8 +1,8 @@
 -- How cleanup entries are kept, so that the states of a method share what they have in common.
 use Rattle.std.specs.Prelude.{ℕ, zero, suc, ◌≡◌, ◌<◌, List, [], ◌∷◌, length}
 use Rattle.aom_roles.specs.Tables.{at}
-use Rattle.aom_shape.specs.declared.kind.Entry.{Entry}
-use Rattle.aom_shape.specs.declared.kind.Entry.TheVariants.{Operation}
+use Rattle.aom_shape.specs.declared.kind.CleanupEntry.{CleanupEntry}
+use Rattle.aom_shape.specs.declared.kind.CleanupEntry.TheVariants.{Operation}
 use Rattle.aom_shape.specs.declared.piles.Node.{Node}
 use Rattle.aom_shape.specs.declared.piles.Pile.{Pile}
 
@@ -14,11 +14,11 @@ abbrev pub node_at : List Node → ℕ → Node
 node_at nodes i = at nowhere nodes i
 
 -- so many entries, from that node on downwards
-abbrev pub listed : ℕ → List Node → ℕ → List Entry
+abbrev pub listed : ℕ → List Node → ℕ → List CleanupEntry
 listed zero nodes top = []
 listed (suc n) nodes top = (node_at nodes top).entry ∷ listed n nodes (node_at nodes top).below
 
-abbrev pub entries_of : List Node → Pile → List Entry
+abbrev pub entries_of : List Node → Pile → List CleanupEntry
 entries_of nodes pile = listed pile.height nodes pile.top
 
 -- each of these nodes is there

@@ -2,14 +2,14 @@
 use Rattle.std.specs.Prelude.{ℕ, List}
 use Rattle.aom_shape.specs.declared.kind.Kind.{Kind}
 use Rattle.aom_shape.specs.declared.kind.Filling.{Filling}
-use Rattle.aom_shape.specs.declared.kind.Entry.{Entry}
+use Rattle.aom_shape.specs.declared.kind.CleanupEntry.{CleanupEntry}
 use Rattle.aom_shape.specs.declared.kind.Delivery.{Delivery}
 
 pub record Shape : Type 0 where
   pub registers : List Kind
   pub fields : List Filling
   -- the method's own cleanup entries, the last one first
-  pub entries : List Entry
+  pub entries : List CleanupEntry
   -- the object of the method is in one of these request states: a set of them, empty where it has none
   pub states : ℕ
   -- what became of the message of a service

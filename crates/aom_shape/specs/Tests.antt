@@ -9,8 +9,8 @@ use Rattle.aom_shape.specs.declared.kind.Delivery.{Delivery}
 use Rattle.aom_shape.specs.declared.kind.Delivery.TheVariants.{Here, Gone}
 use Rattle.aom_shape.specs.declared.kind.Kind.{Kind}
 use Rattle.aom_shape.specs.declared.kind.Kind.TheVariants.{Unset, Word, Null, Own, Maybe}
-use Rattle.aom_shape.specs.declared.kind.Entry.{Entry}
-use Rattle.aom_shape.specs.declared.kind.Entry.TheVariants.{Object as An_object, Operation}
+use Rattle.aom_shape.specs.declared.kind.CleanupEntry.{CleanupEntry}
+use Rattle.aom_shape.specs.declared.kind.CleanupEntry.TheVariants.{Object as An_object, Operation}
 use Rattle.aom_shape.specs.declared.kind.Filling.{Filling}
 use Rattle.aom_shape.specs.declared.kind.Filling.TheVariants.{Empty, Full, Perhaps}
 
@@ -90,12 +90,12 @@ all_no_more_fillings (x ∷ xs) (y ∷ ys) = no_more_filling x y && all_no_more_
 abbrev pub meet_filling : Filling → Filling → Filling
 meet_filling a b = cond (no_more_filling a b) a Perhaps
 
-abbrev pub same_entry : Entry → Entry → Bool
+abbrev pub same_entry : CleanupEntry → CleanupEntry → Bool
 same_entry (An_object c a) (An_object d b) = c == d && same_age a b
 same_entry Operation Operation = true
 same_entry _ _ = false
 
-abbrev pub same_entries : List Entry → List Entry → Bool
+abbrev pub same_entries : List CleanupEntry → List CleanupEntry → Bool
 same_entries [] [] = true
 same_entries (x ∷ xs) (y ∷ ys) = same_entry x y && same_entries xs ys
 same_entries _ _ = false

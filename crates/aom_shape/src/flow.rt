@@ -6,9 +6,9 @@ ghost use Rattle.aom_shape.specs.Changes.{known_with, next_shape, told, ways_fro
 ghost use Rattle.aom_shape.specs.Kinds.{set_register};
 ghost use Rattle.aom_shape.specs.Needs.{judged, tested, to_next};
 ghost use Rattle.aom_shape.specs.declared.flow.Last.TheVariants.{Same};
-ghost use Rattle.aom_shape.specs.declared.kind.Entry.{Entry as EntryData};
+ghost use Rattle.aom_shape.specs.declared.kind.CleanupEntry.{CleanupEntry as EntryData};
 
-use crate::{Entry, Kind, Known, Shape, Why};
+use crate::{CleanupEntry, Kind, Known, Shape, Why};
 use aom_image::EntryDepth;
 
 /// What becomes of the last cleanup entry.
@@ -16,7 +16,7 @@ use aom_image::EntryDepth;
 pub enum Last {
     Same,
     /// One more comes on top.
-    More(Entry),
+    More(CleanupEntry),
     Fewer,
 }
 
@@ -82,7 +82,7 @@ impl Next {
     }
 
     /// The same with one more cleanup entry.
-    pub fn with_entry(mut self, entry: Entry) -> Next
+    pub fn with_entry(mut self, entry: CleanupEntry) -> Next
         requires { self.change.last ≡ Same }
         ensures { (es : List EntryData) → next_shape es result ≡ with_entry entry (next_shape es self) }
     {

@@ -278,18 +278,18 @@ impl Filling {
 
 /// A cleanup entry that the method has pushed.
 #[derive(Clone, Copy)]
-pub enum Entry {
+pub enum CleanupEntry {
     Object(ClassNumber, Age),
     Operation,
 }
 
-impl Entry {
+impl CleanupEntry {
     pub fn is_object(self) -> bool
         ensures { result ≡ is_object_entry self }
     {
         match self {
-            Entry::Object(_, _) => true,
-            Entry::Operation => false,
+            CleanupEntry::Object(_, _) => true,
+            CleanupEntry::Operation => false,
         }
     }
 
@@ -298,30 +298,31 @@ impl Entry {
         ensures { result ≡ entry_kind self }
     {
         match self {
-            Entry::Object(class, age) => Kind::Own(Thing::Object(class), age),
-            Entry::Operation => Kind::Null,
+            CleanupEntry::Object(class, age) => Kind::Own(Thing::Object(class), age),
+            CleanupEntry::Operation => Kind::Null,
         }
     }
 
     /// The same, and its object is ready.
-    pub fn readied(self) -> Entry
+    pub fn readied(self) -> CleanupEntry
         ensures { result ≡ readied_entry self }
     {
         match self {
-            Entry::Object(class, _) => Entry::Object(class, Age::Ready),
-            Entry::Operation => Entry::Operation,
+            CleanupEntry::Object(class, _) => CleanupEntry::Object(class, Age::Ready),
+            CleanupEntry::Operation => CleanupEntry::Operation,
         }
     }
 
-    pub fn is_same(self, other: Entry) -> bool
+    pub fn is_same(self, other: CleanupEntry) -> bool
         ensures { result ≡ same_entry self other }
     {
         match self {
-            Entry::Object(class, age) => match other {
-                Entry::Object(number, stage) => class.number() == number.number() && age == stage,
-                Entry::Operation => false,
+            CleanupEntry::Object(class, age) => match other {
+                CleanupEntry::Object(number, stage) => class.number() == number.number()
+                    && age == stage,
+                CleanupEntry::Operation => false,
             },
-            Entry::Operation => !other.is_object(),
+            CleanupEntry::Operation => !other.is_object(),
         }
     }
 }

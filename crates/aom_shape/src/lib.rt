@@ -17,7 +17,7 @@ mod things;
 mod why;
 
 pub use flow::{Change, Flow, Last, Next, Way, judge, judge_all, only_if};
-pub use kind::{Age, Delivery, Entry, Filling, Kind};
+pub use kind::{Age, CleanupEntry, Delivery, Filling, Kind};
 pub use known::Known;
 pub use laws::order_is_one;
 pub use order::{meet, weaker};

@@ -5,7 +5,7 @@ ghost use Rattle.aom_shape.specs.Changes.{known_with};
 ghost use Rattle.aom_shape.specs.Meet.{Met, Unmet, MetFillings, IsMeet, NoMeet, WhyNoMeet};
 ghost use Rattle.aom_shape.specs.Order.{SaysNoMore};
 ghost use Rattle.aom_shape.specs.Tests.{all_no_more, all_no_more_fillings, same_delivery};
-ghost use Rattle.aom_shape.specs.declared.kind.Entry.{Entry};
+ghost use Rattle.aom_shape.specs.declared.kind.CleanupEntry.{CleanupEntry};
 
 use crate::{Filling, Kind, Known, Shape, Why};
 use bitflags::Flags;
@@ -40,7 +40,7 @@ fn requests_say_no_more(a: &Known, b: &Known) -> bool
 }
 
 fn known_says_no_more(a: &Known, b: &Known) -> bool
-    ensures { (xs ys : List Entry) → xs ≡ ys → IsTrue result ↔ SaysNoMore (known_with a.now xs) (known_with b.now ys) }
+    ensures { (xs ys : List CleanupEntry) → xs ≡ ys → IsTrue result ↔ SaysNoMore (known_with a.now xs) (known_with b.now ys) }
 {
     if !requests_say_no_more(a, b) {
         return false;
@@ -82,7 +82,7 @@ fn meet_fillings(a: &[Filling; 8], b: &[Filling; 8]) -> [Filling; 8]
 /// The meet of what is known apart from the cleanup entries, if the registers have one. What became of the message is taken
 /// from the first.
 fn meet_known(a: &Known, b: &Known) -> Option<Known>
-    ensures some { IfSome result (λ m. (xs ys : List Entry) → xs ≡ ys → a.now.delivery ≡ b.now.delivery → IsMeet (known_with m xs) (known_with a.now xs) (known_with b.now ys)) }
+    ensures some { IfSome result (λ m. (xs ys : List CleanupEntry) → xs ≡ ys → a.now.delivery ≡ b.now.delivery → IsMeet (known_with m xs) (known_with a.now xs) (known_with b.now ys)) }
     ensures met { IfSome result (λ m. ¬ Unmet a.now.registers b.now.registers) }
     ensures none { result ≡ None → Unmet a.now.registers b.now.registers }
     ensures byte { IfSome result (λ m. m.states < 256) }

@@ -5,7 +5,7 @@ ghost use Rattle.aom_shape.specs.Changes.{changed, readied_perhaps};
 ghost use Rattle.aom_shape.specs.Piles.{Extends, Stands, entries_of, node_at};
 ghost use Rattle.aom_shape.specs.Tests.{same_entries};
 
-use crate::Entry;
+use crate::CleanupEntry;
 use crate::flow::{Change, Last};
 use aom_image::EntryDepth;
 use std::alloc::{AllocError, Global};
@@ -14,7 +14,7 @@ use std::marker::Model;
 /// An entry, and where the one below it stands.
 #[derive(Clone, Copy)]
 pub struct Node {
-    entry: Entry,
+    entry: CleanupEntry,
     below: usize,
 }
 
@@ -71,7 +71,7 @@ impl Piles {
     }
 
     /// The pile with one more entry.
-    fn push(&mut self, pile: Pile, entry: Entry) -> Result<Pile, AllocError>
+    fn push(&mut self, pile: Pile, entry: CleanupEntry) -> Result<Pile, AllocError>
         requires stands { Stands self.old pile }
         requires room { pile.height < 1024 }
         ensures kept { Extends self.old self.new }
@@ -170,14 +170,14 @@ fn node_at(nodes: &[Node], index: usize) -> Node
     match nodes.get(index) {
         Some(node) => *node,
         None => Node {
-            entry: Entry::Operation,
+            entry: CleanupEntry::Operation,
             below: 0,
         },
     }
 }
 
 /// The entry of that number, counted from the last.
-pub fn entry_at(nodes: &[Node], pile: Pile, number: usize) -> Option<Entry>
+pub fn entry_at(nodes: &[Node], pile: Pile, number: usize) -> Option<CleanupEntry>
     ensures { result ≡ slice_get (entries_of nodes.now pile) number }
 {
     if pile.height == 0 {

@@ -7,7 +7,7 @@ ghost use Rattle.aom_shape.specs.declared.kind.Filling.TheVariants.{Perhaps};
 
 use crate::known::{all_empty, none_owns};
 use crate::piles::{Node, Pile, Piles, are_same, entry_at};
-use crate::{Delivery, Entry, Filling, Kind, Known};
+use crate::{CleanupEntry, Delivery, Filling, Kind, Known};
 use aom_image::{Argument, FieldIndex, Register, States, Thing};
 use std::marker::Model;
 
@@ -203,7 +203,7 @@ impl<'a> Shape<'a> {
     }
 
     /// The cleanup entry of that number, counted from the last.
-    pub fn entry(&self, number: usize) -> Option<Entry>
+    pub fn entry(&self, number: usize) -> Option<CleanupEntry>
         ensures { result ≡ slice_get self.now.entries number }
     {
         entry_at(self.nodes, self.pile, number)

@@ -14,8 +14,8 @@ use Rattle.aom_shape.specs.Needs.{tested}
 use Rattle.aom_shape.specs.Shape.{Shape}
 use Rattle.aom_shape.specs.declared.why.Why.{Why}
 use Rattle.aom_shape.specs.declared.why.Why.TheVariants.{RegisterKind}
-use Rattle.aom_shape.specs.declared.kind.Entry.{Entry}
-use Rattle.aom_shape.specs.declared.kind.Entry.TheVariants.{Operation}
+use Rattle.aom_shape.specs.declared.kind.CleanupEntry.{CleanupEntry}
+use Rattle.aom_shape.specs.declared.kind.CleanupEntry.TheVariants.{Operation}
 use Rattle.aom_roles.specs.Tables.{at}
 use Rattle.aom_shape.proofs.Judging.{failed_first, passed_first}
 use Rattle.aom_shape.proofs.Moving.{after, one_on, split}
@@ -55,19 +55,19 @@ arguments_fit p sh xs first u e = elim (leb_tells (first + length xs) 16) [
 ]
 
 -- the entry of a number, where there is one
-pub entry_there : (es : List Entry) (k : ℕ) (x : Entry) → slice_get es k ≡ Some x → (nat_lt k (length es) ≡ true) × (at Operation es k ≡ x)
+pub entry_there : (es : List CleanupEntry) (k : ℕ) (x : CleanupEntry) → slice_get es k ≡ Some x → (nat_lt k (length es) ≡ true) × (at Operation es k ≡ x)
 entry_there es k x e = (lt-ltb k (length es) (slice_get_within es k x e), found es k x e)
   where
-    found : (es : List Entry) (k : ℕ) (x : Entry) → slice_get es k ≡ Some x → at Operation es k ≡ x
+    found : (es : List CleanupEntry) (k : ℕ) (x : CleanupEntry) → slice_get es k ≡ Some x → at Operation es k ≡ x
     found (y ∷ ys) (suc k) x e = found ys k x e
     found _ _ x e = cc
 
-pub entry_missing : (es : List Entry) (k : ℕ) → slice_get es k ≡ None → nat_lt k (length es) ≡ false
+pub entry_missing : (es : List CleanupEntry) (k : ℕ) → slice_get es k ≡ None → nat_lt k (length es) ≡ false
 entry_missing es k e = elim (leb_tells (length es) k) [
   | inl w ↦ le-ltb k (length es) w.1
   | inr w ↦ absurd (there es k w.1 e)
 ]
   where
-    there : (es : List Entry) (k : ℕ) → k < length es → slice_get es k ≡ None → ⊥
+    there : (es : List CleanupEntry) (k : ℕ) → k < length es → slice_get es k ≡ None → ⊥
     there (y ∷ ys) (suc k) h e = there ys k (omega arith) e
     there _ k h e = first_of (cc, omega arith)

@@ -30,8 +30,8 @@ use Rattle.aom_shape.specs.Arguments.{after_of, arguments_moved}
 use Rattle.aom_roles.specs.Tables.{at}
 use Rattle.aom_shape.specs.Needs.{Need, Flow, to_next}
 use Rattle.aom_shape.specs.declared.kind.Age.TheVariants.{Ready}
-use Rattle.aom_shape.specs.declared.kind.Entry.{Entry}
-use Rattle.aom_shape.specs.declared.kind.Entry.TheVariants.{Object as An_object, Operation}
+use Rattle.aom_shape.specs.declared.kind.CleanupEntry.{CleanupEntry}
+use Rattle.aom_shape.specs.declared.kind.CleanupEntry.TheVariants.{Object as An_object, Operation}
 use Rattle.aom_shape.specs.declared.kind.Filling.{Filling}
 use Rattle.aom_shape.specs.declared.kind.Filling.TheVariants.{Perhaps}
 use Rattle.aom_shape.specs.declared.kind.Kind.{Kind}
@@ -235,12 +235,12 @@ module _ (p : Image) (m : ℕ) (pc : ℕ) (sh : Shape) where
 -- ---- returns
 
 -- where an object is left, the last entry is one of its class, ready, and there is no other
-abbrev pub leaves_one : Image → ℕ → List Entry → Bool
+abbrev pub leaves_one : Image → ℕ → List CleanupEntry → Bool
 leaves_one p c [] = false
 leaves_one p c (e ∷ es) = is_own_for p (Object c) (entry_kind e) && (is_ready_kind (entry_kind e) && no_entry es)
 
 -- no cleanup entry is left but the one that the method leaves
-abbrev pub entries_done : Image → Gives → List Entry → Bool
+abbrev pub entries_done : Image → Gives → List CleanupEntry → Bool
 entries_done p Nothing es = no_entry es
 entries_done p A_word es = no_entry es
 entries_done p (An_own t) es = no_entry es

@@ -17,8 +17,8 @@ ghost use Rattle.aom_shape.specs.Kinds.{is_own_for, entry_kind, is_ready_kind, i
 ghost use Rattle.aom_shape.specs.Needs.{judged, tested};
 ghost use Rattle.aom_roles.specs.Tables.{at, is_among};
 ghost use Rattle.aom_shape.specs.declared.flow.Last.TheVariants.{Same};
-ghost use Rattle.aom_shape.specs.declared.kind.Entry.{Entry as EntryData};
-ghost use Rattle.aom_shape.specs.declared.kind.Entry.TheVariants.{Operation};
+ghost use Rattle.aom_shape.specs.declared.kind.CleanupEntry.{CleanupEntry as EntryData};
+ghost use Rattle.aom_shape.specs.declared.kind.CleanupEntry.TheVariants.{Operation};
 ghost use Rattle.aom_shape.specs.declared.why.Why.TheVariants.{EntryState, FieldNotNull, NotFresh, RegisterKind, PopEmpty};
 
 use crate::requests::{is_construct, may_begin, resting, unissued};
@@ -30,7 +30,7 @@ use aom_image::{
 };
 use aom_linked::Linked;
 use aom_roles::parent_of;
-use aom_shape::{Age, Entry, Flow, Kind, Next, Shape, Why, judge, judge_all, only_if};
+use aom_shape::{Age, CleanupEntry, Flow, Kind, Next, Shape, Why, judge, judge_all, only_if};
 
 /// A call, as its instruction says it.
 #[derive(Clone, Copy)]
@@ -243,7 +243,7 @@ fn brought(gives: Gives, c: Register, lasting: Next) -> Next
         Gives::Word => lasting.with_kind(number, Kind::Word),
         Gives::Own(thing) => lasting.with_kind(number, Kind::Own(thing, Age::Ready)),
         Gives::Maybe(thing) => lasting.with_kind(number, Kind::Maybe(thing, Age::Ready)),
-        Gives::Left(class) => lasting.with_entry(Entry::Object(class, Age::Ready)),
+        Gives::Left(class) => lasting.with_entry(CleanupEntry::Object(class, Age::Ready)),
     }
 }
 
@@ -284,7 +284,7 @@ fn caught(gives: Gives, c: Register, lasting: Next) -> Next
 }
 
 /// It is an entry of an object of that class, ready.
-fn is_left(linked: &Linked, class: ClassNumber, entry: &Entry) -> bool
+fn is_left(linked: &Linked, class: ClassNumber, entry: &CleanupEntry) -> bool
     ensures { result ≡ (is_own_for linked.now (Object class) (entry_kind entry.now) && is_ready_kind (entry_kind entry.now)) }
 {
     is_own_for(linked, Thing::Object(class), entry.kind()) && entry.kind().is_ready()

@@ -8,7 +8,7 @@ ghost use Rattle.aom_shape.specs.Kinds.{is_object_or_null, is_own_for, is_ready_
 ghost use Rattle.aom_shape.specs.Needs.{to_next};
 ghost use Rattle.aom_roles.specs.Things.{field_thing, holder_of, word_count};
 ghost use Rattle.aom_site.specs.Site.{leave_point};
-ghost use Rattle.aom_shape.specs.declared.kind.Entry.{Entry as EntryData};
+ghost use Rattle.aom_shape.specs.declared.kind.CleanupEntry.{CleanupEntry as EntryData};
 ghost use Rattle.aom_shape.specs.declared.why.Why.TheVariants.{PopEmpty, QuietBroken, RegisterKind, StillFresh};
 
 use crate::requests::{is_service, unissued};

@@ -14,8 +14,8 @@ use Rattle.aom_instructions.specs.Parts.{make, operands_of}
 use Rattle.aom_instructions.specs.Rows.{row}
 use Rattle.aom_instructions.specs.declared.kinds.LargeKind.{LargeKind}
 use Rattle.aom_instructions.specs.declared.kinds.LargeKind.TheVariants as lk
-use Rattle.aom_instructions.specs.declared.kinds.Order.{Order}
-use Rattle.aom_instructions.specs.declared.kinds.Order.TheVariants.{LargeLast, LargeSecond}
+use Rattle.aom_instructions.specs.declared.kinds.OperandOrder.{OperandOrder}
+use Rattle.aom_instructions.specs.declared.kinds.OperandOrder.TheVariants.{LargeLast, LargeSecond}
 use Rattle.aom_instructions.specs.declared.kinds.SmallKind.{SmallKind}
 use Rattle.aom_instructions.specs.declared.kinds.SmallKind.TheVariants as sk
 use Rattle.aom_instructions.specs.declared.operand.Large.TheVariants as large
@@ -80,7 +80,7 @@ module _ (scope : Scope) (version : Version) (strict : scope.is_strict ≡ true)
 
   -- ---- behind each mnemonic
 
-  in_order_within : (k : Kinds) (order : Order) → Within (OperandsFit bounds k) (in_order order (small_operand k.a) (small_operand k.b) (small_operand k.c) (large_operand scope labels k.d))
+  in_order_within : (k : Kinds) (order : OperandOrder) → Within (OperandsFit bounds k) (in_order order (small_operand k.a) (small_operand k.b) (small_operand k.c) (large_operand scope labels k.d))
   in_order_within k LargeLast = next_within (SmallFits k.a) (OperandsFit bounds k) (small_operand k.a) _ (small_within k.a) (λ a pa.
       next_within (SmallFits k.b) (OperandsFit bounds k) (small_operand k.b) _ (small_within k.b) (λ b pb.
       next_within (SmallFits k.c) (OperandsFit bounds k) (small_operand k.c) _ (small_within k.c) (λ c pc.

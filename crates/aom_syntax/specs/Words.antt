@@ -6,8 +6,8 @@ use Rattle.aom_instructions.specs.declared.instr.Instr.{Instr}
 use Rattle.aom_instructions.specs.declared.kinds.Kinds.{Kinds}
 use Rattle.aom_instructions.specs.declared.kinds.LargeKind.{LargeKind}
 use Rattle.aom_instructions.specs.declared.kinds.LargeKind.TheVariants as lk
-use Rattle.aom_instructions.specs.declared.kinds.Order.{Order}
-use Rattle.aom_instructions.specs.declared.kinds.Order.TheVariants.{LargeLast, LargeSecond}
+use Rattle.aom_instructions.specs.declared.kinds.OperandOrder.{OperandOrder}
+use Rattle.aom_instructions.specs.declared.kinds.OperandOrder.TheVariants.{LargeLast, LargeSecond}
 use Rattle.aom_instructions.specs.declared.kinds.SmallKind.{SmallKind}
 use Rattle.aom_instructions.specs.declared.kinds.SmallKind.TheVariants as sk
 use Rattle.aom_instructions.specs.declared.mnemonic.Mnemonic.{Mnemonic}
@@ -40,7 +40,7 @@ large_operand scope labels lk.Class = next (class scope) (λ n. giving (large.Cl
 large_operand scope labels lk.Method = next (method scope) (λ n. giving (large.Method n))
 
 -- operands in the order of a text
-abbrev pub in_order : Order → Reading Small → Reading Small → Reading Small → Reading Large → Reading Operands
+abbrev pub in_order : OperandOrder → Reading Small → Reading Small → Reading Small → Reading Large → Reading Operands
 in_order LargeLast first second third fourth = next first (λ a. next second (λ b. next third (λ c. next fourth (λ d. giving (operands_of a b c d)))))
 in_order LargeSecond first second third fourth = next first (λ a. next fourth (λ d. next second (λ b. next third (λ c. giving (operands_of a b c d)))))
 

@@ -6,7 +6,7 @@ ghost use Rattle.aom_syntax.specs.Reading.{Reads, ReadsOrNoMemory};
 ghost use Rattle.aom_syntax.specs.Classes.{declared, parts_left, class_of, thing_of, thing, things, provider, server, kind, optional_parent, said_budget, budget, fields, class_statement};
 
 use crate::list::listed;
-use crate::{Keyword, Names, Reader, Scope};
+use crate::{Keyword, NameList, Scope, WordReader};
 use aom_image::{ClassDecl, ClassKind, ClassNumber, Items, NativeNumber, Provider, Thing, Version};
 use aom_text::{AsmFaultKind, is_name};
 use std::alloc::Global;
@@ -48,9 +48,9 @@ pub fn thing_of(word: &[u8], scope: &Scope) -> Result<Thing, AsmFaultKind>
     Ok(Thing::Object(class_of(word, scope)?))
 }
 
-impl<'a> Reader<'a> {
+impl<'a> WordReader<'a> {
     /// A name that is declared here, at its place among all of its kind.
-    pub fn declared(&mut self, place: usize, names: &Names) -> Result<(), AsmFaultKind>
+    pub fn declared(&mut self, place: usize, names: &NameList) -> Result<(), AsmFaultKind>
         ensures { Reads (λ x. (x, self.new)) result (declared place names.now self.old) }
     {
         let name = self.name()?;

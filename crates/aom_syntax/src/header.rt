@@ -3,11 +3,11 @@ ghost use Rattle.std.specs.Prelude.{◌≡◌};
 ghost use Rattle.aom_syntax.specs.Reading.{Reads};
 ghost use Rattle.aom_syntax.specs.Headers.{optional_version, optional_root, limits_and_root, image_statement};
 
-use crate::{Keyword, Reader, Scope};
+use crate::{Keyword, Scope, WordReader};
 use aom_image::{ClassNumber, Header, Version};
 use aom_text::AsmFaultKind;
 
-impl<'a> Reader<'a> {
+impl<'a> WordReader<'a> {
     /// The version, where it is said. It can only be 2.
     fn optional_version(&mut self) -> Result<Version, AsmFaultKind>
         ensures { Reads (λ x. (x, self.new)) result (optional_version self.old) }

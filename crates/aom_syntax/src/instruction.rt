@@ -4,7 +4,7 @@ ghost use Rattle.aom_syntax.specs.Reading.{Reads, seen};
 ghost use Rattle.aom_syntax.specs.Methods.{label_of, named_mnemonic, check_label, after_label, instruction};
 
 use crate::keyword::strange;
-use crate::{Names, Reader, Scope};
+use crate::{NameList, Scope, WordReader};
 use aom_image::{Instr, Mnemonic, Version};
 use aom_text::{AsmFaultKind, is_name};
 
@@ -30,7 +30,7 @@ fn mnemonic_of(word: &[u8], version: Version) -> Result<Mnemonic, AsmFaultKind>
 }
 
 /// A label is a name, and is declared first at this place.
-fn check_label(label: &[u8], labels: &Names, place: usize) -> Result<(), AsmFaultKind>
+fn check_label(label: &[u8], labels: &NameList, place: usize) -> Result<(), AsmFaultKind>
     ensures { result ≡ check_label place labels.now label.now }
 {
     if !is_name(label) {
@@ -42,9 +42,9 @@ fn check_label(label: &[u8], labels: &Names, place: usize) -> Result<(), AsmFaul
     }
 }
 
-impl<'a> Reader<'a> {
+impl<'a> WordReader<'a> {
     /// The first word that is no label. A label is declared at its place, and is not left without an instruction.
-    fn after_label(&mut self, labels: &Names, place: usize) -> Result<&'a [u8], AsmFaultKind>
+    fn after_label(&mut self, labels: &NameList, place: usize) -> Result<&'a [u8], AsmFaultKind>
         ensures { Reads (λ w. (w.now, self.new)) result (after_label place labels.now self.old) }
     {
         let first = self.word()?;
@@ -61,7 +61,7 @@ impl<'a> Reader<'a> {
     fn mnemonic(
         &mut self,
         version: Version,
-        labels: &Names,
+        labels: &NameList,
         place: usize,
     ) -> Result<Mnemonic, AsmFaultKind>
         ensures { Reads (λ x. (x, self.new)) result (seen (named_mnemonic version) (after_label place labels.now) self.old) }
@@ -74,7 +74,7 @@ impl<'a> Reader<'a> {
         &mut self,
         scope: &Scope,
         version: Version,
-        labels: &Names,
+        labels: &NameList,
         place: usize,
     ) -> Result<Instr, AsmFaultKind>
         ensures { Reads (λ x. (x, self.new)) result (instruction scope.now version labels.now place self.old) }

@@ -23,6 +23,6 @@ pub use instruction::label_of;
 pub use keyword::Keyword;
 pub use laws::{classes_in_range, headers_in_range, headings_in_range, instructions_in_range};
 pub use method::Heading;
-pub use names::Names;
-pub use reader::Reader;
+pub use names::NameList;
+pub use reader::WordReader;
 pub use scope::Scope;

@@ -14,7 +14,7 @@ use aom_text::AsmFaultKind;
 use std::alloc::Global;
 
 /// What may stand in a list.
-pub trait Element: Copy {
+pub trait ReadElement: Copy {
     /// What a word says.
     ghost said: { Told → List ℕ → Result Self Kind };
 
@@ -22,7 +22,7 @@ pub trait Element: Copy {
         ensures { result ≡ said scope.now word.now };
 }
 
-impl Element for Thing {
+impl ReadElement for Thing {
     ghost said = { thing_of };
 
     fn read(word: &[u8], scope: &Scope) -> Result<Thing, AsmFaultKind> {
@@ -30,7 +30,7 @@ impl Element for Thing {
     }
 }
 
-impl Element for Argument {
+impl ReadElement for Argument {
     ghost said = { argument_of };
 
     fn read(word: &[u8], scope: &Scope) -> Result<Argument, AsmFaultKind> {
@@ -39,7 +39,7 @@ impl Element for Argument {
 }
 
 /// The elements of a list, at most so many. A minus is the empty list.
-pub fn listed<E: Element>(
+pub fn listed<E: ReadElement>(
     alloc: Global,
     word: &[u8],
     scope: &Scope,

@@ -7,7 +7,7 @@ ghost use Rattle.aom_syntax.specs.Methods.{role, role_of, kind_of, all_states, a
 use crate::class::thing_of;
 use crate::list::listed;
 use crate::states::{set_of, states_of};
-use crate::{Keyword, Reader, Scope};
+use crate::{Keyword, Scope, WordReader};
 use aom_image::{
     Argument, ClassDecl, ClassKind, ClassNumber, Gives, Items, MethodFlags, MethodNumber, Role,
     States, Thing, Version,
@@ -174,7 +174,7 @@ fn words(alloc: Global, count: usize) -> Result<Vec<Argument>, AsmFaultKind>
     Ok(vec![in alloc; Argument::Word; count]?)
 }
 
-impl<'a> Reader<'a> {
+impl<'a> WordReader<'a> {
     fn role(&mut self) -> Result<Role, AsmFaultKind>
         ensures { Reads (λ x. (x, self.new)) result (role self.old) }
     {

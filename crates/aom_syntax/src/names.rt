@@ -7,14 +7,14 @@ use std::alloc::{AllocError, Global};
 use std::collections::BTreeMap;
 use std::marker::Model;
 
-/// Names in the order in which they are declared, and the place at which each is declared first.
+/// NameList in the order in which they are declared, and the place at which each is declared first.
 #[derive(Drop)]
-pub struct Names<'a> {
+pub struct NameList<'a> {
     names: Vec<&'a [u8]>,
     places: BTreeMap<&'a [u8], usize>,
 }
 
-impl<'a> Model for Names<'a> {
+impl<'a> Model for NameList<'a> {
     ghost use Rattle.std.specs.Prelude.{ℕ, List, map};
     ghost use Rattle.aom_syntax.specs.Names.{FindsFirst};
 
@@ -25,11 +25,11 @@ impl<'a> Model for Names<'a> {
     ghost invariant = { λ n. FindsFirst n.places (map (λ w. w.now) n.names.items) };
 }
 
-impl<'a> Names<'a> {
-    pub fn none(alloc: Global) -> Names<'a>
+impl<'a> NameList<'a> {
+    pub fn none(alloc: Global) -> NameList<'a>
         ensures { result ≡ [] }
     {
-        Names {
+        NameList {
             names: Vec::new(alloc),
             places: BTreeMap::new(alloc),
         }

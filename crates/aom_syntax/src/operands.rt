@@ -4,7 +4,7 @@ ghost use Rattle.aom_text.specs.Numbers.{number_of};
 ghost use Rattle.aom_syntax.specs.Reading.{Reads};
 ghost use Rattle.aom_syntax.specs.Operands.{indexed, index_of, register, last_register, field, word_field, target_of, target, signed, depth, rounds, class, method, label, used};
 
-use crate::{Names, Reader, Scope};
+use crate::{NameList, Scope, WordReader};
 use aom_image::{
     ClassNumber, EntryDepth, FieldIndex, LoopDepth, MethodNumber, Place, Register, Target,
     WordIndex,
@@ -71,7 +71,7 @@ fn target_of(word: &[u8]) -> Result<Target, AsmFaultKind>
     }
 }
 
-impl<'a> Reader<'a> {
+impl<'a> WordReader<'a> {
     pub fn register(&mut self, highest: u8) -> Result<Register, AsmFaultKind>
         requires { highest ≤ 15 }
         ensures { Reads (λ x. (x, self.new)) result (register highest self.old) }
@@ -130,7 +130,7 @@ impl<'a> Reader<'a> {
     }
 
     /// The number of a name that is used, of a list.
-    fn used(&mut self, is_strict: bool, names: &Names, limit: u16) -> Result<u16, AsmFaultKind>
+    fn used(&mut self, is_strict: bool, names: &NameList, limit: u16) -> Result<u16, AsmFaultKind>
         requires { 0 < limit }
         ensures read { Reads (λ x. (x, self.new)) result (used is_strict limit names.now self.old) }
         ensures within { IfOk result (λ n. n < limit) }
@@ -155,7 +155,7 @@ impl<'a> Reader<'a> {
         )
     }
 
-    pub fn label(&mut self, scope: &Scope, labels: &Names) -> Result<Place, AsmFaultKind>
+    pub fn label(&mut self, scope: &Scope, labels: &NameList) -> Result<Place, AsmFaultKind>
         ensures { Reads (λ x. (x, self.new)) result (label scope.now labels.now self.old) }
     {
         Place::new(self.used(scope.is_strict, labels, 1024)?).ok_or(AsmFaultKind::LimitPassed)

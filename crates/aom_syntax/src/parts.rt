@@ -4,15 +4,15 @@ ghost use Rattle.aom_syntax.specs.Reading.{Reads};
 ghost use Rattle.aom_syntax.specs.Words.{small_operand, large_operand, operands_read, words_operands};
 
 use crate::operands::{LAST_REGISTER, LAST_RESULT};
-use crate::{Names, Reader, Scope};
+use crate::{NameList, Scope, WordReader};
 use aom_image::{
-    Instr, Kinds, Large, LargeKind, Mnemonic, Operands, Order, Small, SmallKind, Target,
+    Instr, Kinds, Large, LargeKind, Mnemonic, OperandOrder, Operands, Small, SmallKind, Target,
 };
 use aom_text::AsmFaultKind;
 
 type Read<T> = Result<T, AsmFaultKind>;
 
-impl<'a> Reader<'a> {
+impl<'a> WordReader<'a> {
     /// A register is r0 where no word is left.
     fn small_operand(&mut self, kind: SmallKind) -> Read<Small>
         ensures { Reads (λ x. (x, self.new)) result (small_operand kind self.old) }
@@ -28,7 +28,7 @@ impl<'a> Reader<'a> {
         }
     }
 
-    fn large_operand(&mut self, kind: LargeKind, scope: &Scope, labels: &Names) -> Read<Large>
+    fn large_operand(&mut self, kind: LargeKind, scope: &Scope, labels: &NameList) -> Read<Large>
         ensures { Reads (λ x. (x, self.new)) result (large_operand scope.now labels.now kind self.old) }
     {
         match kind {
@@ -41,18 +41,18 @@ impl<'a> Reader<'a> {
         }
     }
 
-    fn operands(&mut self, kinds: Kinds, scope: &Scope, labels: &Names) -> Read<Operands>
+    fn operands(&mut self, kinds: Kinds, scope: &Scope, labels: &NameList) -> Read<Operands>
         ensures { Reads (λ x. (x, self.new)) result (operands_read scope.now labels.now kinds self.old) }
     {
         let a = self.small_operand(kinds.a)?;
         match kinds.order {
-            Order::LargeLast => {
+            OperandOrder::LargeLast => {
                 let b = self.small_operand(kinds.b)?;
                 let c = self.small_operand(kinds.c)?;
                 let d = self.large_operand(kinds.d, scope, labels)?;
                 Ok(Operands { a, b, c, d })
             }
-            Order::LargeSecond => {
+            OperandOrder::LargeSecond => {
                 let d = self.large_operand(kinds.d, scope, labels)?;
                 let b = self.small_operand(kinds.b)?;
                 let c = self.small_operand(kinds.c)?;
@@ -62,7 +62,7 @@ impl<'a> Reader<'a> {
     }
 
     /// The instruction of a mnemonic, from what stands behind it.
-    pub fn behind(&mut self, mnemonic: Mnemonic, scope: &Scope, labels: &Names) -> Read<Instr>
+    pub fn behind(&mut self, mnemonic: Mnemonic, scope: &Scope, labels: &NameList) -> Read<Instr>
         ensures { Reads (λ x. (x, self.new)) result (words_operands scope.now labels.now mnemonic self.old) }
     {
         // The check has to be told of the types that `Operands` holds.

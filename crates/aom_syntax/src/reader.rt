@@ -5,16 +5,16 @@ ghost use Rattle.aom_syntax.specs.Reading.{Reads, word, took, keyword, any_keywo
 
 use crate::Keyword;
 use crate::keyword::strange;
-use aom_text::{AsmFaultKind, Number, Words, is_name, is_text_word};
+use aom_text::{AsmFaultKind, Number, WordCursor, is_name, is_text_word};
 use std::marker::Model;
 
 /// The words that are still to be read. After a fault nothing is said of them.
 #[derive(Drop)]
-pub struct Reader<'a> {
-    words: Words<'a>,
+pub struct WordReader<'a> {
+    words: WordCursor<'a>,
 }
 
-impl<'a> Model for Reader<'a> {
+impl<'a> Model for WordReader<'a> {
     ghost use Rattle.std.specs.Prelude.{ℕ, List};
 
     ghost Value = { List (List ℕ) };
@@ -22,11 +22,11 @@ impl<'a> Model for Reader<'a> {
     ghost view = { λ r. r.words };
 }
 
-impl<'a> Reader<'a> {
-    pub fn of(words: Words<'a>) -> Reader<'a>
+impl<'a> WordReader<'a> {
+    pub fn of(words: WordCursor<'a>) -> WordReader<'a>
         ensures { result ≡ words.entry }
     {
-        Reader { words }
+        WordReader { words }
     }
 
     pub fn is_empty(&self) -> bool

@@ -3,7 +3,7 @@ use Rattle.std.specs.Prelude.{ℕ, Bool, true, false, not, ◌==◌, ◌+◌, if
 use Rattle.std.specs.List.{slice_split, find, before_first, after_first}
 use Rattle.aom_text.specs.Words.{is_plain, has_bytes, words}
 use Rattle.aom_text.specs.declared.text.Statement.{Statement}
-use Rattle.aom_text.specs.declared.text.Line.{Line}
+use Rattle.aom_text.specs.declared.text.LineCursor.{LineCursor}
 use Rattle.aom_text.specs.declared.text.Rest.{Rest}
 
 -- ---- lines
@@ -71,7 +71,7 @@ statements text = statements_from 1 (lines_of text)
 -- ---- what is left while they are read
 
 -- of a line
-abbrev pub left_of_line : Line → List Statement
+abbrev pub left_of_line : LineCursor → List Statement
 left_of_line line = parted line.number line.code.now line.comment.now
 
 -- of a text

@@ -1,7 +1,7 @@
 //! The lowest layer of the texts: from bytes to lines, statements, their words, numbers and names.
 //!
-//! `Text` gives the statements of a text one after another, each with its line, and a statement gives its words.
-//! `specs/Text.antt` says which they are by splitting: into lines, at the comment's mark, at semicolons, at blanks.
+//! `StatementCursor` gives the statements of a text one after another, each with its line, and a statement gives its words.
+//! `specs/StatementCursor.antt` says which they are by splitting: into lines, at the comment's mark, at semicolons, at blanks.
 //! It takes no memory, and it knows nothing of what the words mean.
 #![tactic(auto)]
 
@@ -14,5 +14,5 @@ mod word;
 pub use fault::{AsmFault, AsmFaultKind};
 pub use name::is_name;
 pub use number::{Number, sizes_are_told};
-pub use text::{Statement, Text, last_line, split_line};
-pub use word::{Words, is_text_word};
+pub use text::{Statement, StatementCursor, last_line, split_line};
+pub use word::{WordCursor, is_text_word};

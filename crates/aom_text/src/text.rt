@@ -4,7 +4,7 @@ ghost use Rattle.std.specs.List.{list_all, position};
 ghost use Rattle.aom_text.specs.Words.{is_plain, words, split_by};
 ghost use Rattle.aom_text.specs.Text.{lines_of, worded, put_words, left_of_line, left_of_text, statements, first_statement, other_statements, line_count, line_statements, comment_statements};
 
-use crate::Words;
+use crate::WordCursor;
 use crate::word::is_plain;
 use std::marker::Model;
 
@@ -14,12 +14,12 @@ use std::marker::Model;
 #[derive(Drop)]
 pub struct Statement<'a> {
     pub line: u32,
-    pub words: Words<'a>,
+    pub words: WordCursor<'a>,
 }
 
 /// What is still to be read of a line.
 #[derive(Clone, Copy)]
-pub struct Line<'a> {
+pub struct LineCursor<'a> {
     number: u32,
     code: &'a [u8],
     comment: &'a [u8],
@@ -28,17 +28,17 @@ pub struct Line<'a> {
 /// What is still to be read of a text: of a line, and the lines after it.
 #[derive(Clone, Copy)]
 pub struct Rest<'a> {
-    line: Line<'a>,
+    line: LineCursor<'a>,
     later: &'a [u8],
 }
 
 /// The statements that are still to be read of a text.
 #[derive(Drop)]
-pub struct Text<'a> {
+pub struct StatementCursor<'a> {
     rest: Rest<'a>,
 }
 
-impl<'a> Model for Text<'a> {
+impl<'a> Model for StatementCursor<'a> {
     ghost use Rattle.std.specs.Prelude.{List, ◌+◌, ◌≤◌, ◌^◌, length};
     ghost use Rattle.aom_text.specs.declared.text.Statement.{Statement};
     ghost use Rattle.aom_text.specs.Text.{left_of_text};
@@ -50,27 +50,27 @@ impl<'a> Model for Text<'a> {
     ghost invariant = { λ t. t.rest.line.number + length t.rest.later.now ≤ 2 ^ 20 };
 }
 
-impl<'a> Text<'a> {
+impl<'a> StatementCursor<'a> {
     /// All statements of a text.
-    pub fn of(text: &'a [u8]) -> Text<'a>
+    pub fn of(text: &'a [u8]) -> StatementCursor<'a>
         requires { length text.now ≤ 2 ^ 20 }
         ensures { result ≡ statements text.now }
     {
-        let line = Line {
+        let line = LineCursor {
             number: 0,
             code: &[],
             comment: &[],
         };
-        Text {
+        StatementCursor {
             rest: Rest { line, later: text },
         }
     }
 
     /// The same statements, to be read on their own.
-    pub fn again(&self) -> Text<'a>
+    pub fn again(&self) -> StatementCursor<'a>
         ensures { result ≡ self.now }
     {
-        Text { rest: self.rest }
+        StatementCursor { rest: self.rest }
     }
 
     /// The next statement, which is read.
@@ -123,16 +123,16 @@ fn first_of_text(text: Rest) -> Option<(Statement, Rest)>
 }
 
 /// The first statement of what is left of a line, and what is left then.
-fn first_of_line(line: Line) -> Option<(Statement<'_>, Line<'_>)>
+fn first_of_line(line: LineCursor) -> Option<(Statement<'_>, LineCursor<'_>)>
     ensures first { left_of_line line.entry ≡ split_by (λ s. s) left_of_line result }
     ensures number { IfSome result (λ p. p.1.number ≡ line.entry.number) }
 {
     let mut code = line.code;
     while !code.is_empty() {
         let (part, after) = split_part(code);
-        let words = Words::of(part);
+        let words = WordCursor::of(part);
         if !words.is_empty() {
-            let rest = Line {
+            let rest = LineCursor {
                 code: after,
                 ..line
             };
@@ -150,14 +150,14 @@ fn first_of_line(line: Line) -> Option<(Statement<'_>, Line<'_>)>
 }
 
 /// The statement that a comment counts as, if it has a byte that a text may not have.
-fn first_of_comment(number: u32, comment: &[u8]) -> Option<(Statement<'_>, Line<'_>)>
+fn first_of_comment(number: u32, comment: &[u8]) -> Option<(Statement<'_>, LineCursor<'_>)>
     ensures first { comment_statements number comment.now ≡ split_by (λ s. s) left_of_line result }
     ensures number { IfSome result (λ p. p.1.number ≡ number) }
 {
     match find_other(comment) {
         Some(at) => {
-            let words = Words::of(&comment[at..at + 1]);
-            let rest = Line {
+            let words = WordCursor::of(&comment[at..at + 1]);
+            let rest = LineCursor {
                 number,
                 code: &[],
                 comment: &[],
@@ -175,17 +175,17 @@ fn first_of_comment(number: u32, comment: &[u8]) -> Option<(Statement<'_>, Line<
 }
 
 /// A line of that number, with its comment apart.
-fn open_line(number: u32, bytes: &[u8]) -> Line
+fn open_line(number: u32, bytes: &[u8]) -> LineCursor
     ensures value { left_of_line result ≡ line_statements number bytes.now }
     ensures number { result.number ≡ number }
 {
     match find_mark(bytes) {
-        Some(at) => Line {
+        Some(at) => LineCursor {
             number,
             code: &bytes[..at],
             comment: &bytes[at + 1..],
         },
-        None => Line {
+        None => LineCursor {
             number,
             code: bytes,
             comment: &[],

@@ -1,4 +1,4 @@
-//! Words.
+//! WordCursor.
 ghost use Rattle.std.specs.Prelude.{◌≡◌, not, option_map};
 ghost use Rattle.std.specs.List.{list_all, position};
 ghost use Rattle.aom_text.specs.Words.{is_blank, is_plain, words, split_by, first_of, is_none_left, others_of};
@@ -26,11 +26,11 @@ pub fn is_text_word(word: &[u8]) -> bool
 
 /// The words that are still to be read of a statement.
 #[derive(Drop)]
-pub struct Words<'a> {
+pub struct WordCursor<'a> {
     rest: &'a [u8],
 }
 
-impl<'a> Model for Words<'a> {
+impl<'a> Model for WordCursor<'a> {
     ghost use Rattle.std.specs.Prelude.{ℕ, List};
     ghost use Rattle.aom_text.specs.Words.{words};
 
@@ -39,11 +39,11 @@ impl<'a> Model for Words<'a> {
     ghost view = { λ w. words w.rest.now };
 }
 
-impl<'a> Words<'a> {
-    pub fn of(part: &'a [u8]) -> Words<'a>
+impl<'a> WordCursor<'a> {
+    pub fn of(part: &'a [u8]) -> WordCursor<'a>
         ensures { result ≡ words part.now }
     {
-        Words { rest: part }
+        WordCursor { rest: part }
     }
 
     /// The next word, which stays to be read.

@@ -8,12 +8,12 @@ pub enum Event {
     /// The native of that number is killed.
     Kill(u8),
     /// What the client of that number does.
-    Client(u8, Command),
+    Client(u8, ClientCommand),
 }
 
 /// What a client does.
 #[derive(Clone, Copy, PartialEq, Eq)]
-pub enum Command {
+pub enum ClientCommand {
     /// It asks a server of that class for a session with so many slots.
     Connect(u8, u8),
     /// It sends a message of these words, the function first.

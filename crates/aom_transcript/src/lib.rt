@@ -8,6 +8,6 @@ mod event;
 mod line;
 mod page;
 
-pub use event::{Command, Event, TimedEvent};
+pub use event::{ClientCommand, Event, TimedEvent};
 pub use line::{Asked, Ending, Line};
 pub use page::Page;

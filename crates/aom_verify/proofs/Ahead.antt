@@ -12,8 +12,8 @@ use Rattle.aom_verify.specs.Change.{IsChange, step_then, then}
 use Rattle.aom_verify.specs.States.{shapes_of}
 use Rattle.aom_shape.specs.Needs.{Flow}
 use Rattle.aom_verify.specs.Sweep.{AppliesAt, IsAhead, Joins, SameBut, SameUpTo}
-use Rattle.aom_verify.specs.declared.change.Change.{Change}
-use Rattle.aom_verify.specs.declared.change.Change.TheVariants.{Nothing}
+use Rattle.aom_verify.specs.declared.change.StatesChange.{StatesChange}
+use Rattle.aom_verify.specs.declared.change.StatesChange.TheVariants.{Nothing}
 use Rattle.aom_verify.specs.declared.change.Step.{Step}
 use Rattle.aom_verify.proofs.Joining.{all_met_below}
 use Rattle.aom_verify.proofs.Keeping.{set_shapes}
@@ -35,7 +35,7 @@ joined_ahead old new to seen step changed others ahead nothing = record { same =
 
 -- what was joined at a place by a step with that change
 pub joined_at :
-    (old new : Shapes) (ways : List Flow) (to seen : ℕ) (change : Change) (step : Step) → Joins old new ways change → SameBut to old new → step.change ≡ change →
+    (old new : Shapes) (ways : List Flow) (to seen : ℕ) (change : StatesChange) (step : Step) → Joins old new ways change → SameBut to old new → step.change ≡ change →
     (step.is_behind ≡ false → (change ≡ Nothing) ⊎ (seen < to)) → (change ≡ Nothing → step.is_behind ≡ false) → Joins old new ways step.change × IsAhead seen old new step
 joined_at old new ways to seen change step joins others same ahead nothing =
     let here : Joins old new ways step.change = rw same joins in
@@ -61,11 +61,11 @@ then_first x y e = or_first x.is_behind y.is_behind e
 pub then_last : (x y : Step) → (step_then x y).is_behind ≡ false → y.is_behind ≡ false
 then_last x y e = or_last x.is_behind y.is_behind e
 
-nothing_first : (x y : Change) → then x y ≡ Nothing → x ≡ Nothing
+nothing_first : (x y : StatesChange) → then x y ≡ Nothing → x ≡ Nothing
 nothing_first Nothing y e = refl
 nothing_first _ _ e = absurd (grind arith)
 
-nothing_last : (x y : Change) → then x y ≡ Nothing → y ≡ Nothing
+nothing_last : (x y : StatesChange) → then x y ≡ Nothing → y ≡ Nothing
 nothing_last x y e = rw (nothing_first x y e) at e
 
 pub then_nothing : (x y : Step) → (x.change ≡ Nothing → x.is_behind ≡ false) → (y.change ≡ Nothing → y.is_behind ≡ false) → (step_then x y).change ≡ Nothing → (step_then x y).is_behind ≡ false

@@ -15,8 +15,8 @@ use Rattle.aom_shape.specs.declared.kind.Kind.{Kind}
 use Rattle.aom_shape.specs.declared.kind.Kind.TheVariants.{Unset}
 use Rattle.aom_typings.specs.Shapes.{Shapes}
 use Rattle.aom_verify.specs.Change.{kind_rank, filling_rank, states_rank, shape_rank, IsChange, then}
-use Rattle.aom_verify.specs.declared.change.Change.{Change}
-use Rattle.aom_verify.specs.declared.change.Change.TheVariants.{Nothing, Fell, Reached}
+use Rattle.aom_verify.specs.declared.change.StatesChange.{StatesChange}
+use Rattle.aom_verify.specs.declared.change.StatesChange.TheVariants.{Nothing, Fell, Reached}
 
 -- a weaker kind can fall no more often
 kind_falls : (a b : Kind) → Weaker a b → kind_rank a ≤ kind_rank b
@@ -82,7 +82,7 @@ shape_falls a b byte h refused =
     omega (arith, registers, fields, states, differ)
 
 -- two changes add up
-pub changes_add : (a b c : Shapes) (x y : Change) → IsChange a b x → IsChange b c y → IsChange a c (then x y)
+pub changes_add : (a b c : Shapes) (x y : StatesChange) → IsChange a b x → IsChange b c y → IsChange a c (then x y)
 changes_add a b c Nothing y e h = rw (← e) h
 changes_add a b c Fell Nothing h e = rw e h
 changes_add a b c Fell Fell h k = (k.0 ∙ h.0, omega (arith, h.1, k.1))

@@ -15,8 +15,8 @@ use Rattle.aom_typings.specs.Shapes.{Shapes}
 use Rattle.aom_verify.specs.Change.{unreached, unreached_count, IsChange}
 use Rattle.aom_verify.specs.Entries.{HasFewEntries, IsFew, AllFew, HasRoom}
 use Rattle.aom_verify.specs.Sweep.{Spans, Joins, Flows}
-use Rattle.aom_verify.specs.declared.change.Change.{Change}
-use Rattle.aom_verify.specs.declared.change.Change.TheVariants.{Nothing, Fell, Reached}
+use Rattle.aom_verify.specs.declared.change.StatesChange.{StatesChange}
+use Rattle.aom_verify.specs.declared.change.StatesChange.TheVariants.{Nothing, Fell, Reached}
 
 -- ---- a place that is written
 
@@ -76,7 +76,7 @@ few_at_first n entry some none =
 
 -- ---- ways
 
-fewer_left : (old new : Shapes) (change : Change) → IsChange old new change → unreached_count new ≤ unreached_count old
+fewer_left : (old new : Shapes) (change : StatesChange) → IsChange old new change → unreached_count new ≤ unreached_count old
 fewer_left old new Nothing h = rw h (omega arith)
 fewer_left old new Fell h = omega (arith, h.0)
 fewer_left old new Reached h = omega (arith, h)
@@ -89,12 +89,12 @@ few_ways_last : (s : Shapes) (xs ys : List Flow) → AllFew s (xs ++ ys) → All
 few_ways_last s [] ys h = h
 few_ways_last s (x ∷ xs) ys h = few_ways_last s xs ys h.1
 
-still_few : (a b : Shapes) (xs ys : List Flow) (x : Change) → Joins a b xs x → AllFew a ys → AllFew b ys
+still_few : (a b : Shapes) (xs ys : List Flow) (x : StatesChange) → Joins a b xs x → AllFew a ys → AllFew b ys
 still_few a b xs [] x h few = tt
 still_few a b xs (y ∷ ys) x h few = (omega (arith, few.0, h.size, fewer_left a b x h.changed), still_few a b xs ys x h few.1)
 
 -- ways are as few once others have been joined
-pub ways_still_few : (a b : Shapes) (xs ys : List Flow) (x : Change) → Joins a b xs x → AllFew a (xs ++ ys) → AllFew b ys
+pub ways_still_few : (a b : Shapes) (xs ys : List Flow) (x : StatesChange) → Joins a b xs x → AllFew a (xs ++ ys) → AllFew b ys
 ways_still_few a b xs ys x h few = still_few a b xs ys x h (few_ways_last a xs ys few)
 
 -- ---- a visit

@@ -18,8 +18,8 @@ use Rattle.aom_verify.specs.Arrivals.Arrives.{met as met_there}
 use Rattle.aom_verify.specs.Arrivals.IsRefused.{without_meet}
 use Rattle.aom_verify.specs.Change.{place_rank, unreached, IsChange, then}
 use Rattle.aom_verify.specs.Sweep.{AllWithin, Joins, CannotJoin}
-use Rattle.aom_verify.specs.declared.change.Change.{Change}
-use Rattle.aom_verify.specs.declared.change.Change.TheVariants.{Nothing, Fell, Reached}
+use Rattle.aom_verify.specs.declared.change.StatesChange.{StatesChange}
+use Rattle.aom_verify.specs.declared.change.StatesChange.TheVariants.{Nothing, Fell, Reached}
 use Rattle.aom_verify.proofs.Ordering.{meets_below, below_self, below_along}
 use Rattle.aom_verify.proofs.Falling.{shape_falls, changes_add}
 
@@ -70,7 +70,7 @@ put_arrives s to sh m h p k all here = λ pc x e. elim (eqb_tells pc to) [
   | inr w ↦ all pc x (sym (at_set_other None s to pc (Some m) w.1) ∙ e)
 ]
 
-joins_put : (s : Shapes) (to : ℕ) (sh m : Shape) (change : Change) → IsPut s to sh m → IsChange s (slice_set s to (Some m)) change → Joins s (slice_set s to (Some m)) ((to, sh) ∷ []) change
+joins_put : (s : Shapes) (to : ℕ) (sh m : Shape) (change : StatesChange) → IsPut s to sh m → IsChange s (slice_set s to (Some m)) change → Joins s (slice_set s to (Some m)) ((to, sh) ∷ []) change
 joins_put s to sh m change h changed = record {
   size = length-set s to (Some m);
   below_old = put_below s to sh m h;
@@ -154,7 +154,7 @@ each_last : (p : Image) (k : ℕ) (xs ys : List Flow) → EachArrives p k (xs ++
 each_last p k [] ys h = h
 each_last p k (x ∷ xs) ys h = each_last p k xs ys h.1
 
-pub joins_add : (a b c : Shapes) (xs ys : List Flow) (x y : Change) → Joins a b xs x → Joins b c ys y → Joins a c (xs ++ ys) (then x y)
+pub joins_add : (a b c : Shapes) (xs ys : List Flow) (x y : StatesChange) → Joins a b xs x → Joins b c ys y → Joins a c (xs ++ ys) (then x y)
 joins_add a b c xs ys x y h k = record {
   size = k.size ∙ h.size;
   below_old = below_along c b a k.below_old h.below_old;
@@ -167,14 +167,14 @@ joins_add a b c xs ys x y h k = record {
 pub cannot_first : (a : Shapes) (xs ys : List Flow) → CannotJoin a xs → CannotJoin a (xs ++ ys)
 cannot_first a xs ys h = record { none = λ t below met. h.none t below (all_met_first t xs ys met) }
 
-pub cannot_last : (a b : Shapes) (xs ys : List Flow) (x : Change) → Joins a b xs x → CannotJoin b ys → CannotJoin a (xs ++ ys)
+pub cannot_last : (a b : Shapes) (xs ys : List Flow) (x : StatesChange) → Joins a b xs x → CannotJoin b ys → CannotJoin a (xs ++ ys)
 cannot_last a b xs ys x h k = record { none = λ t below met. k.none t (h.strongest t below (all_met_first t xs ys met)) (all_met_last t xs ys met) }
 
 -- the place where one way stops is that of all of them
 pub fails_first : (a c : Shapes) (xs ys : List Flow) (place : ℕ) (why : Why) → JoinFails a c xs place why → JoinFails a c (xs ++ ys) place why
 fails_first a c xs ys place why fails = λ p k all each. fails p k all (each_first p k xs ys each)
 
-pub fails_last : (a b c : Shapes) (xs ys : List Flow) (x : Change) (place : ℕ) (why : Why) → Joins a b xs x → JoinFails b c ys place why → JoinFails a c (xs ++ ys) place why
+pub fails_last : (a b c : Shapes) (xs ys : List Flow) (x : StatesChange) (place : ℕ) (why : Why) → Joins a b xs x → JoinFails b c ys place why → JoinFails a c (xs ++ ys) place why
 fails_last a b c xs ys x place why h fails = λ p k all each. fails p k (h.arrives p k all (each_first p k xs ys each)) (each_last p k xs ys each)
 
 pub within_first : (n : ℕ) (xs ys : List Flow) → AllWithin n (xs ++ ys) → AllWithin n xs

@@ -18,8 +18,8 @@ use Rattle.aom_verify.specs.Entries.{IsFew}
 use Rattle.aom_verify.specs.Faults.{JoinStops}
 use Rattle.aom_verify.specs.States.{AreKept, Lowers, shape_of, shapes_of}
 use Rattle.aom_verify.specs.Sweep.{Joins}
-use Rattle.aom_verify.specs.declared.change.Change.TheVariants.{Nothing, Fell, Reached}
-use Rattle.aom_verify.specs.declared.states.Fault.TheVariants.{At}
+use Rattle.aom_verify.specs.declared.change.StatesChange.TheVariants.{Nothing, Fell, Reached}
+use Rattle.aom_verify.specs.declared.states.SweepFault.TheVariants.{At}
 use Rattle.aom_verify.proofs.Few.{few_at_first, few_first, few_lower}
 use Rattle.aom_verify.proofs.Joining.{joins_first, joins_none, joins_lower, cannot_join, join_fails}
 use Rattle.std.proofs.lemmas.Option.{none-some}

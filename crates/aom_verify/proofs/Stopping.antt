@@ -14,23 +14,23 @@ use Rattle.aom_verify.specs.Arrivals.IsRefused.{by_need, without_meet}
 use Rattle.aom_verify.specs.Faults.{JoinStops, Stops, refusal_of}
 use Rattle.aom_verify.specs.Refusals.{RefusesMethod}
 use Rattle.aom_verify.specs.Sweep.{Fails, Flows, HasPlaces, Joins, Keeps}
-use Rattle.aom_verify.specs.declared.change.Change.{Change}
-use Rattle.aom_verify.specs.declared.states.Fault.{Fault}
-use Rattle.aom_verify.specs.declared.states.Fault.TheVariants.{OutOfMemory, At}
+use Rattle.aom_verify.specs.declared.change.StatesChange.{StatesChange}
+use Rattle.aom_verify.specs.declared.states.SweepFault.{SweepFault}
+use Rattle.aom_verify.specs.declared.states.SweepFault.TheVariants.{OutOfMemory, At}
 use Rattle.aom_verify.proofs.Joining.{cannot_first, cannot_last, fails_first, fails_last}
 use Rattle.aom_verify.proofs.Places.{spanned}
 use Rattle.aom_verify.proofs.Sweeping.{fails_before, first_arrives, first_count, first_shapes, none_before, untyped}
 use Rattle.aom_verify.proofs.Visiting.{failed_join, failed_visit, has_instr, told_join, told_rule}
 
-pub stops_before : (p : Image) (m : ℕ) (a b c : Shapes) (fault : Fault) → Keeps p m a b → Stops p m b c fault → Stops p m a c fault
+pub stops_before : (p : Image) (m : ℕ) (a b c : Shapes) (fault : SweepFault) → Keeps p m a b → Stops p m b c fault → Stops p m a c fault
 stops_before p m a b c OutOfMemory keeps h = tt
 stops_before p m a b c (At place why) keeps h = (none_before p m a b keeps h.0, omega (arith, h.1, keeps.size), fails_before p m a b c place why keeps h.2)
 
-pub stops_first : (a c : Shapes) (xs ys : List Flow) (fault : Fault) → JoinStops a c xs fault → JoinStops a c (xs ++ ys) fault
+pub stops_first : (a c : Shapes) (xs ys : List Flow) (fault : SweepFault) → JoinStops a c xs fault → JoinStops a c (xs ++ ys) fault
 stops_first a c xs ys OutOfMemory h = tt
 stops_first a c xs ys (At place why) h = (cannot_first a xs ys h.0, h.1, fails_first a c xs ys place why h.2)
 
-pub stops_last : (a b c : Shapes) (xs ys : List Flow) (x : Change) (fault : Fault) → Joins a b xs x → JoinStops b c ys fault → JoinStops a c (xs ++ ys) fault
+pub stops_last : (a b c : Shapes) (xs ys : List Flow) (x : StatesChange) (fault : SweepFault) → Joins a b xs x → JoinStops b c ys fault → JoinStops a c (xs ++ ys) fault
 stops_last a b c xs ys x OutOfMemory joins h = tt
 stops_last a b c xs ys x (At place why) joins h = (cannot_last a b xs ys x joins h.0, omega (arith, h.1, joins.size), fails_last a b c xs ys x place why joins h.2)
 
@@ -38,7 +38,7 @@ stops_last a b c xs ys x (At place why) joins h = (cannot_last a b xs ys x joins
 pub stops_rule : (p : Image) (m : ℕ) (s : Shapes) (pc : ℕ) (sh : Shape) (why : Why) → pc < length s → at None s pc ≡ Some sh → Fails p m pc sh why → Stops p m s s (At pc why)
 stops_rule p m s pc sh why within e h = (failed_visit p m s pc sh why e h, within, told_rule p m s pc pc sh why e h refl)
 
-pub stops_visit : (p : Image) (m : ℕ) (s new : Shapes) (pc : ℕ) (sh : Shape) (ways : List Flow) (fault : Fault) → at None s pc ≡ Some sh →
+pub stops_visit : (p : Image) (m : ℕ) (s new : Shapes) (pc : ℕ) (sh : Shape) (ways : List Flow) (fault : SweepFault) → at None s pc ≡ Some sh →
     Flows p m pc sh ways → JoinStops s new ways fault → Stops p m s new fault
 stops_visit p m s new pc sh ways OutOfMemory e h k = tt
 stops_visit p m s new pc sh ways (At place why) e h k = (failed_join p m s pc sh ways e h k.0, k.1, told_join p m s new pc place sh ways why e h k.2)
@@ -57,7 +57,7 @@ pub stops_there : (p : Image) (m places : ℕ) (entry : Shape) (new : Shapes) (p
 stops_there p m places entry new place why some no_more no_less h = h.2 (first_arrives p m places entry some no_more no_less)
 
 -- a method in which the sweeps end early is refused
-pub stops_refused : (p : Image) (m places : ℕ) (entry : Shape) (new : Shapes) (fault : Fault) → HasPlaces p m places → 0 < places → SaysNoMore entry
+pub stops_refused : (p : Image) (m places : ℕ) (entry : Shape) (new : Shapes) (fault : SweepFault) → HasPlaces p m places → 0 < places → SaysNoMore entry
     (entry_shape p m) → SaysNoMore (entry_shape p m) entry → Stops p m (first_shapes places entry) new fault → RefusesMethod p m (refusal_of m fault)
 stops_refused p m places entry new OutOfMemory has some no_more no_less h = tt
 stops_refused p m places entry new (At place why) has some no_more no_less h =

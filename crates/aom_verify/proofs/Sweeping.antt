@@ -15,7 +15,7 @@ use Rattle.aom_verify.specs.Arrivals.{AllArrive, StatesFail}
 use Rattle.aom_verify.specs.Arrivals.Arrives.{begins}
 use Rattle.aom_verify.specs.Change.{step_then}
 use Rattle.aom_verify.specs.Sweep.{Spans, Keeps, Visits, Sweeps, Settles, NoTypingBelow}
-use Rattle.aom_verify.specs.declared.change.Change.TheVariants.{Nothing}
+use Rattle.aom_verify.specs.declared.change.StatesChange.TheVariants.{Nothing}
 use Rattle.aom_verify.specs.declared.change.Step.{Step}
 use Rattle.aom_verify.proofs.Ahead.{applies_still, then_first, then_last, then_nothing}
 use Rattle.aom_verify.proofs.Ordering.{meets_more, below_self, below_along}

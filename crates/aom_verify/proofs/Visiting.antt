@@ -14,7 +14,7 @@ use Rattle.aom_verify.specs.Arrivals.{Arrives, IsOneOf, AllArrive, EachArrives, 
 use Rattle.aom_verify.specs.Arrivals.Arrives.{led}
 use Rattle.aom_verify.specs.Arrivals.IsRefused.{by_need}
 use Rattle.aom_verify.specs.Sweep.{Spans, Joins, CannotJoin, Flows, Fails, AppliesAt, IsAhead, Visits, NoTypingBelow, AllWithin, WithinMethod}
-use Rattle.aom_verify.specs.declared.change.Change.TheVariants.{Nothing}
+use Rattle.aom_verify.specs.declared.change.StatesChange.TheVariants.{Nothing}
 use Rattle.aom_verify.specs.declared.change.Step.{Step}
 use Rattle.aom_verify.proofs.Ahead.{nothing_ahead}
 use Rattle.aom_verify.proofs.Ordering.{below_self}

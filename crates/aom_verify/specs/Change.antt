@@ -7,8 +7,8 @@ use Rattle.aom_shape.specs.declared.kind.Filling.TheVariants.{Empty, Full, Perha
 use Rattle.aom_shape.specs.declared.kind.Kind.{Kind}
 use Rattle.aom_shape.specs.declared.kind.Kind.TheVariants.{Unset, Word, Null, Own, Maybe}
 use Rattle.aom_typings.specs.Shapes.{Shapes}
-use Rattle.aom_verify.specs.declared.change.Change.{Change}
-use Rattle.aom_verify.specs.declared.change.Change.TheVariants.{Nothing, Fell, Reached}
+use Rattle.aom_verify.specs.declared.change.StatesChange.{StatesChange}
+use Rattle.aom_verify.specs.declared.change.StatesChange.TheVariants.{Nothing, Fell, Reached}
 use Rattle.aom_verify.specs.declared.change.Step.{Step}
 
 -- how often a kind can still fall
@@ -48,13 +48,13 @@ abbrev pub unreached_count : Shapes → ℕ
 unreached_count s = sum_by unreached s
 
 -- the states after that change
-abbrev pub IsChange : Shapes → Shapes → Change → Type 0
+abbrev pub IsChange : Shapes → Shapes → StatesChange → Type 0
 IsChange old new Nothing = new ≡ old
 IsChange old new Fell = (unreached_count new ≡ unreached_count old) × (rank new < rank old)
 IsChange old new Reached = unreached_count new < unreached_count old
 
 -- one change and then another
-abbrev pub then : Change → Change → Change
+abbrev pub then : StatesChange → StatesChange → StatesChange
 then Nothing after = after
 then Fell Reached = Reached
 then Fell _ = Fell

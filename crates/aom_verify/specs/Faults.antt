@@ -7,20 +7,20 @@ use Rattle.aom_verify.specs.Arrivals.{JoinFails, StatesFail}
 use Rattle.aom_verify.specs.Sweep.{CannotJoin, NoTypingBelow}
 use Rattle.aom_verify.specs.declared.refusal.Refusal.{Refusal}
 use Rattle.aom_verify.specs.declared.refusal.Refusal.TheVariants as refusals
-use Rattle.aom_verify.specs.declared.states.Fault.{Fault}
-use Rattle.aom_verify.specs.declared.states.Fault.TheVariants.{OutOfMemory, At}
+use Rattle.aom_verify.specs.declared.states.SweepFault.{SweepFault}
+use Rattle.aom_verify.specs.declared.states.SweepFault.TheVariants.{OutOfMemory, At}
 
 -- those ways cannot be joined to the old states, and the new ones stop at that place
-abbrev pub JoinStops : (old new : Shapes) → List Flow → Fault → Type 0
+abbrev pub JoinStops : (old new : Shapes) → List Flow → SweepFault → Type 0
 JoinStops old new ways OutOfMemory = Unit {0}
 JoinStops old new ways (At place why) = CannotJoin old ways × (place < length old) × JoinFails old new ways place why
 
 -- no typing says no more than the old states, and the new ones stop at that place
-abbrev pub Stops : Image → ℕ → (old new : Shapes) → Fault → Type 0
+abbrev pub Stops : Image → ℕ → (old new : Shapes) → SweepFault → Type 0
 Stops p m old new OutOfMemory = Unit {0}
 Stops p m old new (At place why) = NoTypingBelow p m old × (place < length old) × StatesFail p m old new place why
 
 -- the same as a refusal of the method
-abbrev pub refusal_of : ℕ → Fault → Refusal
+abbrev pub refusal_of : ℕ → SweepFault → Refusal
 refusal_of m OutOfMemory = refusals.OutOfMemory
 refusal_of m (At place why) = refusals.Refused m place why

@@ -13,8 +13,8 @@ use Rattle.aom_shape.specs.declared.why.Why.{Why}
 use Rattle.aom_typings.specs.Shapes.{Shapes, AllMet, IsBelow, Applies, IsMethodTyped}
 use Rattle.aom_verify.specs.Arrivals.{AllArrive, EachArrives}
 use Rattle.aom_verify.specs.Change.{IsChange, unreached_count}
-use Rattle.aom_verify.specs.declared.change.Change.{Change}
-use Rattle.aom_verify.specs.declared.change.Change.TheVariants.{Nothing}
+use Rattle.aom_verify.specs.declared.change.StatesChange.{StatesChange}
+use Rattle.aom_verify.specs.declared.change.StatesChange.TheVariants.{Nothing}
 use Rattle.aom_verify.specs.declared.change.Step.{Step}
 
 -- the method has so many places
@@ -39,7 +39,7 @@ pub record WithinMethod (p : Image) (m : ℕ) (ways : List Flow) : Type 0 where
   pub each : (d : Method) → method_at p m ≡ Some d → AllWithin (length d.code) ways
 
 -- the new states are the strongest that say no more than the old ones and than those ways, and arrive where those do
-pub record Joins (old new : Shapes) (ways : List Flow) (change : Change) : Type 0 where
+pub record Joins (old new : Shapes) (ways : List Flow) (change : StatesChange) : Type 0 where
   pub size : length new ≡ length old
   pub below_old : IsBelow new old
   pub met : AllMet new ways

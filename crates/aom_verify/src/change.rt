@@ -1,11 +1,11 @@
 //! What a step of a sweep changes.
 ghost use Rattle.std.specs.Prelude.{◌≡◌, ◌<◌, ◌⊎◌, false};
 ghost use Rattle.aom_verify.specs.Change.{step_then, then};
-ghost use Rattle.aom_verify.specs.declared.change.Change.TheVariants.{Nothing};
+ghost use Rattle.aom_verify.specs.declared.change.StatesChange.TheVariants.{Nothing};
 
 /// What became of the states of a method.
 #[derive(Clone, Copy, PartialEq, Eq)]
-pub(crate) enum Change {
+pub(crate) enum StatesChange {
     Nothing,
     /// A state says less than before, and no place was reached first.
     Fell,
@@ -13,18 +13,18 @@ pub(crate) enum Change {
     Reached,
 }
 
-impl Change {
+impl StatesChange {
     /// This change and then another.
-    pub(crate) fn then(self, after: Change) -> Change
+    pub(crate) fn then(self, after: StatesChange) -> StatesChange
         ensures { result ≡ then self after }
     {
         match self {
-            Change::Nothing => after,
-            Change::Fell => match after {
-                Change::Nothing | Change::Fell => Change::Fell,
-                Change::Reached => Change::Reached,
+            StatesChange::Nothing => after,
+            StatesChange::Fell => match after {
+                StatesChange::Nothing | StatesChange::Fell => StatesChange::Fell,
+                StatesChange::Reached => StatesChange::Reached,
             },
-            Change::Reached => Change::Reached,
+            StatesChange::Reached => StatesChange::Reached,
         }
     }
 }
@@ -32,7 +32,7 @@ impl Change {
 /// What a step of a sweep changes, and whether it does so at a place that the sweep has come to.
 #[derive(Clone, Copy)]
 pub(crate) struct Step {
-    pub(crate) change: Change,
+    pub(crate) change: StatesChange,
     pub(crate) is_behind: bool,
 }
 
@@ -41,20 +41,20 @@ impl Step {
         ensures { result ≡ record { change = Nothing; is_behind = false } }
     {
         Step {
-            change: Change::Nothing,
+            change: StatesChange::Nothing,
             is_behind: false,
         }
     }
 
     /// That change at a place, of a sweep that has come to another.
-    pub(crate) fn at(to: usize, seen: usize, change: Change) -> Step
+    pub(crate) fn at(to: usize, seen: usize, change: StatesChange) -> Step
         ensures change { result.change ≡ change }
         ensures ahead { result.is_behind ≡ false → (change ≡ Nothing) ⊎ (seen < to) }
         ensures nothing { change ≡ Nothing → result.is_behind ≡ false }
     {
         match change {
-            Change::Nothing => Step::nothing(),
-            Change::Fell | Change::Reached => Step {
+            StatesChange::Nothing => Step::nothing(),
+            StatesChange::Fell | StatesChange::Reached => Step {
                 change,
                 is_behind: to <= seen,
             },

@@ -5,7 +5,7 @@ ghost use Rattle.aom_roles.specs.Tables.{at};
 ghost use Rattle.aom_verify.specs.Faults.{Stops};
 ghost use Rattle.aom_verify.specs.Sweep.{Spans, Settles};
 
-use crate::states::{Fault, States};
+use crate::states::{PlaceStates, SweepFault};
 use crate::view::ShapeView;
 use aom_image::MethodNumber;
 use aom_linked::Linked;
@@ -16,7 +16,7 @@ use std::marker::Model;
 /// A state for each place of a method that is reached.
 #[derive(Drop)]
 pub struct Sheet {
-    states: States,
+    states: PlaceStates,
 }
 
 impl Model for Sheet {
@@ -34,7 +34,7 @@ impl Sheet {
         requires { 0 < places }
         ensures { IfOk result (λ s. s ≡ slice_set (replicate places None) 0 (Some (known_with entry []))) }
     {
-        let states = States::new(alloc, places, entry)?;
+        let states = PlaceStates::new(alloc, places, entry)?;
         Ok(Sheet { states })
     }
 
@@ -60,7 +60,7 @@ impl Sheet {
     }
 
     /// Sweeps until one changes nothing.
-    pub(crate) fn settle(&mut self, linked: &Linked, method: MethodNumber) -> Result<(), Fault>
+    pub(crate) fn settle(&mut self, linked: &Linked, method: MethodNumber) -> Result<(), SweepFault>
         requires { Spans linked.now method self.old }
         ensures ok { IfOk result (λ _. Settles linked.now method self.old self.new) }
         ensures err { IfErr result (λ fault. Stops linked.now method self.old self.new fault) }

@@ -13,7 +13,7 @@ ghost use Rattle.aom_verify.specs.States.{Lowers, shape_of, shapes};
 ghost use Rattle.aom_verify.specs.Sweep.{Spans, AllWithin, Joins, Flows, Fails, IsAhead, SameBut, WithinMethod, Visits, Sweeps, SweepsOn, Settles};
 
 use crate::Refusal;
-use crate::change::{Change, Step};
+use crate::change::{StatesChange, Step};
 use crate::view::ShapeView;
 use aom_image::MethodNumber;
 use aom_linked::Linked;
@@ -26,42 +26,42 @@ use std::marker::Model;
 
 /// Why sweeps end early.
 #[derive(Clone, Copy)]
-pub(crate) enum Fault {
+pub(crate) enum SweepFault {
     OutOfMemory,
     /// Where a rule or a meet fails.
     At { place: usize, why: Why },
 }
 
-impl From<AllocError> for Fault {
-    ghost use Rattle.aom_verify.specs.declared.states.Fault.TheVariants.{OutOfMemory};
+impl From<AllocError> for SweepFault {
+    ghost use Rattle.aom_verify.specs.declared.states.SweepFault.TheVariants.{OutOfMemory};
 
     ghost from_gives = { λ _ e. e ≡ OutOfMemory };
 
-    fn from(_error: AllocError) -> Fault {
-        Fault::OutOfMemory
+    fn from(_error: AllocError) -> SweepFault {
+        SweepFault::OutOfMemory
     }
 }
 
-impl Fault {
+impl SweepFault {
     /// The same as a refusal of the method.
     pub(crate) fn refusal(self, method: MethodNumber) -> Refusal
         ensures { result ≡ refusal_of method self }
     {
         match self {
-            Fault::OutOfMemory => Refusal::OutOfMemory,
-            Fault::At { place, why } => Refusal::Refused { method, place, why },
+            SweepFault::OutOfMemory => Refusal::OutOfMemory,
+            SweepFault::At { place, why } => Refusal::Refused { method, place, why },
         }
     }
 }
 
 /// A state for each place of a method that is reached.
 #[derive(Drop)]
-pub(crate) struct States {
+pub(crate) struct PlaceStates {
     places: Vec<Option<Kept>>,
     piles: Piles,
 }
 
-impl Model for States {
+impl Model for PlaceStates {
     ghost use Rattle.aom_verify.specs.States.{AreKept, States as StatesRecord};
 
     ghost Value = { StatesRecord };
@@ -71,9 +71,9 @@ impl Model for States {
     ghost invariant = { λ s. AreKept s.piles s.places.items };
 }
 
-impl States {
+impl PlaceStates {
     /// So many places, of which the first alone is reached.
-    pub(crate) fn new(alloc: Global, count: usize, entry: Known) -> Result<States, AllocError>
+    pub(crate) fn new(alloc: Global, count: usize, entry: Known) -> Result<PlaceStates, AllocError>
         requires { 0 < count }
         ensures { IfOk result (λ s. shapes s ≡ slice_set (replicate count None) 0 (Some (known_with entry []))) }
     {
@@ -82,7 +82,7 @@ impl States {
             known: entry,
             pile: Pile::none(),
         });
-        Ok(States {
+        Ok(PlaceStates {
             places,
             piles: Piles::new(alloc),
         })
@@ -133,7 +133,7 @@ impl States {
     }
 
     /// What is known at a place from one flow to it.
-    fn join(&mut self, to: usize, new: Kept) -> Result<Change, Fault>
+    fn join(&mut self, to: usize, new: Kept) -> Result<StatesChange, SweepFault>
         requires within { to < length (shapes self.old) }
         requires few { IsFew (shapes self.old) (kept_shape self.old.nodes new) }
         requires stands { Stands self.old.nodes new.pile }
@@ -144,21 +144,26 @@ impl States {
     {
         let Some(there) = self.places[to] else {
             self.places[to] = Some(new);
-            return Ok(Change::Reached);
+            return Ok(StatesChange::Reached);
         };
         match lowered(&self.piles, &there, &new) {
-            Ok(None) => Ok(Change::Nothing),
+            Ok(None) => Ok(StatesChange::Nothing),
             Ok(Some(known)) => {
                 let pile = there.pile;
                 self.places[to] = Some(Kept { known, pile });
-                Ok(Change::Fell)
+                Ok(StatesChange::Fell)
             }
-            Err(why) => Err(Fault::At { place: to, why }),
+            Err(why) => Err(SweepFault::At { place: to, why }),
         }
     }
 
     /// The same of a way, if there is one, by a sweep that has come to that place.
-    fn join_perhaps(&mut self, way: &Option<Way>, pile: Pile, seen: usize) -> Result<Step, Fault>
+    fn join_perhaps(
+        &mut self,
+        way: &Option<Way>,
+        pile: Pile,
+        seen: usize,
+    ) -> Result<Step, SweepFault>
         requires within { AllWithin (length (shapes self.old)) (leads_to (entries_of self.old.nodes pile) way.now) }
         requires few { AllFew (shapes self.old) (leads_to (entries_of self.old.nodes pile) way.now) }
         requires stands { Stands self.old.nodes pile }
@@ -176,7 +181,7 @@ impl States {
         }
     }
 
-    fn join_all(&mut self, flow: &Flow, pile: Pile, seen: usize) -> Result<Step, Fault>
+    fn join_all(&mut self, flow: &Flow, pile: Pile, seen: usize) -> Result<Step, SweepFault>
         requires within { AllWithin (length (shapes self.old)) (leads_both (entries_of self.old.nodes pile) flow.now) }
         requires few { AllFew (shapes self.old) (leads_both (entries_of self.old.nodes pile) flow.now) }
         requires stands { Stands self.old.nodes pile }
@@ -189,7 +194,7 @@ impl States {
     }
 
     /// Meets the flows of a state with these entries into their targets, the lower target first.
-    fn follow(&mut self, pile: Pile, flow: &Flow, seen: usize) -> Result<Step, Fault>
+    fn follow(&mut self, pile: Pile, flow: &Flow, seen: usize) -> Result<Step, SweepFault>
         requires within { AllWithin (length (shapes self.old)) (ways_from (entries_of self.old.nodes pile) flow.now) }
         requires few { AllFew (shapes self.old) (ways_from (entries_of self.old.nodes pile) flow.now) }
         requires stands { Stands self.old.nodes pile }
@@ -202,7 +207,12 @@ impl States {
     }
 
     /// Applies the rule at a place, if it is reached, and meets its flows into their targets, the lower target first.
-    fn visit(&mut self, linked: &Linked, method: MethodNumber, place: usize) -> Result<Step, Fault>
+    fn visit(
+        &mut self,
+        linked: &Linked,
+        method: MethodNumber,
+        place: usize,
+    ) -> Result<Step, SweepFault>
         requires spans { Spans linked.now method (shapes self.old) }
         requires place { place < length (shapes self.old) }
         ensures ok { IfOk result (λ step. Visits linked.now method (shapes self.old) (shapes self.new) place step) }
@@ -214,7 +224,7 @@ impl States {
                 let ruled = flow_of(linked, method, place, &kept.shape(&self.piles));
                 match &ruled {
                     Ok(flow) => self.follow(kept.pile, flow, place),
-                    Err(why) => Err(Fault::At { place, why: *why }),
+                    Err(why) => Err(SweepFault::At { place, why: *why }),
                 }
             }
         }
@@ -230,7 +240,7 @@ impl States {
     }
 
     /// Visits each place in order.
-    fn sweep(&mut self, linked: &Linked, method: MethodNumber) -> Result<Step, Fault>
+    fn sweep(&mut self, linked: &Linked, method: MethodNumber) -> Result<Step, SweepFault>
         requires { Spans linked.now method (shapes self.old) }
         ensures ok { IfOk result (λ step. Sweeps linked.now method (shapes self.old) (shapes self.new) (length (shapes self.old)) step) }
         ensures err { IfErr result (λ fault. Stops linked.now method (shapes self.old) (shapes self.new) fault) }
@@ -243,7 +253,7 @@ impl States {
     }
 
     /// Sweeps until one reaches a place, or changes nothing at a place that it has come to. Whether another has to follow.
-    fn sweep_on(&mut self, linked: &Linked, method: MethodNumber) -> Result<bool, Fault>
+    fn sweep_on(&mut self, linked: &Linked, method: MethodNumber) -> Result<bool, SweepFault>
         requires { Spans linked.now method (shapes self.old) }
         ensures ok { IfOk result (λ reached. SweepsOn linked.now method (shapes self.old) (shapes self.new) reached) }
         ensures err { IfErr result (λ fault. Stops linked.now method (shapes self.old) (shapes self.new) fault) }
@@ -254,15 +264,15 @@ impl States {
                 return Ok(false);
             }
             match step.change {
-                Change::Nothing => return Ok(false),
-                Change::Fell => {}
-                Change::Reached => return Ok(true),
+                StatesChange::Nothing => return Ok(false),
+                StatesChange::Fell => {}
+                StatesChange::Reached => return Ok(true),
             }
         }
     }
 
     /// Sweeps until one leaves nothing to do.
-    pub(crate) fn settle(&mut self, linked: &Linked, method: MethodNumber) -> Result<(), Fault>
+    pub(crate) fn settle(&mut self, linked: &Linked, method: MethodNumber) -> Result<(), SweepFault>
         requires { Spans linked.now method (shapes self.old) }
         ensures ok { IfOk result (λ _. Settles linked.now method (shapes self.old) (shapes self.new)) }
         ensures err { IfErr result (λ fault. Stops linked.now method (shapes self.old) (shapes self.new) fault) }

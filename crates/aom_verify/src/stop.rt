@@ -6,7 +6,7 @@ ghost use Rattle.aom_verify.specs.Arrivals.{StopsAt};
 
 use crate::checked::place_count;
 use crate::sheet::Sheet;
-use crate::states::Fault;
+use crate::states::SweepFault;
 use aom_image::MethodNumber;
 use aom_linked::Linked;
 use aom_shape::{Known, Why};
@@ -34,7 +34,7 @@ pub fn stop_of(
     let mut sheet = Sheet::new(alloc, place_count(linked, method), entry)?;
     match sheet.settle(linked, method) {
         Ok(()) => Ok(None),
-        Err(Fault::OutOfMemory) => Err(AllocError),
-        Err(Fault::At { place, why }) => Ok(Some(Stop { sheet, place, why })),
+        Err(SweepFault::OutOfMemory) => Err(AllocError),
+        Err(SweepFault::At { place, why }) => Ok(Some(Stop { sheet, place, why })),
     }
 }

@@ -5,7 +5,7 @@ use Rattle.aom_semantics.specs.Moves.{is_refused, step, written}
 use Rattle.aom_semantics.specs.Places.{Cell, Object, count_cells, named}
 use Rattle.aom_semantics.specs.State.{Task, State, Choice, Outcome, Goes, IsStuck, Stuck}
 use Rattle.aom_semantics.specs.World.{Heard, Environment, boot_state, refusing, turn, written_turn}
-use Rattle.aom_transcript.specs.declared.event.Command.{Command}
+use Rattle.aom_transcript.specs.declared.event.ClientCommand.{ClientCommand}
 use Rattle.aom_transcript.specs.declared.event.Event.TheVariants.{Client}
 use Rattle.aom_transcript.specs.declared.event.TimedEvent.{TimedEvent}
 use Rattle.aom_transcript.specs.declared.line.Ending.{Ending}
@@ -58,7 +58,7 @@ ran (suc k) p outside s lines =
     (going_on (λ u ls. ran k p outside u ls) (next_state p outside s s.tasks) (lines ++ next_lines p outside s s.tasks))
 
 -- a client's command at that time
-abbrev pub at : ℕ → ℕ → Command → TimedEvent
+abbrev pub at : ℕ → ℕ → ClientCommand → TimedEvent
 at time client command = record { time = time; event = Client client command }
 
 abbrev pub hearing : List TimedEvent → Environment

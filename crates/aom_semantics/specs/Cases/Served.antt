@@ -2,7 +2,7 @@
 use Rattle.std.specs.Prelude.{ℤ, pos, negsuc, ◌≡◌, List, [], ◌∷◌}
 use Rattle.aom_transcript.specs.declared.line.Ending.TheVariants.{Stopped, Waiting}
 use Rattle.aom_semantics.specs.State.{CompletedTwice, MessageLost, Orphan}
-use Rattle.aom_transcript.specs.declared.event.Command.TheVariants.{Connect, Send, Close, Die}
+use Rattle.aom_transcript.specs.declared.event.ClientCommand.TheVariants.{Connect, Send, Close, Die}
 use Rattle.aom_transcript.specs.declared.line.Asked.TheVariants.{Connect as A_connect, Message as A_message, Close as A_close}
 use Rattle.aom_transcript.specs.declared.line.Line.TheVariants.{Main, Leave, Gone, Run as Run_line, Serve, Reply as Reply_line, Discard, Refuse}
 use Rattle.aom_semantics.specs.Cases.Programs.{leaving_echo, stopping_echo, late_echo, idle_echo, losing_echo, holding}

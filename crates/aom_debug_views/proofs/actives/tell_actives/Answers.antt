@@ -4,7 +4,7 @@ use Rattle.std.specs.Prelude.{slice_get}
 use Rattle.std.proofs.lemmas.List.{length-map}
 use Rattle.std.proofs.lemmas.Result.{err_from_is_err_and}
 use Rattle.aom_transcript.specs.Text.{ended}
-use Rattle.aom_scheduler.specs.declared.entry.Entry.{Entry}
+use Rattle.aom_scheduler.specs.declared.entry.ScheduleEntry.{ScheduleEntry}
 use Rattle.aom_image.specs.Image.{Image}
 use Rattle.aom_semantics.specs.State.{State}
 use Rattle.aom_machine_state.specs.declared.parts.Parts.{Parts}
@@ -27,7 +27,7 @@ pub returns-in_err-tell_any_by-clause-err : goal.returns-in_err-tell_any_by-clau
 returns-in_err-tell_any_by-clause-err g c =
     let error = err_from_is_err_and c.from_residual.result c.from_residual.ensures.1 in
     let m = c.args.parts.now in
-    let many = length-map m.active.roster.entries (λ (e : Entry). e.id) in
+    let many = length-map m.active.roster.entries (λ (e : ScheduleEntry). e.id) in
     rw (error.1, error.2) (λ p. actives_cut (record { image = p; parts = m }) c.count-place-end.ensures.all _ _ _ _ _ (tells_part
     (of_answer c.args.names.now) (record { image = p; parts = m }) (told p m) (λ s. length (names_of m)) _ _ _ _ _ _ _ (c.loop-place.invariant p)
     (λ s st. ap listed (c.place_answer.ensures p s st)) (λ s st. omega (arith, c.loop-place-test.true, c.count-place-end.ensures.value, many)) c.in_err-tell_any_by.ensures.err))
@@ -40,7 +40,7 @@ loop-place-preserved g c =
 pub returns-clause-ok : goal.returns-clause-ok
 returns-clause-ok g c =
     let m = c.args.parts.now in
-    let many = length-map m.active.roster.entries (λ (e : Entry). e.id) in
+    let many = length-map m.active.roster.entries (λ (e : ScheduleEntry). e.id) in
     λ p. actives_told (record { image = p; parts = m }) c.count-place-end.ensures.all c.args.names.now _ _
     (tells_all (of_answer c.args.names.now) (record { image = p; parts = m }) (told p m) (λ s. length (names_of m)) c.loop-place.place _ _
     (c.loop-place.invariant p) (λ s st. omega (arith, c.count-place-end.ensures.value, c.loop-place.auto.place-end, c.loop-place-test.false, many)))

@@ -3,7 +3,7 @@ use Rattle.aom_clients.proofs.clients.Clients.complete.Goals as goal
 use Rattle.aom_clients.proofs.Services.{complete-kept, complete-seen}
 use Rattle.std.proofs.Common.{◌<◌, length, refl, sym, ap, ◌∙◌, arith}
 use Rattle.std.proofs.lemmas.List.{get_or_read}
-use Rattle.aom_clients.specs.declared.place.Place.TheVariants.{Free}
+use Rattle.aom_clients.specs.declared.place.MessagePlace.TheVariants.{Free}
 use Rattle.aom_clients.specs.Table.{completion}
 use Rattle.aom_clients.proofs.Answering.{completed-below}
 

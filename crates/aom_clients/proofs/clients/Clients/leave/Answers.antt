@@ -2,8 +2,8 @@ use Rattle.std.specs.Prelude.{All, filter, slice_index_or}
 use Rattle.std.proofs.Common.{◌<◌, ◌+◌, [], List, length, refl, sym, ap, ◌∙◌, subst, arith}
 use Rattle.std.proofs.lemmas.List.Elements.{All-filter}
 use Rattle.aom_clients.specs.Lists.{list_at, with_list}
-use Rattle.aom_clients.specs.declared.place.Place.{Place}
-use Rattle.aom_clients.specs.declared.place.Place.TheVariants.{Free}
+use Rattle.aom_clients.specs.declared.place.MessagePlace.{MessagePlace}
+use Rattle.aom_clients.specs.declared.place.MessagePlace.TheVariants.{Free}
 use Rattle.aom_clients.specs.Table.{is_queued}
 use Rattle.aom_clients.specs.Parts.{CanClose, close_queued}
 use Rattle.aom_clients.specs.Withdrawals.{left_each}
@@ -14,11 +14,11 @@ use Rattle.aom_clients.proofs.Steps.{client-is}
 use Rattle.aom_clients.proofs.Answering.{all-in}
 
 pub withdraw_all-freed-requires-clause-within : goal.withdraw_all-freed-requires-clause-within
-withdraw_all-freed-requires-clause-within c = λ m i. subst (λ (ps : List Place). m < length ps)
+withdraw_all-freed-requires-clause-within c = λ m i. subst (λ (ps : List MessagePlace). m < length ps)
     (sym c.deref_mut.ensures.value) (sent-below _ _ _ _ _ _ c.self.invariant _ c.self.view_is c.args.client c.args.next c.requires.client c.requires.next m i)
 
 pub withdraw_all-freed-requires-clause-past : goal.withdraw_all-freed-requires-clause-past
-withdraw_all-freed-requires-clause-past c = λ m i. subst (λ (ps : List Place). m < length ps)
+withdraw_all-freed-requires-clause-past c = λ m i. subst (λ (ps : List MessagePlace). m < length ps)
     (sym c.deref_mut.ensures.value) (past-below _ _ _ _ _ _ c.self.invariant _ c.self.view_is c.args.client c.args.next c.requires.client c.requires.next m i)
 
 pub queue_close-requires : goal.queue_close-requires

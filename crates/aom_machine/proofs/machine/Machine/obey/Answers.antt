@@ -1,7 +1,7 @@
 -- A client does what it is told.
 use Rattle.std.proofs.Common.{refl, None, Option, Some, ap, arith, length, subst, ℕ, ◌++◌, ◌≡◌, ◌≤◌}
 use Rattle.std.proofs.lemmas.List.{length-append}
-use Rattle.aom_clients.specs.declared.refusal.Refusal.{Refusal}
+use Rattle.aom_clients.specs.declared.refusal.CommandRefusal.{CommandRefusal}
 use Rattle.aom_semantics.specs.Clients.{refusal}
 use Rattle.aom_semantics.specs.Lines.{refusal_line}
 use Rattle.aom_semantics.specs.State.{Counters, State}
@@ -27,7 +27,7 @@ returns-clause-obeyed c = seen_as (λ (old : Machine) (p : Image). (s : State) �
     c.args.command c.args.turn.now c.obey.new.turn (record { image = p; parts = c.obey.new.parts })) c.linked.ensures c.self.view_is c.obey.ensures.obeyed
 
 -- a refusal is told by one line
-few_refused : (client : ℕ) (r : Option Refusal) → length (refusal_line client r) ≤ 1
+few_refused : (client : ℕ) (r : Option CommandRefusal) → length (refusal_line client r) ≤ 1
 few_refused client None = omega arith
 few_refused client (Some r) = omega arith
 

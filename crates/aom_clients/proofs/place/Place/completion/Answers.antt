@@ -1,5 +1,0 @@
-use Rattle.std.proofs.Common.{rules}
-use Rattle.aom_clients.proofs.place.Place.completion.Goals as goal
-
-pub returns-in-Discarded : goal.returns-in-Discarded
-returns-in-Discarded c = search rules

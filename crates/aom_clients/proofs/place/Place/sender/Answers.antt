@@ -1,5 +1,0 @@
-use Rattle.std.proofs.Common.{rules}
-use Rattle.aom_clients.proofs.place.Place.sender.Goals as goal
-
-pub returns-in-Free : goal.returns-in-Free
-returns-in-Free c = search rules

@@ -1,5 +1,0 @@
-use Rattle.std.proofs.Common.{rules}
-use Rattle.aom_clients.proofs.refusal.Refusal.code.Goals as goal
-
-pub returns-in-Died : goal.returns-in-Died
-returns-in-Died c = search rules

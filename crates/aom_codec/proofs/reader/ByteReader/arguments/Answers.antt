@@ -1,0 +1,19 @@
+use Rattle.std.proofs.lemmas.Result.{err_from_is_err_and}
+use Rattle.aom_codec.specs.Codec.{always, keep, read_many}
+use Rattle.aom_codec.specs.Format.{argument}
+use Rattle.aom_codec.proofs.Loops.{begins, goes_on, breaks}
+use Rattle.aom_codec.proofs.reader.ByteReader.arguments.Goals as goal
+
+pub loop-init : goal.loop-init
+loop-init c = rw c.in_ok-arguments.ensures.items (begins (always (argument c.args.classes)) keep tt (c.args.count) c.args.self.now)
+
+pub returns-in_err-argument : goal.returns-in_err-argument
+returns-in_err-argument c =
+    let p = err_from_is_err_and c.from_residual-in_err-argument.result c.from_residual-in_err-argument.ensures.1 in
+    rw (p.1, p.2) (λ ne. breaks (always (argument c.args.classes)) keep tt c.loop.arguments.items
+    (c.args.count) c.loop.counter c.loop.self (read_many (always (argument c.args.classes)) keep tt
+    (c.args.count) c.args.self.now) c.loop.invariant c.in_err-argument.field-0.0 c.loop-test.true c.in_err-argument.ensures)
+
+pub loop-preserved : goal.loop-preserved
+loop-preserved c = rw c.in_ok-push.ensures.items (goes_on (always (argument c.args.classes)) keep tt c.loop.arguments.items
+    (c.args.count) c.loop.counter c.loop.self _ c.loop.invariant c.in_ok-argument.argument _ c.loop-test.true c.in_ok-argument.ensures)

@@ -1,0 +1,8 @@
+use Rattle.std.proofs.Common.{◌-◌}
+use Rattle.aom_codec.specs.Codec.{always, keep, read_many}
+use Rattle.aom_codec.specs.Format.{argument}
+use Rattle.aom_codec.proofs.Loops.{StillReads}
+use Rattle.aom_codec.proofs.reader.ByteReader.arguments.Given as goal
+
+abbrev pub invariant-loop : goal.invariant-loop
+invariant-loop l = StillReads (always (argument l.classes)) keep tt l.arguments.items (l.count - l.counter) l.self (read_many (always (argument l.classes)) keep tt l.count l.fn.self)

@@ -1,5 +1,0 @@
-use Rattle.std.proofs.Common.{rules}
-use Rattle.aom_codec.proofs.reader.Reader.fixed_byte.Goals as goal
-
-pub returns : goal.returns
-returns c = search rules

@@ -1,8 +1,0 @@
-use Rattle.std.proofs.Common.{◌≡◌, ◌-◌}
-use Rattle.aom_codec.specs.Codec.{unused}
-use Rattle.aom_codec.specs.Codec.{pair}
-use Rattle.aom_codec.specs.declared.fault.LoadFault.TheVariants.{NotZero}
-use Rattle.aom_codec.proofs.reader.Reader.unused_pairs.Given as goal
-
-abbrev pub invariant-loop : goal.invariant-loop
-invariant-loop l = (unused (l.count - l.counter) pair NotZero).read l.self ≡ (unused l.count pair NotZero).read l.fn.self

@@ -1,0 +1,14 @@
+-- What a method promises is read one after the other.
+use Rattle.std.proofs.Common.{rules}
+use Rattle.aom_syntax.proofs.reader.WordReader.promised.Goals as goal
+
+pub returns : goal.returns
+returns c = rw (
+  ← c.kind_of-kind.ensures,
+  ← c.all_states.ensures.all,
+  ← c.usual_states-usual_before.ensures.before,
+  ← c.usual_states-usual_before.ensures.after,
+  ← c.usual_words.ensures,
+  ← c.usual_gives.ensures,
+)
+    (rw (c.in_ok-before.ensures, c.in_ok-after.ensures, c.in_ok-arguments.ensures, c.in_ok-gives.ensures, c.from_vec.ensures) (search rules))
