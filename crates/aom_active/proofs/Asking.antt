@@ -4,8 +4,8 @@ use Rattle.std.proofs.Common.{◌≡◌, ◌==◌, ℕ, ℤ, true, false, cond, 
 use Rattle.std.specs.Prelude.{is_some}
 use Rattle.std.proofs.Math.Nat.{le-max_left, le-max_right}
 use Rattle.aom_image.specs.declared.method.Thing.{Thing}
-use Rattle.aom_semantics.proofs.Maps.{requested_without, unnamed, named_name, named_without}
-use Rattle.aom_safety.proofs.Storing.{requested_here, requested_there}
+use Rattle.aom_active.proofs.SemanticsLemmas.{named_name, named_without, requested_without, unnamed}
+use Rattle.aom_active.proofs.SafetyLemmas.{requested_here, requested_there, requested_unnamed, service_unnamed, service_without}
 use Rattle.aom_semantics.specs.Enlisted.{next_order, next_timer}
 use Rattle.aom_semantics.specs.Places.{Cell, Object, Place, Request, Tidy, held, named, requested, set_request, set_word_field, with_new, without, Service}
 use Rattle.aom_semantics.specs.Places.{service_of}
@@ -13,8 +13,6 @@ use Rattle.aom_active.specs.Agrees.{queue_in, queued}
 use Rattle.aom_active.specs.Meanings.{AreWanted, IsNewest, IsNewestTimer, asked_anew}
 use Rattle.aom_image.specs.Image.{Image}
 use Rattle.aom_semantics.specs.Servers.{is_server}
-use Rattle.aom_safety.proofs.Services.{service_unnamed, service_without}
-use Rattle.aom_safety.proofs.Dropping.{requested_unnamed}
 
 -- another request of a cell that is there
 pub asked_set : (cs : List Cell) (n : ℕ) (r : Option Request) → is_some (named cs n) ≡ true → (m : ℕ) → asked_anew n r (requested cs) m ≡ requested (set_request n r cs) m

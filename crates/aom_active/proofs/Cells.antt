@@ -3,7 +3,7 @@ use Rattle.std.proofs.lemmas.Bool.Decides.{nat_tests}
 use Rattle.std.proofs.Common.{◌≡◌, ◌==◌, ℕ, true, false, cond, List, ◌∷◌, Some, refl, ap, ◌∙◌, arith}
 use Rattle.std.specs.Prelude.{is_some}
 use Rattle.std.proofs.lemmas.Bool.{eq-eqb, ne_eqb}
-use Rattle.aom_safety.proofs.Dropping.{requested_unnamed}
+use Rattle.aom_active.proofs.SafetyLemmas.{requested_unnamed}
 use Rattle.aom_semantics.specs.Places.{Cell, Object, Request, Tidy, named, requested}
 
 -- what has a request is there

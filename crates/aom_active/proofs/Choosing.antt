@@ -4,7 +4,7 @@ use Rattle.std.proofs.Common.{◌≡◌, ◌≢◌, ◌==◌, ℕ, Bool, true, f
 use Rattle.std.specs.Prelude.{◌||◌, is_some}
 use Rattle.std.proofs.lemmas.Bool.{eq-eqb, eqb-true, eqb-false}
 use Rattle.std.proofs.lemmas.Int.{ints}
-use Rattle.aom_semantics.proofs.Maps.{same_place-true, same_place_refl}
+use Rattle.aom_active.proofs.SemanticsLemmas.{same_place-true, same_place_refl}
 use Rattle.aom_semantics.specs.Places.{Cell, Object, Place, Request, Tidy, held, named, requested, service_of}
 use Rattle.aom_semantics.specs.Servers.{has_more}
 use Rattle.aom_semantics.specs.World.{Candidate, among_ready, before_others, first_ready, goes_before, goes_now, is_ready}

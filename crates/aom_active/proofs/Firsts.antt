@@ -3,7 +3,7 @@ use Rattle.std.proofs.Common.{◌≡◌, ◌≢◌, ◌<◌, ◌≤◌, ◌==◌
 use Rattle.std.specs.Prelude.{All, AllPairs, IsSome, is_some, nat_le, option_map}
 use Rattle.std.proofs.lemmas.Bool.{eq-eqb, eqb-true, eqb-false, false≢true, true≢false, leb-true}
 use Rattle.std.proofs.lemmas.Bool.Decides.{nat_tests}
-use Rattle.aom_image.proofs.Given.{true_given}
+use Rattle.aom_active.proofs.ImageLemmas.{true_given}
 use Rattle.std.proofs.lemmas.Option.{none-some, same_Some}
 use Rattle.std.proofs.lemmas.List.Elements.{All-cons, All-head, All-tail, All-weaker}
 use Rattle.aom_scheduler.specs.Requests as Held
@@ -14,8 +14,7 @@ use Rattle.aom_scheduler.specs.Roster.{first_ready}
 use Rattle.aom_scheduler.specs.Pending.{due_by, due_of, left_by}
 use Rattle.aom_scheduler.specs.declared.entry.ScheduleEntry.{ScheduleEntry}
 use Rattle.aom_scheduler.specs.declared.timer.Timer.{Timer as Machine_timer}
-use Rattle.aom_scheduler.proofs.Items.{AreDistinct, at_head, pairs-head, pairs-tail, without-at}
-use Rattle.aom_scheduler.proofs.Timing.{stands-if_set}
+use Rattle.aom_active.proofs.SchedulerLemmas.{AreDistinct, at_head, pairs-head, pairs-tail, stands-if_set, without-at}
 use Rattle.aom_semantics.specs.Places.{Request, Timer}
 use Rattle.aom_semantics.specs.World.{goes_before, is_sooner}
 use Rattle.aom_active.specs.Agrees.{Active, ComesSooner, GoesBefore, IsSooner, IsWhole, StandsFor, Tells, timer_in}

@@ -14,9 +14,7 @@ use Rattle.aom_scheduler.specs.Roster.{before, marked, waiting}
 use Rattle.aom_scheduler.specs.Pending.{due_of, no_later, timer_of}
 use Rattle.aom_scheduler.specs.declared.entry.ScheduleEntry.{ScheduleEntry}
 use Rattle.aom_scheduler.specs.declared.timer.Timer.{Timer as Machine_timer}
-use Rattle.aom_scheduler.proofs.Items.{All-placed}
-use Rattle.aom_scheduler.proofs.Places.{by_priority}
-use Rattle.aom_scheduler.proofs.Timing.{absent-due, by_due}
+use Rattle.aom_active.proofs.SchedulerLemmas.{All-placed, absent-due, by_due, by_priority}
 use Rattle.aom_semantics.specs.Places.{Request, Timer}
 use Rattle.aom_semantics.specs.World.{is_sooner}
 use Rattle.aom_active.specs.Agrees.{ComesSooner, GoesBefore, HasPriority, IsSooner, due_in, timer_in}

@@ -1,11 +1,16 @@
-pub mod Lists
-pub mod Halves
-pub mod Cells
-pub mod Choosing
-pub mod Firsts
-pub mod Signals
-pub mod Dues
-pub mod Turns
-pub mod Calls
-pub mod Asking
-pub mod Telling
+mod Lists
+mod Halves
+mod Cells
+mod Choosing
+mod Firsts
+mod Signals
+mod Dues
+mod Turns
+mod Calls
+mod Asking
+mod Telling
+pub mod ActiveLemmas
+pub use Rattle.aom_image.proofs.ImageLemmas
+pub use Rattle.aom_safety.proofs.SafetyLemmas
+pub use Rattle.aom_scheduler.proofs.SchedulerLemmas
+pub use Rattle.aom_semantics.proofs.SemanticsLemmas

@@ -10,8 +10,8 @@ use Rattle.aom_scheduler.specs.Roster.{marked, marked_entry}
 use Rattle.aom_scheduler.specs.Pending.{Pending, due_of, no_later}
 use Rattle.aom_scheduler.specs.declared.entry.ScheduleEntry.{ScheduleEntry}
 use Rattle.aom_scheduler.specs.declared.timer.Timer.{Timer}
-use Rattle.aom_scheduler.proofs.Items.{All-placed, AreDistinct, IsAbsent, IsRanking, own-place, pairs-head, pairs-nil, pairs-tail, without-absent}
-use Rattle.aom_scheduler.proofs.Timing.{absent-due, due-at}
+use Rattle.aom_active.proofs.SchedulerLemmas.{All-placed, AreDistinct, IsAbsent, IsRanking, absent-due, due-at, own-place, pairs-head, pairs-nil, pairs-tail}
+use Rattle.aom_active.proofs.SchedulerLemmas.{without-absent}
 
 -- ---- items
 

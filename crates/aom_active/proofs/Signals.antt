@@ -10,7 +10,7 @@ use Rattle.std.proofs.lemmas.Bool.Decides.{leb_tells}
 use Rattle.aom_scheduler.specs.Requests.{Table, holds_signal, request_at}
 use Rattle.aom_scheduler.specs.Requests as tables
 use Rattle.aom_scheduler.specs.declared.request.Request.{Request as Machine_request}
-use Rattle.aom_safety.proofs.Dropping.{requested_unnamed}
+use Rattle.aom_active.proofs.SafetyLemmas.{requested_unnamed}
 use Rattle.aom_semantics.specs.Places.{Cell, Request, Tidy, named, requested, service_of}
 use Rattle.aom_semantics.specs.Servers.{has_more}
 use Rattle.aom_semantics.specs.World.{is_signalled, signal_count, signals}

@@ -17,10 +17,10 @@ use Rattle.aom_syntax.specs.Reading.{◌>>=◌, any_keyword, known, took, word}
 use Rattle.aom_syntax.specs.declared.keyword.Keyword.{Keyword}
 use Rattle.aom_syntax.specs.declared.keyword.Keyword.TheVariants as k
 use Rattle.aom_syntax.specs.declared.scope.Scope.{Scope}
-use Rattle.aom_syntax.proofs.Within.{steps, ok_is, saw_word}
+use Rattle.aom_asm.proofs.SyntaxLemmas.{ok_is, saw_word, steps}
 use Rattle.aom_asm.specs.TextNames.{declared_names, is_end, label_in, labels_of, name_after, with_name}
 use Rattle.aom_asm.proofs.Steps.{no_ok}
-use Rattle.aom_image.proofs.Given.{some_given}
+use Rattle.aom_asm.proofs.ImageLemmas.{some_given}
 
 -- ---- names
 

@@ -2,10 +2,7 @@
 use Rattle.std.proofs.Common.{◌≡◌, ℕ, List, Ok}
 use Rattle.aom_image.specs.Image.{Image}
 use Rattle.aom_image.specs.WellFormed.{WellFormed}
-use Rattle.aom_syntax.proofs.RangedClasses.{class_within}
-use Rattle.aom_syntax.proofs.RangedHeaders.{header_within}
-use Rattle.aom_syntax.proofs.RangedHeadings.{heading_within}
-use Rattle.aom_syntax.proofs.RangedInstructions.{instruction_within}
+use Rattle.aom_asm.proofs.SyntaxLemmas.{class_within, header_within, heading_within, instruction_within}
 use Rattle.aom_asm.specs.Denoted.{denoted}
 use Rattle.aom_asm.proofs.WellRead.{text_well}
 

@@ -1,4 +1,7 @@
-pub mod Steps
-pub mod Counting
-pub mod WellRead
-pub mod Images
+mod Steps
+mod Counting
+mod WellRead
+mod Images
+pub mod AsmLemmas
+pub use Rattle.aom_image.proofs.ImageLemmas
+pub use Rattle.aom_syntax.proofs.SyntaxLemmas

@@ -5,7 +5,7 @@ use Rattle.aom_text.specs.declared.fault.AsmFault.{AsmFault}
 use Rattle.aom_text.specs.declared.fault.AsmFaultKind.{AsmFaultKind}
 use Rattle.aom_text.specs.declared.fault.AsmFaultKind.TheVariants.{LimitPassed}
 use Rattle.aom_asm.specs.Denoted.{and_then, at_line, grown, opened, read_program, read_rest}
-use Rattle.aom_syntax.proofs.Within.{ok_is, passed}
+use Rattle.aom_asm.proofs.SyntaxLemmas.{ok_is, passed}
 use Rattle.aom_asm.specs.Body.{Program}
 use Rattle.aom_syntax.specs.declared.scope.Scope.{Scope}
 use Rattle.aom_text.specs.declared.text.Statement.{Statement}

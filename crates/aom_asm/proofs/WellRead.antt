@@ -33,12 +33,12 @@ use Rattle.aom_syntax.specs.Ranges.{ClassesInRange, HeadersInRange, HeadingFits,
 use Rattle.aom_asm.specs.Body.{Body, Program}
 use Rattle.aom_asm.specs.Denoted.{and_then, at_line, closed, declaration, denoted, grown, image_of, in_body, last_line_of, method_of, opened, read_program}
 use Rattle.aom_asm.specs.Denoted.{read_rest, read_statements, scope_of, step, step_by, with_class, with_heading, with_instruction, with_method}
-use Rattle.aom_syntax.proofs.Within.{kept, ok_is, passed, steps}
+use Rattle.aom_asm.proofs.SyntaxLemmas.{kept, ok_is, passed, steps}
 use Rattle.aom_asm.specs.TextNames.{declared_names, is_end, labels_of, name_after}
 use Rattle.aom_asm.proofs.Counting.{Silent, at_end, before_end, begins_with, class_alone, code_silent, count_declared, declares, declares_more, declares_none}
 use Rattle.aom_asm.proofs.Counting.{end_silent, header_silent, length_labels, method_alone, names_one, not_at_end, one_of, takes_end, takes_no_end}
 use Rattle.aom_asm.proofs.Steps.{Started, grown_is, no_ok, program_starts, said, started, steps_then}
-use Rattle.aom_image.proofs.Given.{cons_given}
+use Rattle.aom_asm.proofs.ImageLemmas.{cons_given}
 
 -- a program between two statements
 abbrev program : Header → List ClassDecl → List Method → Option Body → ℕ → Program

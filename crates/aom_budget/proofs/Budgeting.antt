@@ -1,7 +1,7 @@
 -- What was found of each dispatch is its price, and an image whose dispatches cost more than is declared of them is none that keeps its budgets.
 use Rattle.std.proofs.lemmas.Bool.Decides.{nat_tests}
 use Rattle.std.proofs.Common.{◌≡◌, ◌∙◌, ◌<◌, ◌≤◌, ◌+◌, ap, ap₂, ℕ, Bool, true, false, List, [], length, Option, Some, None, IsSome, refl, sym, subst, arith}
-use Rattle.aom_image.proofs.Given.{some_given}
+use Rattle.aom_budget.proofs.ImageLemmas.{some_given}
 use Rattle.std.specs.Prelude.{min, slice_get, if◌then◌else◌}
 use Rattle.std.proofs.lemmas.Bool.Decides.{eqb_tells}
 use Rattle.std.proofs.lemmas.Option.{slice_get_within, same_Some}
@@ -18,10 +18,9 @@ use Rattle.aom_image.specs.declared.method.Thing.{Thing}
 use Rattle.aom_image.specs.declared.method.Thing.TheVariants.{Object}
 use Rattle.aom_classes.specs.Linked.{IsLinked}
 use Rattle.aom_classes.specs.Roles.{main_of, role_of}
-use Rattle.aom_classes.proofs.Facts.{all_there}
-use Rattle.aom_classes.proofs.Playing.{main_found as main_method, role_inherits}
+use Rattle.aom_budget.proofs.ClassesLemmas.{all_there, main_found as main_method, role_inherits}
 use Rattle.aom_roles.specs.Tables.{at}
-use Rattle.aom_shape.proofs.Lists.{there}
+use Rattle.aom_budget.proofs.ShapeLemmas.{there}
 use Rattle.aom_rules.specs.Typing.{Typing}
 use Rattle.aom_typings.specs.Strongest.{IsStrongest}
 use Rattle.aom_typings.specs.Depths.{DepthsWithin}
@@ -30,10 +29,7 @@ use Rattle.aom_typings.specs.Costs.{ArePrices, destructor_price}
 use Rattle.aom_typings.specs.Dispatches.{IsAffordable, main_price, method_price, root_price}
 use Rattle.aom_typings.specs.Layers.{SayTheSame}
 use Rattle.aom_typings.specs.Prices.{Prices, price}
-use Rattle.aom_typings.proofs.Alike.{IsCovered, prices_alike}
-use Rattle.aom_typings.proofs.Methods.{destructs_within, method_is_some}
-use Rattle.aom_typings.proofs.Going.{going_alike, found_of}
-use Rattle.aom_typings.proofs.Unique.{law_one}
+use Rattle.aom_budget.proofs.TypingsLemmas.{IsCovered, destructs_within, found_of, going_alike, law_one, method_is_some, prices_alike}
 use Rattle.aom_budget.specs.Budgets.{BudgetsWithin, CostsWithin, IsBefore, IsOver, class_declares, class_price}
 use Rattle.aom_budget.specs.Budgets.{budget_of, declared_by, kind_price, payer_price, role_price}
 use Rattle.aom_budget.specs.Faults.{Refuses, RefusesOrWants}

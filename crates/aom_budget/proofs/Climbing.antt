@@ -4,7 +4,7 @@ use Rattle.std.proofs.Common.{Bool, None, Option, Some, ap, arith, cond, false, 
 use Rattle.std.specs.Prelude.{max}
 use Rattle.std.proofs.lemmas.Bool.{eqb-true}
 use Rattle.aom_image.specs.Image.{Image}
-use Rattle.aom_roles.proofs.Descending.{from_none, from_parent, itself, parent_below}
+use Rattle.aom_budget.proofs.RolesLemmas.{from_none, from_parent, itself, parent_below}
 use Rattle.aom_roles.specs.Families.{descends, parent_of}
 use Rattle.aom_classes.specs.Overriding.{leads_in, over_of}
 

@@ -13,12 +13,11 @@ use Rattle.aom_image.specs.declared.method.Thing.{Thing}
 use Rattle.aom_image.specs.declared.method.Thing.TheVariants.{Object}
 use Rattle.aom_roles.specs.Families.{descends}
 use Rattle.aom_roles.specs.Tables.{at}
-use Rattle.aom_shape.proofs.Lists.{at_past, at_set_here, at_set_other}
+use Rattle.aom_budget.proofs.ShapeLemmas.{at_past, at_set_here, at_set_other}
 use Rattle.aom_typings.specs.Calls.{cancels, destructors}
 use Rattle.aom_typings.specs.Most.{most_below, most_of}
 use Rattle.aom_typings.specs.Sweeping.{whole_going}
-use Rattle.aom_typings.proofs.Going.{all_related, going_same}
-use Rattle.aom_typings.proofs.Mosts.{below_related}
+use Rattle.aom_budget.proofs.TypingsLemmas.{all_related, below_related, going_same}
 use Rattle.aom_budget.specs.Greatest.{IsCancelled, IsGone, most_at}
 use Rattle.aom_budget.specs.Costing.{IsDestroyed}
 use Rattle.aom_budget.specs.Pricing.{cancel_by, destruction_by, kept, price_by}

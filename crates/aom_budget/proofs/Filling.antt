@@ -9,14 +9,14 @@ use Rattle.aom_image.specs.Views.{instr_at}
 use Rattle.aom_instructions.specs.declared.instr.Instr.{Instr}
 use Rattle.aom_instructions.specs.declared.instr.Instr.TheVariants.{Push, Delete}
 use Rattle.aom_classes.specs.Linked.{IsLinked}
-use Rattle.aom_classes.proofs.Facts.{of_method}
+use Rattle.aom_budget.proofs.ClassesLemmas.{of_method}
 use Rattle.aom_shape.specs.Kinds.{register}
 use Rattle.aom_shape.specs.Order.{Weaker, SaysNoMore}
 use Rattle.aom_shape.specs.Order.Weaker.{maybe_null}
 use Rattle.aom_shape.specs.Shape.{Shape}
 use Rattle.aom_roles.specs.Tables.{at}
 use Rattle.aom_shape.specs.declared.kind.Kind.{Kind}
-use Rattle.aom_shape.proofs.Lists.{at_past, at_within, at_set_here, at_set_other}
+use Rattle.aom_budget.proofs.ShapeLemmas.{at_past, at_set_here, at_set_other, at_within}
 use Rattle.aom_typings.specs.Shapes.{Shapes}
 use Rattle.aom_typings.specs.Strongest.{IsMethodStrongest}
 use Rattle.aom_typings.specs.Calls.{Among, destructors, object_class, callees, CallsAt, MayCall}
@@ -26,7 +26,7 @@ use Rattle.aom_typings.specs.Heights.{StandsAt, Enters, CallsOver, Heights}
 use Rattle.aom_typings.specs.Heights.Heights.{own, under}
 use Rattle.aom_budget.specs.Extents.{IsMost, entered, OfSome, Joined, ComesTo, FramesAt, EntriesAt, Before, IsFilled}
 use Rattle.aom_budget.specs.Greatest.{most_at}
-use Rattle.aom_typings.proofs.Listed.{run_among}
+use Rattle.aom_budget.proofs.TypingsLemmas.{run_among}
 use Rattle.aom_budget.proofs.Mentioned.{called_lower}
 use Rattle.aom_budget.proofs.Greatest.{run_from}
 use Rattle.aom_budget.proofs.Keeping.{at_noughts}

@@ -5,11 +5,11 @@ use Rattle.std.specs.Prelude.{max}
 use Rattle.std.proofs.lemmas.Bool.Decides.{eqb_tells}
 use Rattle.aom_image.specs.Image.{Image}
 use Rattle.aom_roles.specs.Tables.{at}
-use Rattle.aom_shape.proofs.Lists.{at_set_here, at_set_other}
+use Rattle.aom_budget.proofs.ShapeLemmas.{at_set_here, at_set_other}
 use Rattle.aom_typings.specs.Calls.{Among, bodies, each_below, each_of}
 use Rattle.aom_typings.specs.Layers.{MayRun}
 use Rattle.aom_typings.specs.Most.{most_below, most_of, most_run}
-use Rattle.aom_typings.proofs.Listed.{among_either}
+use Rattle.aom_budget.proofs.TypingsLemmas.{among_either}
 use Rattle.aom_budget.specs.Greatest.{most_at}
 use Rattle.aom_budget.proofs.Keeping.{at_noughts}
 

@@ -5,7 +5,7 @@ use Rattle.std.specs.Prelude.{max}
 use Rattle.std.proofs.lemmas.Bool.{eq-eqb, eqb-true}
 use Rattle.std.proofs.lemmas.Bool.Decides.{eqb_tells}
 use Rattle.aom_roles.specs.Tables.{at}
-use Rattle.aom_shape.proofs.Lists.{at_set_here, at_set_other, at_within}
+use Rattle.aom_budget.proofs.ShapeLemmas.{at_set_here, at_set_other, at_within}
 use Rattle.aom_budget.specs.Pricing.{AreKept}
 
 pub at_noughts : (n i : ℕ) → ◌≡◌ {A = ℕ} (at 0 (replicate n 0) i) 0

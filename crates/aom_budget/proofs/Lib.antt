@@ -1,23 +1,32 @@
-pub mod Classes
-pub mod Keeping
-pub mod Overridden
-pub mod Greatest
-pub mod Lined
-pub mod Climbing
-pub mod Raised
-pub mod Destroyed
-pub mod Found
-pub mod Mentioned
-pub mod Most
-pub mod Filling
-pub mod Limits
-pub mod Examples
-pub mod Quiet
-pub mod Rounds
-pub mod Passing
-pub mod Placing
-pub mod Exits
-pub mod Visiting
-pub mod Starting
-pub mod Priced
-pub mod Budgeting
+mod Classes
+mod Keeping
+mod Overridden
+mod Greatest
+mod Lined
+mod Climbing
+mod Raised
+mod Destroyed
+mod Found
+mod Mentioned
+mod Most
+mod Filling
+mod Limits
+mod Examples
+mod Quiet
+mod Rounds
+mod Passing
+mod Placing
+mod Exits
+mod Visiting
+mod Starting
+mod Priced
+mod Budgeting
+pub mod BudgetLemmas
+pub use Rattle.aom_classes.proofs.ClassesLemmas
+pub use Rattle.aom_image.proofs.ImageLemmas
+pub use Rattle.aom_linked.proofs.LinkedLemmas
+pub use Rattle.aom_roles.proofs.RolesLemmas
+pub use Rattle.aom_rules.proofs.RulesLemmas
+pub use Rattle.aom_shape.proofs.ShapeLemmas
+pub use Rattle.aom_typings.proofs.TypingsLemmas
+pub use Rattle.aom_verify.proofs.VerifyLemmas

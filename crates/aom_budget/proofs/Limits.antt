@@ -6,7 +6,7 @@ use Rattle.std.proofs.lemmas.Bool.Decides.{leb_tells}
 use Rattle.aom_image.specs.Image.{Image}
 use Rattle.aom_image.specs.Views.{method_at}
 use Rattle.aom_classes.specs.Linked.{IsLinked}
-use Rattle.aom_classes.proofs.Each.{both}
+use Rattle.aom_budget.proofs.ClassesLemmas.{both}
 use Rattle.aom_shape.specs.Shape.{Shape}
 use Rattle.aom_roles.specs.Tables.{at}
 use Rattle.aom_rules.specs.Typing.{Typing}
@@ -16,8 +16,7 @@ use Rattle.aom_typings.specs.Depths.{Frames, AreDepths, IsTooDeep}
 use Rattle.aom_typings.specs.Depths.Frames.{alone, calling}
 use Rattle.aom_typings.specs.Heights.{StandsAt, StandsWith, Heights, AreHeights, IsTooHigh}
 use Rattle.aom_typings.specs.Heights.Heights.{own, under}
-use Rattle.aom_typings.proofs.Typings.{method_within, within_method}
-use Rattle.aom_typings.proofs.Within.{caller, standing}
+use Rattle.aom_budget.proofs.TypingsLemmas.{caller, method_within, standing, within_method}
 use Rattle.aom_budget.specs.Extents.{IsFilled, KeepsTo, Exceeds}
 use Rattle.aom_budget.proofs.Filling.{entered_is_called}
 use Rattle.aom_budget.proofs.Mentioned.{called_lower}

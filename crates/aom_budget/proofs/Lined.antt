@@ -4,7 +4,7 @@ use Rattle.std.proofs.Common.{Bool, IfSome, List, None, Option, Some, [], ap, ar
 use Rattle.std.specs.Prelude.{max}
 use Rattle.std.proofs.lemmas.Bool.{eq-eqb}
 use Rattle.std.proofs.lemmas.Option.{slice_get_past, same_Some}
-use Rattle.aom_image.proofs.Given.{some_given}
+use Rattle.aom_budget.proofs.ImageLemmas.{some_given}
 use Rattle.aom_image.specs.Image.{Image}
 use Rattle.aom_image.specs.Views.{class_at, class_in, method_at, method_class}
 use Rattle.aom_image.specs.WellFormed.{WellFormed}
@@ -13,18 +13,16 @@ use Rattle.aom_image.specs.declared.method.Role.{Role}
 use Rattle.aom_image.specs.declared.method.Role.TheVariants.{Cancel, Destruct}
 use Rattle.aom_image.specs.declared.method.Thing.{Thing}
 use Rattle.aom_image.specs.declared.method.Thing.TheVariants.{Message, Object}
-use Rattle.aom_roles.proofs.Descending.{fewer, none_below, parent_below}
+use Rattle.aom_budget.proofs.RolesLemmas.{fewer, none_below, parent_below}
 use Rattle.aom_roles.specs.Classes.{kind_at, kind_in, sessions_at, sessions_in}
 use Rattle.aom_roles.specs.Families.{descends, descends_in, parent_of}
-use Rattle.aom_classes.proofs.Keeping.{child_there, keeper_own, none_there}
-use Rattle.aom_classes.proofs.Playing.{own_found, role_inherits}
-use Rattle.aom_linked.proofs.Rows.{no_player}
+use Rattle.aom_budget.proofs.ClassesLemmas.{child_there, keeper_own, none_there, own_found, role_inherits}
+use Rattle.aom_budget.proofs.LinkedLemmas.{no_player}
 use Rattle.aom_classes.specs.Roles.{own_role, role_by, role_of}
 use Rattle.aom_typings.specs.Calls.{Among, cancels, destructors, lines, lines_of, listed}
 use Rattle.aom_typings.specs.Layers.{Destructs, InLine, Runs}
-use Rattle.aom_typings.proofs.Lines.{line_step}
+use Rattle.aom_budget.proofs.TypingsLemmas.{among_either, below_from, gone_with, line_step}
 use Rattle.aom_typings.specs.Most.{line, line_from}
-use Rattle.aom_typings.proofs.Listed.{among_either, below_from, gone_with}
 use Rattle.aom_budget.specs.Greatest.{most_at}
 use Rattle.aom_budget.specs.Pricing.{kept, price_by}
 use Rattle.aom_budget.proofs.Greatest.{most_append}

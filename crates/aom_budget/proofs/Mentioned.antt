@@ -2,7 +2,7 @@
 use Rattle.std.proofs.lemmas.Bool.Decides.{nat_tests}
 use Rattle.std.proofs.Common.{◌≡◌, ℕ, zero, suc, ◌<◌, ◌==◌, Bool, true, false, cond, ◌&&◌, All, IsTrue, IfSome, List}
 use Rattle.std.proofs.Common.{[], ◌∷◌, map, Option, Some, None, inl, inr, refl, sym, ap, ◌∙◌, subst, arith}
-use Rattle.aom_image.proofs.Given.{some_given, true_given}
+use Rattle.aom_budget.proofs.ImageLemmas.{some_given, true_given}
 use Rattle.std.specs.Prelude.{nat_lt}
 use Rattle.std.specs.List.{list_all}
 use Rattle.std.proofs.lemmas.Bool.{lt-ltb}
@@ -27,14 +27,11 @@ use Rattle.aom_classes.specs.Calls.{MentionsResult, MentionsFields, MentionsRoot
 use Rattle.aom_classes.specs.Linked.{IsLinked}
 use Rattle.aom_classes.specs.Overriding.{over_in}
 use Rattle.aom_classes.specs.Roles.{own_role, plays, same_role}
-use Rattle.aom_classes.proofs.Each.{both, join}
-use Rattle.aom_classes.proofs.Facts.{at_place, all_there, of_method}
-use Rattle.aom_classes.proofs.Mentioning.{cancels_own}
-use Rattle.aom_classes.proofs.Playing.{found}
-use Rattle.aom_roles.proofs.Descending.{through}
+use Rattle.aom_budget.proofs.ClassesLemmas.{all_there, at_place, both, cancels_own, found, join, of_method}
+use Rattle.aom_budget.proofs.RolesLemmas.{through}
 use Rattle.aom_rules.specs.Calls.{brought, caught, worked_on, while_called}
 use Rattle.aom_rules.specs.Requests.{resting}
-use Rattle.aom_shape.proofs.Sets.{has_itself}
+use Rattle.aom_budget.proofs.ShapeLemmas.{at_put, has_itself}
 use Rattle.aom_shape.specs.Entries.{readied_entry, readied_at, without_top, with_entry}
 use Rattle.aom_shape.specs.Arguments.{after_of, argument_moved, arguments_moved, argument_kind, entry_shape}
 use Rattle.aom_rules.specs.Cleanup.{entry_of, top_kind}
@@ -58,9 +55,7 @@ use Rattle.aom_shape.specs.declared.kind.Filling.{Filling}
 use Rattle.aom_shape.specs.declared.kind.Filling.TheVariants.{Empty, Full}
 use Rattle.aom_shape.specs.declared.kind.Kind.{Kind}
 use Rattle.aom_shape.specs.declared.kind.Kind.TheVariants.{Unset, Word, Null, Own, Maybe}
-use Rattle.aom_shape.proofs.Lists.{at_put}
-use Rattle.aom_rules.proofs.Branching.{by_states}
-use Rattle.aom_rules.proofs.Monotone.{needs_more, flows_more}
+use Rattle.aom_budget.proofs.RulesLemmas.{by_states, flows_more, needs_more}
 use Rattle.aom_typings.specs.Shapes.{Shapes, Meets, AllMet, Applies, IsMethodTyped}
 use Rattle.aom_typings.specs.Strongest.{IsMethodStrongest}
 use Rattle.aom_typings.specs.Calls.{Among, MayCall, bodies, callees, cancels, destructors, object_class, thing_class}
@@ -68,7 +63,7 @@ use Rattle.aom_typings.specs.Layers.{Runs}
 use Rattle.aom_budget.proofs.Greatest.{run_from}
 use Rattle.aom_budget.proofs.Lined.{cancels_from, destructors_from}
 use Rattle.aom_budget.proofs.Overridden.{overrider_is}
-use Rattle.aom_verify.proofs.Following.{follow_met}
+use Rattle.aom_budget.proofs.VerifyLemmas.{follow_met}
 
 -- ---- what runs as an object goes has a lower number
 

@@ -4,13 +4,13 @@ use Rattle.std.proofs.Common.{arith, Bool, None, Option, Some, false, length, re
 use Rattle.std.proofs.lemmas.Bool.{eqb-true}
 use Rattle.std.proofs.lemmas.List.Elements.{All-get_or}
 use Rattle.std.proofs.lemmas.Option.{get_or_from_slice_get, slice_get_within}
-use Rattle.aom_image.proofs.Given.{some_given}
+use Rattle.aom_budget.proofs.ImageLemmas.{some_given}
 use Rattle.aom_image.specs.Image.{Image}
 use Rattle.aom_image.specs.Views.{method_at}
 use Rattle.aom_image.specs.WellFormed.{OverFits, WellFormed}
 use Rattle.aom_image.specs.declared.method.Method.{Method}
 use Rattle.aom_classes.specs.Overriding.{leads_in, over_in, over_of, overrides}
-use Rattle.aom_classes.proofs.Leading.{none_leads}
+use Rattle.aom_budget.proofs.ClassesLemmas.{none_leads}
 
 no_lead : (p : Image) (n m : ℕ) → leads_in p n None m ≡ true → ⊥
 no_lead p n m h = let none = none_leads p n m in cc

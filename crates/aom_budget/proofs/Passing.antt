@@ -23,19 +23,15 @@ use Rattle.aom_shape.specs.declared.kind.Kind.TheVariants.{Unset, Word, Null, Ow
 use Rattle.aom_typings.specs.Shapes.{Shapes}
 use Rattle.aom_typings.specs.Calls.{Among, bodies, cancels, listed, thing_class, object_class, destructors, callees}
 use Rattle.aom_typings.specs.Most.{most_run}
-use Rattle.aom_typings.proofs.Listed.{below_lists, run_among, runs_among}
-use Rattle.aom_typings.proofs.Mosts.{below_related, run_related}
+use Rattle.aom_budget.proofs.TypingsLemmas.{IsSweptAt, at_each, below_lists, below_related, by_flow, ends_before, from_each, going_same, innermost_of_body}
+use Rattle.aom_budget.proofs.TypingsLemmas.{max_same, run_among, run_related, runs_among}
 use Rattle.aom_image.specs.declared.method.Role.TheVariants as roles
 use Rattle.aom_classes.specs.Roles.{role_of}
 use Rattle.aom_typings.specs.Prices.{Prices, call_price, cancel_price, price, kind_price, own, perhaps_price}
 use Rattle.aom_typings.specs.Costs.{AmongFlows, Region, Whole, Round, destructor_price}
 use Rattle.aom_typings.specs.Sweeping.{Afters, IsInnermost, IsSweptFrom, all_going, most_within}
-use Rattle.aom_typings.proofs.At.{IsSweptAt, at_each, from_each}
-use Rattle.aom_typings.proofs.Going.{going_same, max_same}
-use Rattle.aom_typings.proofs.Regions.{ends_before, innermost_of_body}
 use Rattle.aom_budget.specs.Pricing.{kept, cancel_by, price_by, destruction_by, kind_by, own_by, null_targets, empty_targets, states_targets, targets_of, most_to, after_in, Found, Agrees, IsPassed}
-use Rattle.aom_typings.proofs.Among.{by_flow}
-use Rattle.aom_image.proofs.Given.{some_given}
+use Rattle.aom_budget.proofs.ImageLemmas.{some_given}
 use Rattle.aom_roles.specs.Tests.{AllTrue}
 
 -- ---- targets

@@ -22,8 +22,7 @@ use Rattle.aom_typings.specs.Calls.{Among, callees}
 use Rattle.aom_typings.specs.Prices.{Prices, own}
 use Rattle.aom_typings.specs.Costs.{AmongFlows, GoesOut, Region, Whole, Round}
 use Rattle.aom_typings.specs.Sweeping.{Afters, IsAfter, IsInnermost, after, most_within}
-use Rattle.aom_typings.proofs.Regions.{innermost_of_body, one_innermost, no_loop_here, no_next_here}
-use Rattle.aom_typings.proofs.Adding.{goes_forward, jumps_forward}
+use Rattle.aom_budget.proofs.TypingsLemmas.{goes_forward, innermost_of_body, jumps_forward, no_loop_here, no_next_here, one_innermost}
 use Rattle.aom_budget.specs.Extents.{IsMost, Before}
 use Rattle.aom_budget.specs.Pricing.{AreKept, kept, targets_of, most_to, after_in, ExitsAt, Found, Agrees, IsPassed, plain_cost}
 use Rattle.aom_budget.proofs.Mentioned.{called_lower}

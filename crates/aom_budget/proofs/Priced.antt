@@ -10,30 +10,26 @@ use Rattle.aom_image.specs.WellFormed.{WellFormed}
 use Rattle.aom_instructions.specs.declared.instr.Instr.{Instr}
 use Rattle.aom_image.specs.declared.method.Thing.{Thing}
 use Rattle.aom_classes.specs.Linked.{IsLinked}
-use Rattle.aom_classes.proofs.Facts.{of_method}
+use Rattle.aom_budget.proofs.ClassesLemmas.{of_method}
 use Rattle.aom_shape.specs.Shape.{Shape}
 use Rattle.aom_roles.specs.Tables.{at}
 use Rattle.aom_rules.specs.Typing.{Typing}
 use Rattle.aom_shape.specs.declared.kind.Kind.{Kind}
 use Rattle.aom_shape.specs.declared.kind.Kind.TheVariants.{Maybe, Own}
-use Rattle.aom_shape.proofs.Lists.{at_set_here, at_set_other}
+use Rattle.aom_budget.proofs.ShapeLemmas.{at_set_here, at_set_other}
 use Rattle.aom_typings.specs.Shapes.{Shapes}
 use Rattle.aom_typings.specs.Strongest.{IsMethodStrongest, IsStrongest}
 use Rattle.aom_typings.specs.Calls.{Among, object_class, destructors, callees, CallsAt}
-use Rattle.aom_typings.proofs.Typings.{image_strongest, method_within}
+use Rattle.aom_budget.proofs.TypingsLemmas.{cancel_among, from_each, going_same, image_strongest, law_up_to, method_within, nothing_there, run_among}
+use Rattle.aom_budget.proofs.TypingsLemmas.{runs_among}
 use Rattle.aom_typings.specs.Prices.{Prices}
 use Rattle.aom_typings.specs.Costs.{destructor_price}
 use Rattle.aom_typings.specs.Layers.{KindDestructs, Pays, PaysBefore}
 use Rattle.aom_typings.specs.Sweeping.{Afters, IsSweptFrom, IsSweptUpTo, all_going}
-use Rattle.aom_typings.proofs.At.{from_each}
-use Rattle.aom_typings.proofs.Going.{going_same}
-use Rattle.aom_typings.proofs.Capping.{law_up_to}
-use Rattle.aom_typings.proofs.Listed.{cancel_among, run_among, runs_among}
-use Rattle.aom_typings.proofs.Places.{nothing_there}
 use Rattle.aom_budget.specs.Pricing.{kept, Found, Agrees, IsMethodPriced, ArePricedBelow, ArePriced, IsPriceUpTo}
 use Rattle.aom_budget.proofs.Keeping.{at_noughts}
 use Rattle.aom_budget.proofs.Mentioned.{called_lower}
-use Rattle.aom_image.proofs.Given.{none_given}
+use Rattle.aom_budget.proofs.ImageLemmas.{none_given}
 
 -- ---- a method pays for lower ones
 

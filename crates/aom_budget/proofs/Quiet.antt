@@ -1,7 +1,7 @@
 -- A quiet method has no cleanup entries, and calls none that has.
 use Rattle.std.proofs.lemmas.Bool.Decides.{nat_tests}
 use Rattle.std.proofs.Common.{◌≡◌, ℕ, zero, suc, ◌≤◌, true, false, List, [], ◌∷◌, ◌++◌, length, map, IfSome, IsTrue, Option, Some, None, inl, inr, refl, subst, sym, ap, ◌∙◌, arith}
-use Rattle.aom_image.proofs.Given.{nil_given, some_given}
+use Rattle.aom_budget.proofs.ImageLemmas.{nil_given, some_given}
 use Rattle.std.specs.Prelude.{not}
 use Rattle.std.proofs.lemmas.Bool.{true≢false}
 use Rattle.aom_image.specs.Image.{Image}
@@ -15,7 +15,7 @@ use Rattle.aom_image.specs.declared.method.Method.{Method}
 use Rattle.aom_roles.specs.Tests.{AllTrue}
 use Rattle.aom_roles.specs.Shapes.{IsShaped, gives_left}
 use Rattle.aom_classes.specs.Linked.{IsLinked}
-use Rattle.aom_classes.proofs.Facts.{all_there}
+use Rattle.aom_budget.proofs.ClassesLemmas.{all_there}
 use Rattle.aom_classes.specs.Overriding.{StandsIn, StandsInNamed, over_in, over_of}
 use Rattle.aom_rules.specs.Calls.{brought}
 use Rattle.aom_shape.specs.Entries.{without_top}
@@ -30,8 +30,7 @@ use Rattle.aom_shape.specs.Arguments.{entry_shape}
 use Rattle.aom_shape.specs.declared.kind.CleanupEntry.{CleanupEntry}
 use Rattle.aom_shape.specs.declared.kind.Filling.{Filling}
 use Rattle.aom_shape.specs.declared.kind.Kind.{Kind}
-use Rattle.aom_rules.proofs.Branching.{by_states}
-use Rattle.aom_rules.proofs.Growing.{lasting_has}
+use Rattle.aom_budget.proofs.RulesLemmas.{by_states, lasting_has}
 use Rattle.aom_typings.specs.Shapes.{Shapes, Meets, AllMet, IsMethodTyped}
 use Rattle.aom_typings.specs.Heights.{StandsAt, Enters, CallsOver, Heights}
 use Rattle.aom_typings.specs.Heights.Heights.{own, under}

@@ -6,15 +6,14 @@ use Rattle.std.proofs.lemmas.Bool.{cases_lt, eq-eqb, eqb-true}
 use Rattle.std.proofs.lemmas.List.{length-replicate}
 use Rattle.aom_image.specs.Image.{Image}
 use Rattle.aom_image.specs.WellFormed.{WellFormed}
-use Rattle.aom_roles.proofs.Descending.{itself, no_higher}
+use Rattle.aom_budget.proofs.RolesLemmas.{itself, no_higher}
 use Rattle.aom_roles.specs.Families.{descends}
 use Rattle.aom_roles.specs.Tables.{at}
-use Rattle.aom_shape.proofs.Lists.{at_past}
+use Rattle.aom_budget.proofs.ShapeLemmas.{at_past}
 use Rattle.aom_typings.specs.Calls.{Among, bodies, each_below}
 use Rattle.aom_typings.specs.Layers.{MayRun}
 use Rattle.aom_typings.specs.Most.{most_below, most_of}
-use Rattle.aom_typings.proofs.Listed.{run_among}
-use Rattle.aom_typings.proofs.Mosts.{most_has, most_least}
+use Rattle.aom_budget.proofs.TypingsLemmas.{most_has, most_least, run_among}
 use Rattle.aom_budget.specs.Greatest.{IsCalled, IsGreatest, is_body, most_at}
 use Rattle.aom_budget.proofs.Greatest.{below_most, most_of_noughts, most_other, most_set, run_from}
 use Rattle.aom_budget.proofs.Keeping.{at_noughts}

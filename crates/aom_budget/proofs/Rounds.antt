@@ -9,10 +9,10 @@ use Rattle.aom_instructions.specs.declared.instr.Instr.TheVariants.{Loop, Next}
 use Rattle.aom_classes.specs.Bodies.{Body, IsIn, IsLooped}
 use Rattle.aom_classes.specs.Loops.{loop_in, next_in}
 use Rattle.aom_roles.specs.Tables.{at}
-use Rattle.aom_shape.proofs.Lists.{at_set_here, at_set_other}
+use Rattle.aom_budget.proofs.ShapeLemmas.{at_set_here, at_set_other}
 use Rattle.aom_typings.specs.Costs.{Region, Whole, Round}
 use Rattle.aom_typings.specs.Sweeping.{IsInnermost}
-use Rattle.aom_typings.proofs.Regions.{no_loop_here, no_next_here, nested, ends_before, one_end}
+use Rattle.aom_budget.proofs.TypingsLemmas.{ends_before, nested, no_loop_here, no_next_here, one_end}
 use Rattle.aom_budget.specs.Pricing.{IsWithin, region_of}
 use Rattle.aom_budget.specs.declared.pass.Round as rounds
 

@@ -7,19 +7,19 @@ use Rattle.aom_image.specs.Views.{instr_at}
 use Rattle.aom_instructions.specs.declared.instr.Instr.{Instr}
 use Rattle.aom_instructions.specs.declared.instr.Instr.TheVariants.{Loop, Next}
 use Rattle.aom_image.specs.WellFormed.{WellFormed}
-use Rattle.aom_classes.proofs.Bodies.{linked_is_looped}
+use Rattle.aom_budget.proofs.ClassesLemmas.{linked_is_looped}
 use Rattle.aom_classes.specs.Bodies.{Body, IsLooped}
 use Rattle.aom_classes.specs.Linked.{IsLinked}
 use Rattle.aom_classes.specs.Loops.{loop_in, next_in}
 use Rattle.aom_shape.specs.Shape.{Shape}
 use Rattle.aom_roles.specs.Tables.{at}
-use Rattle.aom_shape.proofs.Lists.{at_set_here, at_set_other}
+use Rattle.aom_budget.proofs.ShapeLemmas.{at_set_here, at_set_other}
 use Rattle.aom_typings.specs.Shapes.{Shapes}
 use Rattle.aom_typings.specs.Strongest.{IsMethodStrongest}
 use Rattle.aom_verify.specs.Sweep.{HasPlaces}
-use Rattle.aom_verify.proofs.Visiting.{has_instr}
+use Rattle.aom_budget.proofs.VerifyLemmas.{has_instr}
 use Rattle.aom_typings.specs.Costs.{Region, Whole, Round}
-use Rattle.aom_typings.proofs.Regions.{by_kind, next_is_no_loop, one_end}
+use Rattle.aom_budget.proofs.TypingsLemmas.{by_kind, next_is_no_loop, one_end}
 use Rattle.aom_budget.specs.Pricing.{AreKept, kept, after_in, Follows, IsPassing, region_of, found_by, plain_cost}
 use Rattle.aom_budget.specs.declared.pass.Round as rounds
 use Rattle.aom_budget.proofs.Passing.{Extends}

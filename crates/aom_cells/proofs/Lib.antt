@@ -1,4 +1,4 @@
-pub mod Counts
-pub mod Laws
+mod Counts
+mod Laws
 mod Writes
-pub mod Numbers
+mod Numbers

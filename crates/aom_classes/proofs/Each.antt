@@ -7,8 +7,8 @@ use Rattle.std.proofs.lemmas.List.Elements.{All-get_or, All-more}
 use Rattle.std.proofs.lemmas.List.Sums.{count_by_more_yes, count_by_more_no}
 use Rattle.std.proofs.lemmas.Bool.{leb-true, le-leb}
 use Rattle.std.proofs.lemmas.Option.{slice_get_read, get_or_from_slice_get}
-use Rattle.aom_image.proofs.Given.{true_given}
-pub use Rattle.aom_roles.proofs.Each.{EachBelow, each_more, each_all}
+use Rattle.aom_classes.proofs.ImageLemmas.{true_given}
+pub use Rattle.aom_classes.proofs.RolesLemmas.{EachBelow, each_all, each_more}
 
 pub both : (a b : Bool) → IsTrue (a && b) → IsTrue a × IsTrue b
 both a b h = true_given (λ x. IsTrue (x && b)) a h (λ none. cc) (λ first second. (first, second))

@@ -2,13 +2,13 @@
 use Rattle.std.proofs.lemmas.Bool.Decides.{nat_tests}
 use Rattle.std.proofs.Common.{◌≡◌, ◌<◌, ◌≤◌, ℕ, length, zero, suc, true, false, Option, Some, None, IfSome, IsSome, cond, is_some, ap}
 use Rattle.std.proofs.Common.{refl, arith}
-use Rattle.aom_image.proofs.Given.{some_given}
+use Rattle.aom_classes.proofs.ImageLemmas.{some_given}
 use Rattle.std.proofs.lemmas.Option.{slice_get_within}
 use Rattle.aom_image.specs.Image.{Image}
 use Rattle.aom_image.specs.Views.{class_at}
 use Rattle.aom_image.specs.declared.method.Role.{Role}
 use Rattle.aom_roles.specs.Families.{HasNoParents, descends, parent_in, parent_of}
-use Rattle.aom_roles.proofs.Descending.{child, fewer, itself, no_parent, none_below, parent_below}
+use Rattle.aom_classes.proofs.RolesLemmas.{child, fewer, itself, no_parent, none_below, parent_below}
 use Rattle.aom_classes.specs.Roles.{keeper_in, keeper_of, own_role, role_by, role_of}
 
 pub no_method : (o : Option ℕ) → is_some o ≡ false → o ≡ None

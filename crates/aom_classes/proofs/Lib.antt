@@ -1,13 +1,16 @@
-pub mod Beginning
-pub mod Bodies
-pub mod Each
-pub mod Facts
-pub mod Keeping
-pub mod Leading
-pub mod LoopPlaces
-pub mod Mentioning
-pub mod Nested
-pub mod Nesting
-pub mod Ordering
-pub mod Playing
-pub mod Views
+mod Beginning
+mod Bodies
+mod Each
+mod Facts
+mod Keeping
+mod Leading
+mod LoopPlaces
+mod Mentioning
+mod Nested
+mod Nesting
+mod Ordering
+mod Playing
+mod Views
+pub mod ClassesLemmas
+pub use Rattle.aom_image.proofs.ImageLemmas
+pub use Rattle.aom_roles.proofs.RolesLemmas

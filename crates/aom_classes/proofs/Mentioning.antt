@@ -5,7 +5,7 @@ use Rattle.std.proofs.lemmas.Bool.{eq-eqb}
 use Rattle.aom_image.specs.Image.{Image}
 use Rattle.aom_image.specs.Views.{method_at}
 use Rattle.aom_image.specs.declared.method.Role.TheVariants as roles
-use Rattle.aom_roles.proofs.Descending.{itself}
+use Rattle.aom_classes.proofs.RolesLemmas.{itself}
 use Rattle.aom_classes.specs.Calls.{GoesBelow, MayCancel}
 use Rattle.aom_classes.specs.Roles.{is_class, own_role, plays, role_of, same_role}
 use Rattle.aom_classes.proofs.Each.{join}

@@ -12,7 +12,7 @@ use Rattle.aom_instructions.specs.declared.instr.Instr.{Instr}
 use Rattle.aom_instructions.specs.declared.instr.Instr.TheVariants.{Loop, Next}
 use Rattle.aom_classes.specs.Loops.{loop_in, loop_at, Ending, next_in, next_at, Closes, ClosesSome, ApartOrWithin, is_loop, is_next, begun, ended, LoopsNest}
 use Rattle.aom_classes.specs.Scanning.{Enters, Leaves, Passes}
-use Rattle.aom_image.proofs.Given.{nil_given}
+use Rattle.aom_classes.proofs.ImageLemmas.{nil_given}
 
 -- ---- lists
 

@@ -9,7 +9,7 @@ use Rattle.aom_image.specs.Image.{Image}
 use Rattle.aom_image.specs.declared.method.Role.{Role}
 use Rattle.aom_roles.specs.Classes.{sessions_at}
 use Rattle.aom_roles.specs.Families.{descends, parent_of}
-use Rattle.aom_roles.proofs.Descending.{along, child, from_none, from_parent, itself}
+use Rattle.aom_classes.proofs.RolesLemmas.{along, child, from_none, from_parent, itself}
 use Rattle.aom_classes.specs.Calls.{AllBelow, DestructsBelow, EndsBelow, GoesBelow}
 use Rattle.aom_classes.specs.Orders.{AreLeast, IsLeast, ReachesAll}
 use Rattle.aom_classes.specs.Roles.{keeper_of, own_role, plays}

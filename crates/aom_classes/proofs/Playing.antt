@@ -13,9 +13,9 @@ use Rattle.aom_classes.specs.Roles.{destructor_of, is_class, is_inherited, is_ma
 use Rattle.aom_classes.specs.Roles.{same_role}
 use Rattle.aom_classes.proofs.Each.{both}
 use Rattle.aom_classes.proofs.Keeping.{keeper_found, role_alone}
-use Rattle.aom_roles.proofs.Descending.{itself}
+use Rattle.aom_classes.proofs.RolesLemmas.{itself}
 use Rattle.aom_roles.specs.Families.{HasNoParents, descends}
-use Rattle.aom_image.proofs.Given.{cons_given, some_given}
+use Rattle.aom_classes.proofs.ImageLemmas.{cons_given, some_given}
 use Rattle.aom_image.specs.declared.method.Thing.{Thing}
 use Rattle.aom_image.specs.declared.method.Thing.TheVariants.{Object}
 

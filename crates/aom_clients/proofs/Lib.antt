@@ -1,22 +1,23 @@
-pub mod Members
-pub mod Chains
-pub mod Rings
-pub mod RingSteps
-pub mod Places
-pub mod Plain
-pub mod Entries
-pub mod Tables
-pub mod Kept
-pub mod Leaving
-pub mod Steps
-pub mod Services
-pub mod Slots
-pub mod Goings
-pub mod Releases
-pub mod Looking
-pub mod Departures
-pub mod Draining
-pub mod Same
-pub mod Answering
+mod Members
+mod Chains
+mod Rings
+mod RingSteps
+mod Places
+mod Plain
+mod Entries
+mod Tables
+mod Kept
+mod Leaving
+mod Steps
+mod Services
+mod Slots
+mod Goings
+mod Releases
+mod Looking
+mod Departures
+mod Draining
+mod Same
+mod Answering
 mod Examples
-pub mod Waiting
+mod Waiting
+pub mod ClientsLemmas

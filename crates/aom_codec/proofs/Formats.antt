@@ -6,7 +6,7 @@ use Rattle.std.proofs.Common.{◌∙◌, arith, eqb-true, lit<, ◌&&◌}
 use Rattle.std.proofs.lemmas.Bool.{leb-true, le-leb, and_parts}
 use Rattle.aom_image.specs.Image.{Image}
 use Rattle.std.specs.List.{find}
-use Rattle.aom_instructions.proofs.Again.{making_parts_again}
+use Rattle.aom_codec.proofs.InstructionsLemmas.{making_parts_again}
 use Rattle.aom_instructions.specs.Mnemonics.{is_in, with_opcode}
 use Rattle.aom_instructions.specs.Parts.{mnemonic, operands}
 use Rattle.aom_instructions.specs.Rows.{mnemonics, row}
@@ -42,7 +42,7 @@ use Rattle.aom_codec.proofs.Returning.{version_returns, parent_returns, index_re
 use Rattle.aom_codec.proofs.Returning.{flags_returns, states_returns, gives_returns, result_number_returns}
 use Rattle.aom_codec.proofs.InstructionFits.{operands_in_range}
 use Rattle.aom_codec.proofs.OperandLaws.{large_reads, small_reads}
-use Rattle.aom_image.proofs.Given.{some_given}
+use Rattle.aom_codec.proofs.ImageLemmas.{some_given}
 
 -- ---- numbers that name things
 

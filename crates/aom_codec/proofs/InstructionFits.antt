@@ -1,7 +1,7 @@
 -- An instruction fits its format exactly where its operands are of the kinds that its row asks, each in its range.
 use Rattle.std.proofs.lemmas.Bool.Decides.{nat_tests}
 use Rattle.std.proofs.Common.{arith, ◌≡◌, ◌∙◌, ◌<◌, Err, Ok, cond, refl, sym, true, ap}
-use Rattle.aom_instructions.proofs.Again.{parts_make_again, rows_are_one}
+use Rattle.aom_codec.proofs.InstructionsLemmas.{parts_make_again, rows_are_one}
 use Rattle.aom_instructions.specs.Operands.{OperandsFit}
 use Rattle.aom_instructions.specs.Parts.{mnemonic, operands}
 use Rattle.aom_instructions.specs.Mnemonics.{is_in, with_opcode}

@@ -1,11 +1,13 @@
-pub mod Lengths
-pub mod Laws
-pub mod Loops
-pub mod Returning
-pub mod OperandLaws
-pub mod InstructionFits
-pub mod Formats
-pub mod Spelled
-pub mod Fitting
-pub mod Images
-pub mod Putting
+mod Lengths
+mod Laws
+mod Loops
+mod Returning
+mod OperandLaws
+mod InstructionFits
+mod Formats
+mod Spelled
+mod Fitting
+mod Images
+mod Putting
+pub use Rattle.aom_image.proofs.ImageLemmas
+pub use Rattle.aom_instructions.proofs.InstructionsLemmas

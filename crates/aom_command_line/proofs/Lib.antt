@@ -1,2 +1,2 @@
-pub mod Reading
-pub mod Rules
+mod Reading
+mod Rules

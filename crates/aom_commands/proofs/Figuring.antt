@@ -6,12 +6,12 @@ use Rattle.aom_classes.specs.Linked.{IsLinked}
 use Rattle.aom_rules.specs.Typing.{Typing, IsTyped}
 use Rattle.aom_typings.specs.Depths.{HasDepths}
 use Rattle.aom_typings.specs.Heights.{HasHeights}
-use Rattle.aom_typings.proofs.Within.{all_high, all_within}
+use Rattle.aom_commands.proofs.TypingsLemmas.{all_high, all_within}
 use Rattle.aom_budget.specs.Budgets.{BudgetsWithin}
 use Rattle.aom_budget.specs.Faults.{Refuses as RefusesBudget}
 use Rattle.aom_budget.specs.Figures.{AreFigures, Figures}
 use Rattle.aom_budget.specs.declared.fault.BudgetFault.{BudgetFault}
-use Rattle.aom_budget.proofs.Budgeting.{refuses_none}
+use Rattle.aom_commands.proofs.BudgetLemmas.{refuses_none}
 use Rattle.aom_figures.specs.Names.{Names}
 use Rattle.aom_figures.specs.Text.{figures_text}
 use Rattle.aom_commands.specs.declared.status.ExitStatus.{ExitStatus}

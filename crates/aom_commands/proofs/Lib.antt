@@ -1,10 +1,19 @@
-pub mod Acceptance
-pub mod Boxes
-pub mod Refusing
-pub mod Sending
-pub mod Telling
-pub mod Tries
-pub mod Meaning
-pub mod Figuring
-pub mod Translated
-pub mod Untelling
+mod Acceptance
+mod Boxes
+mod Refusing
+mod Sending
+mod Telling
+mod Tries
+mod Meaning
+mod Figuring
+mod Translated
+mod Untelling
+pub mod CommandsLemmas
+pub use Rattle.aom_asm.proofs.AsmLemmas
+pub use Rattle.aom_budget.proofs.BudgetLemmas
+pub use Rattle.aom_determinism.proofs.DeterminismLemmas
+pub use Rattle.aom_machine.proofs.MachineLemmas
+pub use Rattle.aom_meaning.proofs.MeaningLemmas
+pub use Rattle.aom_run.proofs.RunLemmas
+pub use Rattle.aom_script.proofs.ScriptLemmas
+pub use Rattle.aom_typings.proofs.TypingsLemmas

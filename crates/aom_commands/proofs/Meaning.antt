@@ -8,10 +8,9 @@ use Rattle.aom_image.specs.Image.{Image}
 use Rattle.aom_codec.specs.Spelling.{spell}
 use Rattle.aom_image.specs.WellFormed.{WellFormed}
 use Rattle.aom_asm.specs.Denoted.{denoted}
-use Rattle.aom_asm.proofs.Steps.{no_ok}
+use Rattle.aom_commands.proofs.AsmLemmas.{no_ok}
 use Rattle.aom_listing.specs.Listing.{listing_text}
-use Rattle.aom_meaning.proofs.Assembling.{listing_assembles}
-use Rattle.aom_meaning.proofs.Denoting.{denotes_read, read_denotes}
+use Rattle.aom_commands.proofs.MeaningLemmas.{denotes_read, listing_assembles, read_denotes}
 use Rattle.aom_commands.specs.Status.{of_asm, of_asm_kind}
 use Rattle.aom_commands.specs.Assembly.{IsFaulty, Lists, Makes, RefusesText}
 

@@ -14,16 +14,14 @@ use Rattle.aom_typings.specs.Dispatches.{IsAffordable}
 use Rattle.aom_typings.specs.Prices.{Prices}
 use Rattle.aom_safety.specs.Laws.{LinkedIsWired}
 use Rattle.aom_transcript.specs.declared.line.Ending.{Ending}
-use Rattle.aom_determinism.proofs.Oracles.{each_run_follows}
-use Rattle.aom_determinism.proofs.Polling.{nothing_is_heard}
+use Rattle.aom_commands.proofs.DeterminismLemmas.{alike_counted, each_run_follows, nothing_is_heard}
 use Rattle.aom_determinism.specs.Hearing.{Follows, Oracle}
 use Rattle.aom_determinism.specs.Determined.{TextIsDetermined}
-use Rattle.aom_determinism.proofs.Alike.{alike_counted}
 use Rattle.aom_progress.specs.Runs.{TypedRunsWell}
 use Rattle.aom_progress.specs.Laws.{StepsWithin}
 use Rattle.aom_run.specs.declared.outcome.Outcome.{Outcome}
 use Rattle.aom_run.specs.declared.outcome.Outcome.TheVariants.{Stopped, WriteFault}
-use Rattle.aom_script.proofs.Faulting.{IsOfText, is_of_text}
+use Rattle.aom_commands.proofs.ScriptLemmas.{IsOfText, is_of_text}
 use Rattle.aom_run.specs.Runs.{Ran}
 use Rattle.aom_run.specs.declared.machine.Machine.{Machine}
 use Rattle.aom_script.specs.Script.{Script, denoted, RefusesOrWants, WantsMemory}
@@ -39,7 +37,7 @@ use Rattle.aom_commands.specs.Acceptable.{IsSpelled, IsAcceptable, Refuses, Refu
 use Rattle.aom_commands.specs.Headline.{Sent, outside_of, IsSilent, Told, Shows, Accepts, AcceptedAnswers, AllRunWell, CheckAnswers, Ends, EndsAs}
 use Rattle.aom_commands.specs.Headline.{EndsOrFails, HasNatives, ImageWantsMemory, IsNoScript, IsOnly, IsRefused, RefusesBoot, RunAnswersBy, Runs, Shown}
 use Rattle.aom_commands.specs.Headline.{Tells, Transcribed}
-use Rattle.aom_machine.proofs.Affording.{affords}
+use Rattle.aom_commands.proofs.MachineLemmas.{affords}
 use Rattle.aom_commands.specs.Explored.{AcceptedExplores, Begun, BreaksOff, ExploreAnswers, Explored, Plans, RefusesTry}
 use Rattle.aom_commands.specs.Explored.ExploreBreaks.{script_wants_memory as wants_for_script, machine_wants_memory as wants_for_machine, output_fails as fails}
 use Rattle.aom_injection.specs.declared.injection.Injection.{Injection}

@@ -1,15 +1,19 @@
-pub mod Lines
-pub mod Obeying
-pub mod Heeding
-pub mod Talking
-pub mod Reading
-pub mod Statuses
-pub mod Starting
-pub mod Moving
-pub mod Placing
+mod Lines
+mod Obeying
+mod Heeding
+mod Talking
+mod Reading
+mod Statuses
+mod Starting
+mod Moving
+mod Placing
 mod Declining
-pub mod Answering
-pub mod Reached
-pub mod ReadBack
-pub use Rattle.aom_debug_moves.proofs.Keeping
-pub use Rattle.aom_debug_moves.proofs.Sending
+mod Answering
+mod Reached
+mod ReadBack
+pub use Rattle.aom_commands.proofs.CommandsLemmas
+pub use Rattle.aom_debug_moves.proofs.DebugMovesLemmas
+pub use Rattle.aom_debug_paths.proofs.DebugPathsLemmas
+pub use Rattle.aom_debug_words.proofs.DebugWordsLemmas
+pub use Rattle.aom_meaning.proofs.MeaningLemmas
+pub use Rattle.aom_script.proofs.ScriptLemmas

@@ -11,8 +11,7 @@ use Rattle.aom_debug_words.specs.declared.fault.DebugFault.TheVariants.{NoSuch}
 use Rattle.aom_debug_views.specs.Telling.{Tells, TellsPart, answers_text}
 use Rattle.aom_debug_paths.specs.declared.following.Found.{Found}
 use Rattle.aom_debug_paths.specs.Paths.{IsFound, owned_at, waiting_lines, word_lines}
-use Rattle.aom_debug_paths.proofs.Queues.{queue_found}
-use Rattle.aom_debug_paths.proofs.Worded.{words_found}
+use Rattle.aom_debug.proofs.DebugPathsLemmas.{queue_found, words_found}
 use Rattle.aom_debug.specs.Debugging.{Answer, Looks, LooksAt, Outgoing, Seen, SeenPart, SeesQueue, SeesWords}
 use Rattle.aom_debug.specs.declared.debugger.Debugger.{Debugger}
 use Rattle.std.proofs.lemmas.Result.{IfErr-weaker, IfOk-weaker}

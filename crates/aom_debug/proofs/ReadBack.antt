@@ -9,7 +9,7 @@ use Rattle.std.proofs.lemmas.List.{append-nil, length-append}
 use Rattle.std.proofs.lemmas.List.Folds.{list_all-append}
 use Rattle.std.proofs.lemmas.List.Splits.{slice_split_at, slice_split_none}
 use Rattle.std.proofs.lemmas.List.Sums.{AllPass-from_list_all, list_all-from_AllPass}
-use Rattle.aom_meaning.proofs.Numbers.{all_digits, number_of_decimal, within}
+use Rattle.aom_debug.proofs.MeaningLemmas.{all_digits, number_of_decimal, within}
 use Rattle.aom_text.specs.Numbers.{is_digit, number_of}
 use Rattle.aom_text.specs.Words.{has_bytes, is_blank, words}
 use Rattle.aom_debug_words.specs.Ways.{AreBranches, IsBranch, IsOuter, PathsReadBack, Way, before, branch_said, branch_text, branches_said}

@@ -8,7 +8,7 @@ use Rattle.aom_run.specs.declared.machine.Machine.{Machine}
 use Rattle.aom_script.specs.Script.{Script}
 use Rattle.aom_debug_names.specs.Names.{Names}
 use Rattle.aom_debug.specs.declared.debugger.Debugger.{Debugger}
-use Rattle.aom_commands.proofs.Tries.{has_enough}
+use Rattle.aom_debug.proofs.CommandsLemmas.{has_enough}
 use Rattle.aom_debug.specs.Beginning.{IsBegun}
 
 module _ {X : Type 0} {B : X → Type 0} (ns : Names) (p : Image) (script : Script)

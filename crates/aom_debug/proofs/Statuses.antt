@@ -4,7 +4,7 @@ use Rattle.std.specs.Prelude.{◌⊎◌}
 use Rattle.aom_image.specs.Image.{Image}
 use Rattle.aom_semantics.specs.World.{Environment, boot_state}
 use Rattle.aom_run.specs.declared.fault.BootFault.TheVariants as boots
-use Rattle.aom_script.proofs.Faulting.{IsOfText, is_of_text}
+use Rattle.aom_debug.proofs.ScriptLemmas.{IsOfText, is_of_text}
 use Rattle.aom_script.specs.Script.{RefusesOrWants, Script, denoted}
 use Rattle.aom_script.specs.declared.fault.ScriptFault.{ScriptFault}
 use Rattle.aom_script.specs.declared.fault.ScriptFaultKind.{ScriptFaultKind}
@@ -18,7 +18,7 @@ use Rattle.aom_commands.specs.declared.faults.Fault.{Fault}
 use Rattle.aom_commands.specs.declared.faults.Fault.TheVariants as faults
 use Rattle.aom_commands.specs.declared.status.ExitStatus.{ExitStatus}
 use Rattle.aom_commands.specs.declared.status.ExitStatus.TheVariants as statuses
-use Rattle.aom_commands.proofs.Telling.{unaccepted as not_run, unscripted as not_scripted}
+use Rattle.aom_debug.proofs.CommandsLemmas.{unaccepted as not_run, unscripted as not_scripted}
 use Rattle.aom_transcript.specs.Text.{line_text}
 use Rattle.aom_debug.specs.Answers.{DebugAnswersBy, Debugs, start_of}
 use Rattle.aom_debug.specs.Answers.DebugBreaks.{input_fails, machine_wants_memory, output_fails, script_wants_memory}

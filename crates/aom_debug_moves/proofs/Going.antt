@@ -10,12 +10,12 @@ use Rattle.aom_machine_state.specs.declared.progress.Progress.TheVariants.{Runni
 use Rattle.aom_machine_state.specs.Progress.{progress_by, progress_of}
 use Rattle.aom_transcript.specs.declared.line.Ending.{Ending}
 use Rattle.aom_machine.specs.Steps.{progress}
-use Rattle.aom_machine.proofs.Progressing.{at_hand, is_as_far}
+use Rattle.aom_debug_moves.proofs.MachineLemmas.{at_hand, is_as_far}
 use Rattle.aom_debug_moves.specs.Sends.{Breaks, Machine, Sends}
 use Rattle.aom_debug_moves.specs.Movers.{Keeps, outside_of}
 use Rattle.aom_debug_moves.specs.declared.mover.Mover.{Mover}
 use Rattle.aom_run.specs.Runs.{Moving}
-use Rattle.aom_run.proofs.Reaching.{reaches_both, reaches_then}
+use Rattle.aom_debug_moves.proofs.RunLemmas.{reaches_both, reaches_then}
 use Rattle.aom_debug_moves.proofs.Keeping.{heard_as}
 use Rattle.aom_debug_moves.proofs.Sending.{after_none, breaks_then, moving_stride, reaches_arrived, sent_both}
 use Rattle.aom_debug_words.specs.declared.spot.Spot.{Spot}

@@ -14,12 +14,12 @@ use Rattle.aom_transcript.specs.declared.line.Ending.{Ending}
 use Rattle.aom_machine_state.specs.declared.progress.Progress.TheVariants.{Ended, Running, Turned}
 use Rattle.aom_machine_state.specs.Progress.{progress_by, progress_of}
 use Rattle.aom_machine.specs.Steps.{IsAtHand, progress}
-use Rattle.aom_machine.proofs.Progressing.{between, is_as_far}
+use Rattle.aom_debug_moves.proofs.MachineLemmas.{between, is_as_far}
 use Rattle.aom_run.specs.Calls.{Stands, StandsFor}
 use Rattle.aom_debug_moves.specs.Sends.{Machine, Sends}
 use Rattle.aom_run.specs.Runs.{Moving}
 use Rattle.aom_run.specs.Turns.{LeadTo}
-use Rattle.aom_run.proofs.Spared.{moving_spares}
+use Rattle.aom_debug_moves.proofs.RunLemmas.{moving_spares}
 use Rattle.aom_debug_words.specs.declared.spot.Spot.{Spot}
 use Rattle.aom_debug_moves.specs.Moves.{Arrives, TurnsOnce, stays as no_turns, turns}
 use Rattle.aom_debug_moves.specs.Courses.{InDispatch, IsOver, Rests, WalksOn}

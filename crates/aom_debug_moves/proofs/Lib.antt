@@ -1,16 +1,18 @@
-pub mod Nexts
-pub mod Keeping
-pub mod Sending
-pub mod Strides
-pub mod Going
-pub mod Turning
-pub mod Scopes
-pub mod Passing
-pub mod Limits
-pub mod Leaving
-pub mod Runs
-pub use Rattle.aom_machine.proofs.Progressing
-pub use Rattle.aom_run.proofs.Gets
-pub use Rattle.aom_run.proofs.Reaching
-pub use Rattle.aom_run.proofs.Running
-pub use Rattle.aom_run.proofs.Spared
+mod Nexts
+mod Keeping
+mod Sending
+mod Strides
+mod Going
+mod Turning
+mod Scopes
+mod Passing
+mod Limits
+mod Leaving
+mod Runs
+pub mod DebugMovesLemmas
+pub use Rattle.aom_image.proofs.ImageLemmas
+pub use Rattle.aom_machine.proofs.MachineLemmas
+pub use Rattle.aom_machine_instructions.proofs.MachineInstructionsLemmas
+pub use Rattle.aom_machine_state.proofs.MachineStateLemmas
+pub use Rattle.aom_run.proofs.RunLemmas
+pub use Rattle.aom_semantics.proofs.SemanticsLemmas

@@ -13,13 +13,11 @@ use Rattle.aom_machine_state.specs.declared.progress.Progress.{Progress}
 use Rattle.aom_machine_state.specs.declared.progress.Progress.TheVariants.{Ended, Running, Turned}
 use Rattle.aom_machine.specs.Steps.{progress}
 use Rattle.aom_machine.specs.Turns.{TakesAll}
-use Rattle.aom_machine.proofs.Progressing.{is_as_far}
+use Rattle.aom_debug_moves.proofs.MachineLemmas.{is_as_far}
 use Rattle.aom_run.specs.Calls.{StandsFor}
 use Rattle.aom_run.specs.Runs.{after}
 use Rattle.aom_run.specs.Turns.{TakesTurns}
-use Rattle.aom_run.proofs.Reaching.{reaches_both}
-use Rattle.aom_run.proofs.Resting.{limit_cuts}
-use Rattle.aom_run.proofs.Serving.{cut_so}
+use Rattle.aom_debug_moves.proofs.RunLemmas.{cut_so, limit_cuts, reaches_both}
 use Rattle.aom_debug_moves.specs.CourseLaws.{AreRuns}
 use Rattle.aom_debug_moves.specs.Courses.{Courses, ToLimit}
 use Rattle.aom_debug_moves.specs.Moves.{EndsByLimit, is_at_limit, is_cut}

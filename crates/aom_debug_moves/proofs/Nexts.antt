@@ -7,7 +7,7 @@ use Rattle.std.proofs.lemmas.Bool.{eq-eqb, eqb-true, false≢true, ne_eqb}
 use Rattle.aom_machine_instructions.specs.Serving.{session_there}
 use Rattle.aom_clients.specs.Clients.{client_at, first_there, sessions_at}
 use Rattle.aom_clients.specs.Table.{session_of}
-use Rattle.aom_image.proofs.Given.{some_given}
+use Rattle.aom_debug_moves.proofs.ImageLemmas.{some_given}
 use Rattle.aom_image.specs.Image.{Image}
 use Rattle.aom_image.specs.declared.method.Role.TheVariants.{Destruct}
 use Rattle.aom_image.specs.declared.method.Thing.TheVariants.{Object as An_object_of}
@@ -20,17 +20,15 @@ use Rattle.aom_frames.specs.declared.dispatch.Dispatch.{Dispatch as Machine_disp
 use Rattle.aom_semantics.specs.Destruction.{first_session}
 use Rattle.aom_semantics.specs.Places.{Elsewhere, Going, Object, Place, Root, Session, held, named, service_of}
 use Rattle.aom_semantics.specs.State.{Closing, Destroy, Dispatch, Dispatched as Ends_state, Seat, State, Task}
-use Rattle.aom_semantics.proofs.Maps.{held_lives}
+use Rattle.aom_debug_moves.proofs.SemanticsLemmas.{held_lives}
 use Rattle.aom_machine_state.specs.declared.parts.Parts.{Parts}
 use Rattle.aom_machine_state.specs.Agrees.{SameTasks, dispatch_of, number, number as number_of_object, thing_in}
 use Rattle.aom_machine_state.specs.Places.{IsClosing, IsDestroying, going_here, going_in, value}
 use Rattle.aom_machine_state.specs.Stands.{StandsFor}
-use Rattle.aom_machine_state.proofs.Cells.{class_told, is_an_object}
-use Rattle.aom_machine_state.proofs.Values.{same_length}
-use Rattle.aom_machine_state.proofs.Alike.{Alike, alike, both_close, both_end, both_go, both_run}
+use Rattle.aom_debug_moves.proofs.MachineStateLemmas.{Alike, alike, both_close, both_end, both_go, both_run, class_told, is_an_object, same_length}
 use Rattle.aom_machine_instructions.specs.Going.{ending_here}
-use Rattle.aom_machine_instructions.proofs.Firsts.{ClosesOver, closing_found, found_session, its_session, no_session, session_lives}
-use Rattle.aom_machine_instructions.proofs.Running.{nothing_held, object_lives_at, object_there}
+use Rattle.aom_debug_moves.proofs.MachineInstructionsLemmas.{ClosesOver, closing_found, found_session, its_session, no_session, nothing_held, object_lives_at}
+use Rattle.aom_debug_moves.proofs.MachineInstructionsLemmas.{object_there, session_lives}
 use Rattle.aom_debug_words.specs.declared.answer.Answer.{Answer}
 use Rattle.aom_debug_words.specs.declared.answer.Answer.TheVariants.{At, Gone}
 use Rattle.aom_debug_moves.specs.Next.{GoesFirst, begins_by, destroyed_under, destruction_by, destruction_of, first_number, goes_first, gone_by}

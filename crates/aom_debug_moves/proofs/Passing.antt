@@ -10,11 +10,11 @@ use Rattle.std.specs.Prelude.{is_some}
 use Rattle.aom_machine_state.specs.declared.progress.Progress.TheVariants.{Running, Turned}
 use Rattle.aom_machine_state.specs.Progress.{progress_by, progress_of}
 use Rattle.aom_machine.specs.Steps.{IsAtHand, progress}
-use Rattle.aom_machine.proofs.Progressing.{is_as_far}
+use Rattle.aom_debug_moves.proofs.MachineLemmas.{is_as_far}
 use Rattle.aom_debug_moves.specs.Sends.{Breaks, Machine, Sends, Then}
 use Rattle.aom_debug_moves.specs.Movers.{Keeps, outside_of}
 use Rattle.aom_debug_moves.specs.declared.mover.Mover.{Mover}
-use Rattle.aom_run.proofs.Reaching.{reaches_both}
+use Rattle.aom_debug_moves.proofs.RunLemmas.{reaches_both}
 use Rattle.aom_debug_words.specs.declared.spot.Spot.{Spot}
 use Rattle.aom_debug_moves.specs.Moves.{Arrives, Strides, stays as no_turns, turns}
 use Rattle.aom_debug_moves.proofs.Keeping.{heard_as}

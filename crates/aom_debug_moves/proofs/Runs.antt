@@ -6,7 +6,7 @@ use Rattle.aom_semantics.specs.World.{Environment, Reaches}
 use Rattle.aom_transcript.specs.declared.line.Line.{Line}
 use Rattle.aom_machine.specs.Steps.{IsAtHand}
 use Rattle.aom_run.specs.Runs.{Moving}
-use Rattle.aom_run.proofs.Reaching.{reaches_both}
+use Rattle.aom_debug_moves.proofs.RunLemmas.{reaches_both}
 use Rattle.aom_debug_moves.specs.Next.{root_is_due}
 use Rattle.aom_debug_words.specs.declared.spot.Spot.{Spot}
 use Rattle.aom_debug_moves.proofs.Sending.{reaches_arrived}

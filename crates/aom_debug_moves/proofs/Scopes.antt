@@ -7,8 +7,7 @@ use Rattle.aom_image.specs.Image.{Image}
 use Rattle.aom_frames.specs.declared.task.Task.{Task as Machine_task}
 use Rattle.aom_semantics.specs.State.{State, Task}
 use Rattle.aom_machine_state.specs.Agrees.{SameTask, SameTasks}
-use Rattle.aom_machine_state.proofs.Alike.{by_tasks}
-use Rattle.aom_machine_state.proofs.Values.{same_length}
+use Rattle.aom_debug_moves.proofs.MachineStateLemmas.{by_tasks, same_length}
 use Rattle.aom_run.specs.Calls.{StandsFor}
 use Rattle.aom_debug_words.specs.declared.spot.Spot.{Spot}
 use Rattle.aom_debug_moves.specs.Sends.{Machine, Sends}

@@ -5,13 +5,13 @@ use Rattle.aom_semantics.specs.State.{State}
 use Rattle.aom_transcript.specs.declared.line.Line.{Line}
 use Rattle.aom_machine_state.specs.declared.progress.Progress.TheVariants.{Running}
 use Rattle.aom_machine.specs.Steps.{progress}
-use Rattle.aom_machine.proofs.Progressing.{at_hand, is_as_far}
+use Rattle.aom_debug_moves.proofs.MachineLemmas.{at_hand, is_as_far}
 use Rattle.aom_run.specs.Calls.{StandsFor}
 use Rattle.aom_debug_moves.specs.Sends.{Breaks, Machine, Sends}
 use Rattle.aom_debug_moves.specs.Movers.{Keeps}
 use Rattle.aom_debug_moves.specs.declared.mover.Mover.{Mover}
 use Rattle.aom_run.specs.Runs.{Moving, begins as stays_there}
-use Rattle.aom_run.proofs.Reaching.{moving_both}
+use Rattle.aom_debug_moves.proofs.RunLemmas.{moving_both}
 use Rattle.aom_debug_moves.proofs.Keeping.{begun_as}
 use Rattle.aom_debug_moves.proofs.Sending.{after_none, breaks_then, moving_stride, sent_both}
 use Rattle.aom_debug_words.specs.declared.spot.Spot.{Spot}

@@ -8,7 +8,7 @@ use Rattle.aom_syntax.specs.declared.keyword.Keyword.TheVariants as k
 use Rattle.aom_text.specs.Text.{statements}
 use Rattle.aom_text.specs.declared.text.Statement.{Statement}
 use Rattle.aom_explain.specs.Declarations.{begins, part}
-use Rattle.aom_explain.proofs.Cuts.{part_first, part_no, part_yes}
+use Rattle.aom_debug_names.proofs.ExplainLemmas.{part_first, part_no, part_yes}
 use Rattle.aom_debug_words.specs.declared.spot.Spot.{Spot}
 use Rattle.aom_debug_names.specs.Names.{names_of, statement_at}
 use Rattle.aom_debug_names.specs.Lines.{place_in, spot_from, spot_in}

@@ -1,4 +1,7 @@
-pub mod Numbering
-pub mod Onward
-pub mod Worded
-pub mod Queues
+mod Numbering
+mod Onward
+mod Worded
+mod Queues
+pub mod DebugPathsLemmas
+pub use Rattle.aom_debug_views.proofs.DebugViewsLemmas
+pub use Rattle.aom_machine_instructions.proofs.MachineInstructionsLemmas

@@ -8,8 +8,7 @@ use Rattle.aom_semantics.specs.State.{State}
 use Rattle.aom_machine_state.specs.Stands.{StandsFor}
 use Rattle.aom_machine_state.specs.declared.parts.Parts.{Parts}
 use Rattle.aom_debug_views.specs.Sights.{counted}
-use Rattle.aom_debug_views.proofs.Showing.{as_many_items}
-use Rattle.aom_debug_views.proofs.Tasks.{as_many_tasks}
+use Rattle.aom_debug_paths.proofs.DebugViewsLemmas.{as_many_items, as_many_tasks}
 use Rattle.aom_debug_paths.specs.declared.finding.Series.{Series}
 use Rattle.aom_debug_paths.specs.declared.finding.Series.TheVariants.{Entries, Frames, Goings}
 use Rattle.aom_debug_paths.specs.Paths.{at_count, length_of, numbered, places_in}

@@ -10,7 +10,7 @@ use Rattle.aom_semantics.specs.Places.{Object, Place, held}
 use Rattle.aom_semantics.specs.State.{State}
 use Rattle.aom_machine_state.specs.Stands.{Stands}
 use Rattle.aom_machine_state.specs.declared.parts.Parts.{Parts}
-use Rattle.aom_machine_instructions.proofs.Finding.{object_lives}
+use Rattle.aom_debug_paths.proofs.MachineInstructionsLemmas.{object_lives}
 use Rattle.aom_debug_views.specs.Holdings.{HoldsSo}
 use Rattle.aom_debug_views.specs.Sights.{class_in, class_of}
 use Rattle.aom_debug_views.specs.declared.holding.Holding.{Holding}

@@ -17,7 +17,7 @@ use Rattle.aom_machine_state.specs.declared.parts.Parts.{Parts}
 use Rattle.aom_debug_words.specs.declared.answer.Answer.{Answer}
 use Rattle.aom_debug_views.specs.Sights.{class_in}
 use Rattle.aom_debug_views.specs.Telling.{gathered, listed}
-use Rattle.aom_debug_views.proofs.Telling.{items_answered}
+use Rattle.aom_debug_paths.proofs.DebugViewsLemmas.{items_answered}
 use Rattle.aom_debug_paths.specs.declared.following.Found.{Found}
 use Rattle.aom_debug_paths.specs.Paths.{IsFound, asked_answer, object_queue, queue_in, taken_answer, waiting_lines}
 

@@ -24,7 +24,7 @@ use Rattle.aom_typings.specs.Strongest.{IsShapeAt, IsStrongest}
 use Rattle.aom_machine_state.specs.declared.parts.Parts.{Parts}
 use Rattle.aom_machine_state.specs.Agrees.{number}
 use Rattle.aom_machine_state.specs.Stands.{Machine, Stands, StandsFor}
-use Rattle.aom_machine_instructions.proofs.Running.{not_null}
+use Rattle.aom_debug_views.proofs.MachineInstructionsLemmas.{not_null}
 use Rattle.aom_machine.specs.Agreement.{AgreesInAll}
 use Rattle.aom_debug_words.specs.declared.answer.Answer.{Answer}
 use Rattle.aom_debug_words.specs.declared.answer.Answer.TheVariants.{Frame as A_frame, Register as A_register}

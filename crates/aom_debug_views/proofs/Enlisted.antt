@@ -16,7 +16,7 @@ use Rattle.aom_scheduler.specs.declared.request.State.{State as Machine_state}
 use Rattle.aom_scheduler.specs.declared.request.Request.{Request as Machine_request}
 use Rattle.aom_scheduler.specs.declared.entry.ScheduleEntry.{ScheduleEntry}
 use Rattle.aom_active.specs.Agrees.{GoesBefore, HasPriority, Tells as Tells_request, phase_of, queue_in, queued}
-use Rattle.aom_scheduler.proofs.Items.{IsAt, at_head, in_tail, pairs-head, pairs-nil, pairs-tail, place-at, some_is}
+use Rattle.aom_debug_views.proofs.SchedulerLemmas.{IsAt, at_head, in_tail, pairs-head, pairs-nil, pairs-tail, place-at, some_is}
 use Rattle.aom_scheduler.specs.Roster.{place}
 use Rattle.aom_semantics.specs.Places.{Object, Request, Service, named, requested, service_of}
 use Rattle.aom_semantics.specs.State.{State}

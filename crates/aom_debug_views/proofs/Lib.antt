@@ -1,16 +1,25 @@
-pub mod Over
-pub mod Telling
-pub mod Showing
-pub mod Trees
-pub mod Enlisted
-pub mod Dues
-pub mod Orders
-pub mod Counting
-pub mod Tasks
-pub mod Registers
-pub mod Sums
-pub mod Once
-pub mod Words
-pub mod Contents
-pub mod Numbers
+mod Over
+mod Telling
+mod Showing
+mod Trees
+mod Enlisted
+mod Dues
+mod Orders
+mod Counting
+mod Tasks
+mod Registers
+mod Sums
+mod Once
+mod Words
+mod Contents
+mod Numbers
 mod Spaced
+pub mod DebugViewsLemmas
+pub use Rattle.aom_classes.proofs.ClassesLemmas
+pub use Rattle.aom_clients.proofs.ClientsLemmas
+pub use Rattle.aom_machine.proofs.MachineLemmas
+pub use Rattle.aom_machine_instructions.proofs.MachineInstructionsLemmas
+pub use Rattle.aom_machine_state.proofs.MachineStateLemmas
+pub use Rattle.aom_safety.proofs.SafetyLemmas
+pub use Rattle.aom_scheduler.proofs.SchedulerLemmas
+pub use Rattle.aom_semantics.proofs.SemanticsLemmas

@@ -17,9 +17,8 @@ use Rattle.aom_semantics.specs.Places.{same_place, service_of}
 use Rattle.aom_semantics.specs.State.{State}
 use Rattle.aom_semantics.specs.Servers.{is_among, is_queue}
 use Rattle.aom_safety.specs.WellTyped.{Now}
-use Rattle.aom_safety.proofs.ClientsFacts.{waiting_message}
-use Rattle.aom_safety.proofs.Owners.{declaring, field_thing_of, kind_at, lower_rank, rank, at_session, session_lower}
-use Rattle.aom_semantics.proofs.Maps.{held_lives, named_name, one_place, same_place-true, same_place_refl}
+use Rattle.aom_debug_views.proofs.SafetyLemmas.{at_session, declaring, field_thing_of, kind_at, lower_rank, rank, session_lower, waiting_message}
+use Rattle.aom_debug_views.proofs.SemanticsLemmas.{held_lives, named_name, one_place, same_place-true, same_place_refl}
 use Rattle.aom_machine_state.specs.declared.parts.Parts.{Parts}
 use Rattle.aom_machine_state.specs.Places.{value}
 use Rattle.aom_machine_state.specs.Serving.{owner_of as owner_by, waits_in}
@@ -33,7 +32,7 @@ use Rattle.aom_cells.specs.Heap.{field_of, null}
 use Rattle.aom_frames.specs.declared.item.Item.{Item as Machine_item}
 use Rattle.aom_frames.specs.declared.task.Task.{Task as Machine_task}
 use Rattle.aom_frames.specs.declared.task.Task.TheVariants.{Run as Runs_frame}
-use Rattle.aom_machine_instructions.proofs.Running.{not_null}
+use Rattle.aom_debug_views.proofs.MachineInstructionsLemmas.{not_null}
 use Rattle.std.proofs.Math.Nat.{lt_of_not-le}
 use Rattle.std.proofs.lemmas.List.{get_or_past}
 use Rattle.aom_debug_views.proofs.Showing.{as_many_items, entry_there, owned_over}

@@ -12,7 +12,7 @@ use Rattle.aom_image.specs.declared.method.Argument.TheVariants.{Word as A_word,
 use Rattle.aom_instructions.specs.declared.instr.Instr.{Instr}
 use Rattle.aom_instructions.specs.declared.instr.Target.{Target}
 use Rattle.aom_cells.specs.Heap.{null}
-use Rattle.aom_classes.proofs.Facts.{of_method}
+use Rattle.aom_debug_views.proofs.ClassesLemmas.{of_method}
 use Rattle.aom_frames.specs.declared.frame.Frame.{Frame as Machine_frame}
 use Rattle.aom_frames.specs.declared.task.Task.TheVariants.{Run as Runs_frame}
 use Rattle.aom_rules.specs.Calls.{while_called}
@@ -27,7 +27,7 @@ use Rattle.aom_shape.specs.declared.kind.Kind.TheVariants.{Maybe, Null, Own, Uns
 use Rattle.aom_semantics.specs.Owned.{over}
 use Rattle.aom_semantics.specs.Places.{Object, Register, held}
 use Rattle.aom_semantics.specs.State.{Frame, Run, State, Task}
-use Rattle.aom_semantics.proofs.Maps.{at-put_at}
+use Rattle.aom_debug_views.proofs.SemanticsLemmas.{at-put_at}
 use Rattle.aom_typings.specs.Strongest.{IsShapeAt}
 use Rattle.aom_machine_state.specs.declared.parts.Parts.{Parts}
 use Rattle.aom_machine_state.specs.Agrees.{SameFrame, number}

@@ -14,12 +14,11 @@ use Rattle.aom_frames.specs.declared.item.Item.TheVariants.{Object as Holds_obje
 use Rattle.aom_semantics.specs.Owned.{over}
 use Rattle.aom_semantics.specs.Places.{Cell, Entry, Object, Place, held, named}
 use Rattle.aom_semantics.specs.State.{Item, State}
-use Rattle.aom_semantics.proofs.Maps.{held_lives}
+use Rattle.aom_debug_views.proofs.SemanticsLemmas.{held_lives}
 use Rattle.aom_machine_state.specs.declared.parts.Parts.{Parts}
 use Rattle.aom_machine_state.specs.Agrees.{SameItem, SameItems, number, thing_in, thing_of}
 use Rattle.aom_machine_state.specs.Stands.{StandsFor}
-use Rattle.aom_machine_state.proofs.Alike.{by_items}
-use Rattle.aom_machine_state.proofs.Entries.{same_items_length}
+use Rattle.aom_debug_views.proofs.MachineStateLemmas.{by_items, same_items_length}
 use Rattle.aom_debug_words.specs.declared.answer.Answer.{Answer}
 use Rattle.aom_debug_views.proofs.Over.{BothOver, one_over}
 use Rattle.aom_debug_views.specs.Owners.{entries_of, is_entry}

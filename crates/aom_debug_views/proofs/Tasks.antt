@@ -21,9 +21,8 @@ use Rattle.aom_machine_state.specs.Agrees.{SameFrame, SameTask, SameTasks, numbe
 use Rattle.aom_machine_state.specs.Agrees.{Represents}
 use Rattle.aom_machine_state.specs.Places.{going_in, going_of, register_in, value}
 use Rattle.aom_machine_state.specs.Stands.{Machine, StandsFor}
-use Rattle.aom_machine_state.proofs.Alike.{by_tasks}
-use Rattle.aom_machine_state.proofs.Values.{same_length}
-use Rattle.aom_machine_instructions.proofs.Running.{not_null}
+use Rattle.aom_debug_views.proofs.MachineStateLemmas.{by_tasks, same_length}
+use Rattle.aom_debug_views.proofs.MachineInstructionsLemmas.{not_null}
 use Rattle.aom_debug_views.proofs.Over.{BothOver, one_over, read_over, read_there}
 use Rattle.aom_debug_views.specs.Owners.{Shows, ShowsNone, frame_over, goings_in, is_frame, is_going}
 

@@ -16,11 +16,11 @@ use Rattle.aom_cells.specs.Heap.{Lives, class_at, field_at}
 use Rattle.aom_clients.specs.Clients.{client_at, place_at, sessions_at}
 use Rattle.aom_clients.specs.declared.place.MessagePlace.{MessagePlace}
 use Rattle.aom_transcript.specs.Text.{ended}
-use Rattle.aom_semantics.proofs.Maps.{held_lives}
+use Rattle.aom_debug_views.proofs.SemanticsLemmas.{held_lives}
 use Rattle.aom_semantics.specs.Places.{Cell, Elsewhere, Field, Object, Place, Register, Sender, Session, Token, held, named, service_of}
 use Rattle.aom_semantics.specs.State.{State}
 use Rattle.aom_safety.specs.Kept.{one_if_some, sources_of}
-use Rattle.aom_safety.proofs.Sources.{has_sender}
+use Rattle.aom_debug_views.proofs.SafetyLemmas.{has_sender}
 use Rattle.aom_machine_state.specs.declared.parts.Parts.{Parts}
 use Rattle.aom_machine_state.specs.Agrees.{number}
 use Rattle.aom_machine_state.specs.Messages.{is_a_message}
@@ -32,7 +32,7 @@ use Rattle.aom_cells.specs.Tokens.{class_at as token_class}
 use Rattle.aom_debug_names.specs.Names.{Names, class_by}
 use Rattle.aom_debug_names.specs.Answers.{hearer_by}
 use Rattle.aom_debug_words.specs.declared.answer.Source.{Source}
-use Rattle.aom_machine_state.proofs.Serving.{taken_sent}
+use Rattle.aom_debug_views.proofs.MachineStateLemmas.{taken_sent}
 use Rattle.aom_run.specs.Runs.{after}
 use Rattle.aom_debug_words.specs.declared.fault.DebugFault.{DebugFault}
 use Rattle.aom_debug_views.specs.Sights.{class_in, class_of}

@@ -32,8 +32,8 @@ use Rattle.aom_shape.specs.declared.kind.Kind.TheVariants.{Null, Own, Unset, Wor
 use Rattle.aom_semantics.specs.Owned.{over}
 use Rattle.aom_semantics.specs.Places.{Cell, Object, Register, held}
 use Rattle.aom_semantics.specs.State.{Closing, Destroy, Dispatched, Frame, Run, State, Task, Trapped, Unwind, word}
-use Rattle.aom_safety.proofs.Finishing.{all_parts}
-use Rattle.aom_semantics.proofs.Maps.{at-put_at}
+use Rattle.aom_debug_views.proofs.SafetyLemmas.{all_parts}
+use Rattle.aom_debug_views.proofs.SemanticsLemmas.{at-put_at}
 use Rattle.aom_typings.specs.Shapes.{Shapes}
 use Rattle.aom_typings.specs.Strongest.{IsMethodStrongest, IsShapeAt, IsStrongest}
 use Rattle.aom_machine_state.specs.declared.parts.Parts.{Parts}
@@ -41,7 +41,7 @@ use Rattle.aom_machine_state.specs.Agrees.{Represents, SameFrame}
 use Rattle.aom_machine_state.specs.Places.{value}
 use Rattle.aom_machine_state.specs.Stands.{Machine, StandsFor}
 use Rattle.aom_machine_state.specs.Waits.{AllWait, KindSays, Waits, waiting_by, while_waiting}
-use Rattle.aom_machine.proofs.Waiting.{runs_typed}
+use Rattle.aom_debug_views.proofs.MachineLemmas.{runs_typed}
 use Rattle.aom_debug_views.specs.Frames.{ShowsWord}
 use Rattle.aom_debug_views.proofs.Tasks.{frame_there, parted, register_value, word_over, word_there}
 

@@ -1,4 +1,6 @@
-pub mod Latest
-pub mod Keeping
-pub mod Marking
-pub mod Between
+mod Latest
+mod Keeping
+mod Marking
+mod Between
+pub mod DebugWordsLemmas
+pub use Rattle.aom_text.proofs.TextLemmas

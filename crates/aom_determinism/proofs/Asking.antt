@@ -11,13 +11,8 @@ use Rattle.aom_clients.specs.Nodes.{is_connecting_at}
 use Rattle.aom_clients.specs.declared.client.Client.{Client}
 use Rattle.aom_clients.specs.declared.client.Client.TheVariants.{Connecting, Open}
 use Rattle.aom_clients.specs.declared.refusal.CommandRefusal.{CommandRefusal}
-use Rattle.aom_safety.proofs.ClientsLeave.{service_left}
-use Rattle.aom_safety.proofs.ClientsAsk.{asked_there}
-use Rattle.aom_safety.proofs.ClientsTurn.{Same, on_none, same_requested}
-use Rattle.aom_safety.proofs.Guarded.{goes_same}
-use Rattle.aom_safety.proofs.Queues.{client_here, client_there}
-use Rattle.aom_safety.proofs.Services.{held_served, service_here, service_moved, service_there, service_unnamed}
-use Rattle.aom_safety.proofs.Turned.{dispatched_so}
+use Rattle.aom_determinism.proofs.SafetyLemmas.{Same, asked_there, client_here, client_there, dispatched_so, goes_same, held_served, on_none, same_requested}
+use Rattle.aom_determinism.proofs.SafetyLemmas.{service_here, service_left, service_moved, service_there, service_unnamed}
 use Rattle.aom_transcript.specs.declared.event.ClientCommand.{ClientCommand}
 use Rattle.aom_semantics.specs.Clients.{Listed, asked_server, client_at, commanded, connecting, leaving, own, sending, told, with_client, with_message}
 use Rattle.aom_semantics.specs.Enlisted.{part_of}

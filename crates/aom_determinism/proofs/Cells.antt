@@ -7,10 +7,9 @@ use Rattle.aom_image.specs.Image.{Image}
 use Rattle.aom_image.specs.declared.method.Thing.{Thing}
 use Rattle.aom_determinism.specs.Laws.{BootOwesNothing}
 use Rattle.aom_determinism.specs.Owed.{meets, owes, serves}
-use Rattle.aom_semantics.proofs.Maps.{named_moved, named_without, requested_moved, requested_without, unnamed}
-use Rattle.aom_safety.proofs.Sessions.{session_asked, session_moved, session_set_word, session_without}
-use Rattle.aom_safety.proofs.Storing.{named_set_word, requested_set_word, requested_here, requested_there}
-use Rattle.aom_safety.proofs.Storing.{rerequested_alike, resessioned_alike, resessioned_requests}
+use Rattle.aom_determinism.proofs.SemanticsLemmas.{named_moved, named_without, requested_moved, requested_without, unnamed}
+use Rattle.aom_determinism.proofs.SafetyLemmas.{named_set_word, requested_here, requested_set_word, requested_there, rerequested_alike, resessioned_alike}
+use Rattle.aom_determinism.proofs.SafetyLemmas.{resessioned_requests, session_asked, session_moved, session_set_word, session_without}
 use Rattle.aom_semantics.specs.Natives.{is_owed, is_served_by, native_of}
 use Rattle.aom_semantics.specs.Enlisted.{thing_kind}
 use Rattle.aom_semantics.specs.Places.{Cell, Elsewhere, Object, Place, Request, Root, Tidy, held, in_session}

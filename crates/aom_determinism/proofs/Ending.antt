@@ -7,19 +7,14 @@ use Rattle.std.proofs.lemmas.Bool.{ne_eqb}
 use Rattle.aom_image.specs.Image.{Image}
 use Rattle.aom_classes.specs.Linked.{IsLinked}
 use Rattle.aom_rules.specs.Typing.{Typing, IsTyped}
-use Rattle.aom_safety.proofs.Booting.{boot_keeps}
-use Rattle.aom_safety.proofs.ClientsKeep.{clients_keep}
-use Rattle.aom_safety.proofs.Course.{well_on}
+use Rattle.aom_determinism.proofs.SafetyLemmas.{answers, boot_keeps, clients_keep, commanded_kept, goes_same, nothing, polled_rest, polled_so, step_keeps}
+use Rattle.aom_determinism.proofs.SafetyLemmas.{turn_goes_on, well_on}
 use Rattle.aom_safety.specs.Kept.{IsKept}
-use Rattle.aom_safety.proofs.Guarded.{goes_same}
-use Rattle.aom_safety.proofs.Steps.{step_keeps}
-use Rattle.aom_safety.proofs.Turning.{turn_goes_on}
 use Rattle.aom_safety.specs.Laws.{IsWired}
 use Rattle.aom_semantics.specs.Places.{Cell, named}
 use Rattle.aom_semantics.specs.State.{Task, State, Choice, Goes}
 use Rattle.aom_semantics.specs.Moves.{step, written, is_refused, IsOpen}
 use Rattle.aom_safety.specs.WellTyped.{WellTyped}
-use Rattle.aom_safety.proofs.Turned.{answers, commanded_kept, nothing, polled_rest, polled_so}
 use Rattle.aom_semantics.specs.World.{AnswersWell, boot_state, Completion, Heard, HearsWell, Environment, Reaches, Timed, Turning, by_event}
 use Rattle.aom_semantics.specs.World.{by_timer, moves, polled, turn, turned, turning, turns, IsBusy, written_turn, IsBetween}
 use Rattle.aom_transcript.specs.declared.event.TimedEvent.{TimedEvent}
@@ -27,8 +22,7 @@ use Rattle.aom_transcript.specs.declared.line.Line.{Line}
 use Rattle.aom_transcript.specs.declared.line.Ending.{Ending}
 use Rattle.aom_transcript.specs.declared.line.Ending.TheVariants.{Limit, Waiting}
 use Rattle.aom_progress.specs.Ranks.{rank}
-use Rattle.aom_progress.proofs.Ranking.{moves_lower_ranks}
-use Rattle.aom_progress.proofs.Arriving.{leads_on}
+use Rattle.aom_determinism.proofs.ProgressLemmas.{leads_on, moves_lower_ranks}
 use Rattle.aom_determinism.proofs.Sorts.{Kind, completes_one, cuts, hears_one, kills_one, kind_of, obeys_one, passes_on, picks_one, polls_one, strays, waits}
 use Rattle.aom_determinism.proofs.Lefts.{bereaved_no_more, commanded_no_more, completed_fewer, completed_no_more, event_there, events_left}
 use Rattle.aom_determinism.proofs.Lefts.{fewer_left, later_left, left, natives_left, no_more_left, passed_late, timers_in}

@@ -15,12 +15,8 @@ use Rattle.aom_rules.specs.Typing.{Typing}
 use Rattle.aom_shape.specs.Kinds.{filled}
 use Rattle.aom_shape.specs.declared.kind.Filling.TheVariants.{Full}
 use Rattle.aom_shape.specs.declared.kind.Kind.TheVariants.{Null}
-use Rattle.aom_safety.proofs.Claimed.{claim_unnamed}
-use Rattle.aom_safety.proofs.ClientsFacts.{IsAt, server_lives}
-use Rattle.aom_safety.proofs.Dropping.{queued_claim}
-use Rattle.aom_semantics.proofs.Maps.{cond_same, held_named, same_place_refl}
-use Rattle.aom_safety.proofs.Services.{service_unnamed}
-use Rattle.aom_safety.proofs.Straight.{fits_unowning}
+use Rattle.aom_determinism.proofs.SafetyLemmas.{IsAt, claim_unnamed, fits_unowning, queued_claim, queued_well, server_lives, service_unnamed}
+use Rattle.aom_determinism.proofs.SemanticsLemmas.{cond_same, held_named, same_place_refl}
 use Rattle.aom_safety.specs.Claims.{Dispatching, Dying, Ending, Layer, Mark, Method, Unwinding, by_close, declared, tasks_of, claim}
 use Rattle.aom_semantics.specs.Clients.{client_at}
 use Rattle.aom_safety.specs.Kept.{ClientsFit, is_message_of}
@@ -30,7 +26,6 @@ use Rattle.aom_semantics.specs.Servers.{has_session, session_thing}
 use Rattle.aom_semantics.specs.State.{Dispatch, Dispatched, Home}
 use Rattle.aom_semantics.specs.State.{Of_server, Parts, Seat, Stage, State, Task}
 use Rattle.aom_safety.specs.WellTyped.{AllSit, Back, Caught, Gone, Good, IsHoused, Leaves, Now, Returns, SitsFirst, Stack, WellTyped, seat_of}
-use Rattle.aom_safety.proofs.ClientsFacts.{queued_well}
 use Rattle.aom_determinism.specs.Names.{IsOneToOne, renamed, renamed_asked, renamed_cells, renamed_client, renamed_clients, renamed_dispatch, renamed_home}
 use Rattle.aom_determinism.specs.Names.{renamed_place, renamed_queue, renamed_task, renamed_tasks, renamed_other}
 use Rattle.aom_determinism.specs.There.{AllThere, IsAtPlace, accepts, dispatch_of}

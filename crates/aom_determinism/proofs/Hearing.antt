@@ -5,7 +5,7 @@ use Rattle.aom_image.specs.Image.{Image}
 use Rattle.aom_image.specs.Views.{instr_at, class_at}
 use Rattle.aom_instructions.specs.declared.instr.Instr.{Instr}
 use Rattle.std.proofs.lemmas.Bool.{and_right}
-use Rattle.aom_safety.proofs.Exchanging.{by_exchange}
+use Rattle.aom_determinism.proofs.SafetyLemmas.{by_exchange}
 use Rattle.aom_semantics.specs.Wanted.{exchange_at}
 use Rattle.aom_semantics.specs.Enlisted.{home_kind, thing_kind}
 use Rattle.aom_semantics.specs.Moves.{counted, step, step_instr, step_task}
@@ -16,7 +16,7 @@ use Rattle.aom_determinism.specs.Names.{renamed_tasks}
 use Rattle.aom_image.specs.declared.method.Thing.{Thing}
 use Rattle.std.specs.Prelude.{length, slice_get}
 use Rattle.aom_image.specs.declared.class.ClassDecl.{ClassDecl}
-use Rattle.aom_classes.proofs.Facts.{all_there}
+use Rattle.aom_determinism.proofs.ClassesLemmas.{all_there}
 use Rattle.aom_image.specs.WellFormed.{ClassFits, WellFormed}
 use Rattle.aom_roles.specs.Kinds.{is_native_kind}
 use Rattle.aom_roles.specs.Classes.{kind_in}

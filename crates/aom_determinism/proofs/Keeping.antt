@@ -9,12 +9,10 @@ use Rattle.aom_image.specs.declared.method.Argument.{Argument}
 use Rattle.aom_image.specs.declared.method.Argument.TheVariants.{Own as Takes_own, Word as Takes_word}
 use Rattle.aom_image.specs.declared.method.Gives.{Gives}
 use Rattle.aom_clients.specs.declared.client.Client.{Client}
-use Rattle.aom_safety.proofs.ClientsMoves.{IsSteady, Steady, held_elsewhere, steady_ended, steady_passed, steady_result, steady_update}
-use Rattle.aom_safety.proofs.Dropping.{SameAtName, Went, dropped, each_name, held_dropped}
-use Rattle.aom_semantics.proofs.Maps.{named_name}
-use Rattle.aom_safety.proofs.Services.{held_served, service_here, service_moved, service_there, service_unnamed}
-use Rattle.aom_safety.proofs.Storing.{ended_alike, held_set_word, rerequested_alike, resessioned_alike}
-use Rattle.aom_safety.proofs.Unslotting.{each_unslotted_alike}
+use Rattle.aom_determinism.proofs.SafetyLemmas.{IsSteady, SameAtName, Steady, Went, dropped, each_name, each_unslotted_alike, ended_alike, held_dropped}
+use Rattle.aom_determinism.proofs.SafetyLemmas.{held_elsewhere, held_served, held_set_word, rerequested_alike, resessioned_alike, service_here, service_moved}
+use Rattle.aom_determinism.proofs.SafetyLemmas.{service_there, service_unnamed, steady_ended, steady_passed, steady_result, steady_update}
+use Rattle.aom_determinism.proofs.SemanticsLemmas.{named_name}
 use Rattle.aom_semantics.specs.Calls.{passed_cells, result_cells}
 use Rattle.aom_semantics.specs.Clients.{each_unslotted}
 use Rattle.aom_semantics.specs.Effects.{Spot, Update, cells_after, spot_place}

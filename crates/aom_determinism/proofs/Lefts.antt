@@ -3,7 +3,7 @@ use Rattle.std.proofs.lemmas.Bool.Decides.{nat_tests}
 use Rattle.std.proofs.Common.{◌≡◌, ◌<◌, ◌≤◌, ◌+◌, ◌-◌, ◌*◌, ℕ, zero, suc, ℤ, Bool, true, false, List}
 use Rattle.std.proofs.Common.{[], ◌∷◌, Option, Some, None, ap, arith, cond, length, refl, ◌∙◌}
 use Rattle.std.specs.Prelude.{is_some, nat_le, not, ◌||◌}
-use Rattle.aom_active.proofs.Dues.{running}
+use Rattle.aom_determinism.proofs.ActiveLemmas.{running}
 use Rattle.aom_active.specs.Agrees.{timer_in}
 use Rattle.aom_image.specs.Image.{Image}
 use Rattle.aom_clients.specs.declared.client.Client.{Client}

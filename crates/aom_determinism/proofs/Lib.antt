@@ -1,34 +1,40 @@
-pub mod NamedCells
-pub mod Serving
-pub mod Commands
-pub mod Lines
-pub mod Naming
-pub mod Needs
-pub mod Doing
-pub mod Turning
-pub mod Steps
-pub mod Hearing
-pub mod Polling
-pub mod Oracles
-pub mod Fresh
-pub mod Keeping
-pub mod Vanishing
-pub mod Moving
-pub mod Remaining
-pub mod Asking
-pub mod Staying
-pub mod Alike
-pub mod TwoRuns
-pub mod Cells
-pub mod Services
-pub mod Effects
-pub mod Requests
-pub mod Calls
-pub mod Moves
-pub mod Found
-pub mod Turns
-pub mod Runs
-pub mod Spending
-pub mod Lefts
-pub mod Sorts
-pub mod Ending
+mod NamedCells
+mod Serving
+mod Commands
+mod Lines
+mod Naming
+mod Needs
+mod Doing
+mod Turning
+mod Steps
+mod Hearing
+mod Polling
+mod Oracles
+mod Fresh
+mod Keeping
+mod Vanishing
+mod Moving
+mod Remaining
+mod Asking
+mod Staying
+mod Alike
+mod TwoRuns
+mod Cells
+mod Services
+mod Effects
+mod Requests
+mod Calls
+mod Moves
+mod Found
+mod Turns
+mod Runs
+mod Spending
+mod Lefts
+mod Sorts
+mod Ending
+pub mod DeterminismLemmas
+pub use Rattle.aom_active.proofs.ActiveLemmas
+pub use Rattle.aom_classes.proofs.ClassesLemmas
+pub use Rattle.aom_progress.proofs.ProgressLemmas
+pub use Rattle.aom_safety.proofs.SafetyLemmas
+pub use Rattle.aom_semantics.proofs.SemanticsLemmas

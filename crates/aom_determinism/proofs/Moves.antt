@@ -1,9 +1,10 @@
 -- Each move tells what the call does that it makes: instructions on requests and sessions, the going of a cell, and all others, which make none.
 use Rattle.std.proofs.lemmas.Bool.Decides.{nat_tests}
 use Rattle.aom_image.specs.declared.class.ClassKind.{ClassKind}
-use Rattle.aom_semantics.proofs.Altering.{read_kept, sessions}
-use Rattle.aom_safety.proofs.Redeeming.{redeemed_by_alike, redeemed_good, redeeming, requested_redeemed}
-use Rattle.aom_safety.proofs.Storing.{rerequested_alike}
+use Rattle.aom_determinism.proofs.SemanticsLemmas.{held_lives, named_name, read_kept, sessions, tidy_without}
+use Rattle.aom_determinism.proofs.SafetyLemmas.{acted, all_parts, by_exchange, dispatch_layer, guarded_goes, guarded_met, method_layer, none_wanted}
+use Rattle.aom_determinism.proofs.SafetyLemmas.{redeemed_by_alike, redeemed_good, redeeming, requested_redeemed, rerequested_alike, stands_message}
+use Rattle.aom_determinism.proofs.SafetyLemmas.{steps_are_moves}
 use Rattle.aom_semantics.specs.Tokens.{is_crowded, redeemed_by, token_of}
 use Rattle.std.proofs.Common.{Bool, List, None, Option, Some, ap, cond, false, length, refl, subst, sym, true, ℕ, ℤ, ◌&&◌, ◌==◌, ◌∙◌, ◌∷◌, ◌≡◌, pos, arith}
 use Rattle.std.proofs.lemmas.Bool.{not-true, and_right, eqb-true}
@@ -21,12 +22,6 @@ use Rattle.aom_determinism.proofs.Requests.{cancelling_owed, none_owed, rests_ow
 use Rattle.aom_determinism.specs.Laws.{FollowsCall, MovesFollowCalls}
 use Rattle.aom_determinism.specs.Owed.{SessionsHold, meets, owes, serves, serves_object}
 use Rattle.aom_rules.specs.Typing.{Typing}
-use Rattle.aom_safety.proofs.Exchanging.{by_exchange, none_wanted}
-use Rattle.aom_safety.proofs.Finishing.{all_parts}
-use Rattle.aom_safety.proofs.Guarded.{guarded_goes, guarded_met}
-use Rattle.aom_safety.proofs.Layers.{dispatch_layer, method_layer}
-use Rattle.aom_semantics.proofs.Maps.{tidy_without, held_lives, named_name}
-use Rattle.aom_safety.proofs.Moving.{acted, steps_are_moves}
 use Rattle.aom_semantics.specs.Calls.{returned}
 use Rattle.aom_safety.specs.Claims.{Dispatching, Layer}
 use Rattle.aom_semantics.specs.Destruction.{vanished, gone, is_at_rest, needs_gone}
@@ -51,7 +46,6 @@ use Rattle.aom_roles.specs.Tests.{AllTrue}
 use Rattle.aom_roles.specs.Kinds.{is_token_kind}
 use Rattle.aom_determinism.proofs.Services.{serves_unqueued, unchanged_unslotted, unchanged_served, session_unqueued}
 use Rattle.aom_determinism.proofs.Services.{unchanged_completed, going_unqueued, tidy_unqueued, unchanged_unqueued}
-use Rattle.aom_safety.proofs.Things.{stands_message}
 
 -- ---- what tokens complete
 

@@ -9,11 +9,7 @@ use Rattle.aom_image.specs.Views.{arguments_of}
 use Rattle.aom_image.specs.declared.method.Gives.{Gives}
 use Rattle.aom_clients.specs.Nodes.{is_connecting_at}
 use Rattle.aom_clients.specs.declared.client.Client.{Client}
-use Rattle.aom_safety.proofs.ClientsEffects.{Fine}
-use Rattle.aom_safety.proofs.Guarded.{goes_same}
-use Rattle.aom_safety.proofs.Queues.{client_here, client_there}
-use Rattle.aom_safety.proofs.Services.{service_moved}
-use Rattle.aom_safety.proofs.Storing.{rerequested_alike}
+use Rattle.aom_determinism.proofs.SafetyLemmas.{Fine, client_here, client_there, goes_same, on_none, rerequested_alike, service_moved, steady_asked}
 use Rattle.aom_semantics.specs.Calls.{accepted_cells, accepted_clients, answered_by, ended_well, returned}
 use Rattle.aom_semantics.specs.Cleanup.{destroyed, to_trap, top_is_whole, unwound}
 use Rattle.aom_semantics.specs.Clients.{at_opening, client_at, with_client}
@@ -25,8 +21,6 @@ use Rattle.aom_semantics.specs.Servers.{opened}
 use Rattle.aom_semantics.specs.State.{A_mark, Accepts, An_object, An_operation, Destroy, Dispatch, Dispatched, Frame, Goes}
 use Rattle.aom_semantics.specs.State.{IsStuck, Item, NullOrDead, Of_server, Run, Serves, State, Task, Trapped, Unwind, resumed}
 use Rattle.aom_semantics.specs.Words.{here}
-use Rattle.aom_safety.proofs.ClientsMoves.{steady_asked}
-use Rattle.aom_safety.proofs.ClientsTurn.{on_none}
 use Rattle.aom_determinism.proofs.Keeping.{Calm, calm_itself, calm_moved, calm_passed, calm_reserved, calm_result, calm_steady, calm_update, there_by}
 use Rattle.aom_determinism.specs.There.{AllThere, AreThere, dispatch_of, waits}
 

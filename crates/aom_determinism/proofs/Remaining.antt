@@ -10,16 +10,10 @@ use Rattle.aom_clients.specs.declared.client.Client.{Client}
 use Rattle.aom_clients.specs.declared.client.Client.TheVariants.{Unconnected}
 use Rattle.aom_rules.specs.Typing.{Typing}
 use Rattle.aom_shape.specs.declared.kind.Kind.TheVariants.{Null}
-use Rattle.aom_safety.proofs.Layers.{closing_layer, dispatch_layer}
-use Rattle.aom_safety.proofs.ClientsFacts.{IsAt, ServerLives, dying_layers, server_lives}
-use Rattle.aom_safety.proofs.ClientsMoves.{held_elsewhere}
-use Rattle.aom_safety.proofs.Destroying.{Untouched, untouched}
-use Rattle.aom_safety.proofs.Guarded.{goes_same}
-use Rattle.aom_safety.proofs.Queues.{client_here, client_there}
-use Rattle.aom_safety.proofs.Services.{service_moved}
+use Rattle.aom_determinism.proofs.SafetyLemmas.{IsAt, ServerLives, Untouched, client_here, client_there, closing_layer, dispatch_layer, dying_layers}
+use Rattle.aom_determinism.proofs.SafetyLemmas.{found_first, goes_same, held_elsewhere, server_lives, service_moved, untouched}
 use Rattle.aom_safety.specs.Claims.{Dying, Layer, tasks_of}
 use Rattle.aom_semantics.specs.Clients.{client_at, with_client}
-use Rattle.aom_safety.proofs.Emptying.{found_first}
 use Rattle.aom_semantics.specs.Destruction.{closing, first_session, parting, parting_from}
 use Rattle.aom_safety.specs.Kept.{ClientsFit}
 use Rattle.aom_semantics.specs.Moves.{answered, dispatch_ends, handled, main_ends, object_ends, stage_ends}

@@ -4,7 +4,7 @@ use Rattle.std.proofs.Common.{arith, Bool, Option, Some, false, true, ℕ, ℤ, 
 use Rattle.std.specs.Ordering.{int_eq}
 use Rattle.std.specs.Prelude.{is_none, not}
 use Rattle.aom_image.specs.declared.class.ClassKind.{ClassKind}
-use Rattle.aom_safety.proofs.Turned.{recorded_so}
+use Rattle.aom_determinism.proofs.SafetyLemmas.{recorded_so}
 use Rattle.aom_determinism.specs.Owed.{takes_on}
 use Rattle.aom_semantics.specs.Destruction.{is_at_rest}
 use Rattle.aom_semantics.specs.Enlisted.{Asking, aborted, cancelled, cancelling, completed_with, taken_up, in_phase, is_active}

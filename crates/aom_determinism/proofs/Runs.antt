@@ -8,10 +8,7 @@ use Rattle.aom_determinism.proofs.Turns.{turns_kill_or_complete}
 use Rattle.aom_determinism.specs.Laws.{RunsKeepSessions}
 use Rattle.aom_determinism.specs.Owed.{SessionsHold}
 use Rattle.aom_rules.specs.Typing.{IsTyped, Typing}
-use Rattle.aom_safety.proofs.Booting.{boot_keeps}
-use Rattle.aom_safety.proofs.Steps.{step_keeps}
-use Rattle.aom_safety.proofs.Turning.{turn_goes_on}
-use Rattle.aom_safety.proofs.ClientsKeep.{clients_keep}
+use Rattle.aom_determinism.proofs.SafetyLemmas.{boot_keeps, clients_keep, step_keeps, turn_goes_on}
 use Rattle.aom_safety.specs.Kept.{IsKept}
 use Rattle.aom_safety.specs.Laws.{IsWired}
 use Rattle.aom_semantics.specs.State.{State}

@@ -11,11 +11,10 @@ use Rattle.aom_determinism.proofs.Cells.{Unchanged, unchanged_alike, unchanged_a
 use Rattle.aom_determinism.specs.Owed.{meets, owes, serves, serves_object}
 use Rattle.aom_roles.specs.Shapes.{kind_of}
 use Rattle.aom_rules.specs.Typing.{Typing}
-use Rattle.aom_safety.proofs.Dropping.{queued_claim, waits_message}
-use Rattle.aom_semantics.proofs.Maps.{same_place-true}
-use Rattle.aom_safety.proofs.Services.{named_served, requested_served}
-use Rattle.aom_safety.proofs.Sifted.{a_cell_of, cell_in, cell_in_sifted, cell_lives, cell_of, cell_of_sifted, cell_owner, cell_placed, held_cell, kept}
-use Rattle.aom_safety.proofs.Sifted.{named_cell, object_in, request_in, requested_cell, sifted, tidy_sifted, unqueued_so, unslotted_so, withdrawn_so}
+use Rattle.aom_determinism.proofs.SafetyLemmas.{a_cell_of, cell_in, cell_in_sifted, cell_lives, cell_of, cell_of_sifted, cell_owner, cell_placed, held_cell}
+use Rattle.aom_determinism.proofs.SafetyLemmas.{kept, named_cell, named_served, object_in, queued_claim, request_in, requested_cell, requested_served, sifted}
+use Rattle.aom_determinism.proofs.SafetyLemmas.{tidy_sifted, unqueued_so, unslotted_so, waits_message, withdrawn_so}
+use Rattle.aom_determinism.proofs.SemanticsLemmas.{same_place-true}
 use Rattle.aom_safety.specs.Claims.{Layer}
 use Rattle.aom_transcript.specs.declared.event.ClientCommand.{ClientCommand}
 use Rattle.aom_semantics.specs.Clients.{commanded, each_unslotted, leaving, sending}

@@ -6,14 +6,13 @@ use Rattle.aom_image.specs.Image.{Image}
 use Rattle.aom_image.specs.declared.method.Thing.{Thing}
 use Rattle.aom_roles.specs.Classes.{sessions_in}
 use Rattle.aom_roles.specs.Shapes.{kind_of}
-use Rattle.aom_safety.proofs.Counting.{dispatches_are_counted}
-use Rattle.aom_safety.proofs.Turned.{accepts, attends, dispatched_so, handles, parts, picked_rest}
+use Rattle.aom_determinism.proofs.SafetyLemmas.{accepts, attends, dispatched_so, dispatches_are_counted, handles, parts, picked_rest}
 use Rattle.aom_safety.specs.Counting.{restarts}
 use Rattle.aom_semantics.specs.Moves.{step}
 use Rattle.aom_semantics.specs.Servers.{is_server}
 use Rattle.aom_semantics.specs.State.{Choice, Goes, Seat, State, raised}
 use Rattle.aom_semantics.specs.World.{Picks, turned}
-use Rattle.aom_progress.proofs.Payers.{begun_payer, payers}
+use Rattle.aom_determinism.proofs.ProgressLemmas.{begun_payer, payers}
 use Rattle.aom_progress.specs.Payers.{class_of, payer}
 use Rattle.aom_determinism.specs.Endings.{DispatchesAreSpent, one_where, spare}
 

@@ -1,9 +1,8 @@
 -- What clients and the dispatch at hand say stays of cells that are there: as a run begins, in each move by the task at hand, and in each turn.
 use Rattle.std.proofs.lemmas.Bool.Decides.{nat_tests}
-use Rattle.aom_safety.proofs.ClientsFit.{IsFit}
-use Rattle.aom_safety.proofs.ClientsMoves.{Steady, fit_steady, steady_redeemed}
-use Rattle.aom_safety.proofs.Redeeming.{redeemed_by_alike}
-use Rattle.aom_safety.proofs.Storing.{Alike}
+use Rattle.aom_determinism.proofs.SafetyLemmas.{Alike, IsFit, IsFound, IsUsual, Polled, Steady, answers, commanded_kept, fine_effect, fit_steady, goes_same}
+use Rattle.aom_determinism.proofs.SafetyLemmas.{guarded_goes, guarded_met, message_plain, nothing, on_none, polled_so, redeemed_by_alike, same_bereaved}
+use Rattle.aom_determinism.proofs.SafetyLemmas.{same_requested, serving_plain, stands_message, steady_redeemed, turning_found, waiting_well}
 use Rattle.aom_semantics.specs.Places.{Elsewhere, Session}
 use Rattle.aom_semantics.specs.Tokens.{redeemed_by, token_of}
 use Rattle.std.proofs.Common.{arith, List, None, Option, Some, [], ap, false, length, refl, subst, sym, ℕ, ◌∙◌, ◌∷◌, ◌≡◌}
@@ -16,12 +15,6 @@ use Rattle.aom_instructions.specs.declared.instr.Instr.{Instr}
 use Rattle.aom_instructions.specs.declared.instr.Instr.TheVariants as instrs
 use Rattle.aom_roles.specs.Tests.{AllTrue}
 use Rattle.aom_rules.specs.Typing.{Typing}
-use Rattle.aom_safety.proofs.ClientsEffects.{IsUsual, fine_effect}
-use Rattle.aom_safety.proofs.ClientsFacts.{serving_plain, waiting_well}
-use Rattle.aom_safety.proofs.ClientsTurn.{IsFound, on_none, same_bereaved, same_requested, turning_found}
-use Rattle.aom_safety.proofs.Guarded.{goes_same, guarded_goes, guarded_met}
-use Rattle.aom_safety.proofs.Things.{message_plain, stands_message}
-use Rattle.aom_safety.proofs.Turned.{Polled, answers, commanded_kept, nothing, polled_so}
 use Rattle.aom_semantics.specs.Destruction.{gone, needs_gone, vanished}
 use Rattle.aom_semantics.specs.Effects.{Returns, applied, effect, needs}
 use Rattle.aom_semantics.specs.Enlisted.{completed_with, recorded, timed_out}

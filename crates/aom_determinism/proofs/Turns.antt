@@ -14,8 +14,7 @@ use Rattle.aom_determinism.proofs.Requests.{completed_owed, completed_with_owed,
 use Rattle.aom_determinism.specs.Laws.{TurnsKillOrComplete}
 use Rattle.aom_determinism.specs.Owed.{CompletesOwed, SessionsHold, has_name, killed_turned, meets, meets_turned, owes, owes_turned, serves, serves_object}
 use Rattle.aom_rules.specs.Typing.{Typing}
-use Rattle.aom_safety.proofs.Guarded.{goes_same, guarded_goes}
-use Rattle.aom_safety.proofs.Turned.{handles, accepts, attends, parts as by_parting, picked_so, Picked, recorded_so}
+use Rattle.aom_determinism.proofs.SafetyLemmas.{Picked, accepts, attends, goes_same, guarded_goes, handles, parts as by_parting, picked_so, recorded_so}
 use Rattle.aom_semantics.specs.Enlisted.{completed_with, is_active, on_request, pending, recorded, taken_up, thing_kind, timed_out}
 use Rattle.aom_roles.specs.Classes.{sessions_in, sessions_of}
 use Rattle.aom_safety.specs.Kept.{ClientsFit}

@@ -6,10 +6,7 @@ use Rattle.std.proofs.lemmas.Bool.{cases_eq, cases_lt}
 use Rattle.std.specs.Prelude.{◌++◌, ◌⊎◌}
 use Rattle.aom_image.specs.Image.{Image}
 use Rattle.aom_rules.specs.Typing.{IsTyped, Typing}
-use Rattle.aom_safety.proofs.Booting.{boot_keeps}
-use Rattle.aom_safety.proofs.ClientsKeep.{clients_keep}
-use Rattle.aom_safety.proofs.Course.{WellKept, well_on}
-use Rattle.aom_safety.proofs.Soundness.{over_idle}
+use Rattle.aom_determinism.proofs.SafetyLemmas.{WellKept, boot_keeps, clients_keep, over_idle, well_on}
 use Rattle.aom_safety.specs.Laws.{IsWired}
 use Rattle.aom_semantics.specs.Moves.{IsOpen, step, written}
 use Rattle.aom_semantics.specs.State.{Choice, Goes, Outcome, State}

@@ -6,9 +6,8 @@ use Rattle.std.specs.Prelude.{◌||◌}
 use Rattle.aom_image.specs.Image.{Image}
 use Rattle.aom_clients.specs.Nodes.{is_connecting_at}
 use Rattle.aom_clients.specs.declared.client.Client.{Client}
-use Rattle.aom_safety.proofs.ClientsGone.{queue_ended_at, sessions_ended_at}
-use Rattle.aom_safety.proofs.Dropping.{dropped, held_dropped, place_dropped, queue_dropped, tidy_dropped}
-use Rattle.aom_semantics.proofs.Maps.{held_lives, same_place-true, same_place_comm}
+use Rattle.aom_determinism.proofs.SafetyLemmas.{dropped, held_dropped, place_dropped, queue_dropped, queue_ended_at, sessions_ended_at, tidy_dropped}
+use Rattle.aom_determinism.proofs.SemanticsLemmas.{held_lives, same_place-true, same_place_comm}
 use Rattle.aom_semantics.specs.Clients.{client_at, each_unslotted, queue_ended, sessions_ended}
 use Rattle.aom_safety.specs.Kept.{ClientsFit}
 use Rattle.aom_semantics.specs.Places.{Cell, Elsewhere, Going, Object, Place, Queued, Session, Tidy, held, same_place, service_of, without}

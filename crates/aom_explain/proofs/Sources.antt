@@ -12,7 +12,7 @@ use Rattle.aom_syntax.specs.Keywords.{keyword_text}
 use Rattle.aom_syntax.specs.Methods.{label_of}
 use Rattle.aom_syntax.specs.declared.keyword.Keyword.{Keyword}
 use Rattle.aom_syntax.specs.declared.keyword.Keyword.TheVariants as k
-use Rattle.aom_meaning.proofs.Statements.{label_cut}
+use Rattle.aom_explain.proofs.MeaningLemmas.{label_cut}
 use Rattle.aom_meaning.specs.Meaning.{Pairwise}
 use Rattle.aom_meaning.specs.Source as source
 use Rattle.aom_meaning.specs.Source.{Declaration, InstructionText, MethodText, class_words, classes_of, declared_statements}

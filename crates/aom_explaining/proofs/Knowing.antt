@@ -14,7 +14,7 @@ use Rattle.aom_classes.specs.declared.fault.LinkFault.{LinkFault}
 use Rattle.aom_classes.specs.declared.fault.LinkFault.TheVariants.{ClassOrder, CallOrder, MissingRole, DoubleRole, RoleShape, BadJump}
 use Rattle.aom_classes.specs.declared.fault.LinkFault.TheVariants.{BadLoop, NoMain, OutOfMemory, BadParent, BadOverride}
 use Rattle.aom_rules.specs.Rules.{rule}
-use Rattle.aom_shape.proofs.Lists.{there}
+use Rattle.aom_explaining.proofs.ShapeLemmas.{there}
 use Rattle.aom_shape.specs.Changes.{told}
 use Rattle.aom_shape.specs.Shape.{Shape}
 use Rattle.aom_roles.specs.Tables.{at}

@@ -1,15 +1,14 @@
 -- What a call runs is alike to what it names, by an induction over what is overridden.
 use Rattle.std.proofs.Common.{Bool, IfSome, Option, Some, None, ap, false, inl, inr, length, refl, subst, suc, sym, true, zero, ℕ, ◌==◌, ◌||◌, ◌∙◌, ◌≡◌, ◌⊎◌}
 use Rattle.std.proofs.lemmas.Bool.{and_parts, eqb-true}
-use Rattle.aom_image.proofs.Given.{some_given}
+use Rattle.aom_families.proofs.ImageLemmas.{some_given}
 use Rattle.aom_image.specs.Image.{Image}
 use Rattle.aom_image.specs.Views.{method_at}
 use Rattle.aom_image.specs.declared.method.Method.{Method}
 use Rattle.aom_image.specs.declared.method.Role.TheVariants.{Do}
-use Rattle.aom_classes.proofs.Playing.{found, same_roles}
+use Rattle.aom_families.proofs.ClassesLemmas.{all_there, found, same_roles}
 use Rattle.aom_classes.specs.Roles.{is_class, or_else}
-use Rattle.aom_classes.proofs.Facts.{all_there}
-use Rattle.aom_roles.proofs.Descending.{child, itself}
+use Rattle.aom_families.proofs.RolesLemmas.{child, itself}
 use Rattle.aom_families.proofs.Sets.{has_along, has_itself}
 use Rattle.aom_roles.specs.Families.{parent_of}
 use Rattle.aom_families.specs.Laws.{BodiesAreAlike, IsAlike, RunsAlike}

@@ -1,5 +1,5 @@
 -- Descending is an order.
-use Rattle.aom_roles.proofs.Descending.{itself, no_higher, through}
+use Rattle.aom_families.proofs.RolesLemmas.{itself, no_higher, through}
 use Rattle.aom_families.specs.Laws.{DescendingIsAnOrder}
 
 pub descending_is_an_order : DescendingIsAnOrder

@@ -7,10 +7,9 @@ use Rattle.aom_image.specs.declared.class.ClassDecl.{ClassDecl}
 use Rattle.aom_image.specs.declared.method.Thing.{Thing}
 use Rattle.aom_roles.specs.Classes.{kind_at, kind_in}
 use Rattle.aom_roles.specs.Families.{descends, lower, parent_in, parent_of}
-use Rattle.aom_roles.proofs.Descending.{along, parent_below}
+use Rattle.aom_families.proofs.RolesLemmas.{along, parent_below}
 use Rattle.aom_classes.specs.Families.{AllContinue, Continues, ContinuesParent}
-use Rattle.aom_classes.proofs.Facts.{all_there}
-use Rattle.aom_classes.proofs.Playing.{role_inherits}
+use Rattle.aom_families.proofs.ClassesLemmas.{all_there, role_inherits}
 use Rattle.aom_families.specs.Laws.{FamiliesInherit}
 
 -- ---- a child and its parent

@@ -1,7 +1,11 @@
-pub mod Bodies
-pub mod Descending
-pub mod Inheriting
-pub mod Sets
-pub mod Staying
-pub mod Weighing
-pub mod Running
+mod Bodies
+mod Descending
+mod Inheriting
+mod Sets
+mod Staying
+mod Weighing
+mod Running
+pub mod FamiliesLemmas
+pub use Rattle.aom_classes.proofs.ClassesLemmas
+pub use Rattle.aom_image.proofs.ImageLemmas
+pub use Rattle.aom_roles.proofs.RolesLemmas

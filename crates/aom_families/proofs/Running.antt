@@ -1,12 +1,11 @@
 -- What a call runs is the method that it names or one that overrides it, by what is found for a class and for those above it.
 use Rattle.std.proofs.Common.{Option, Some, None, ap, inl, inr, refl, suc, true, zero, ℕ, ◌∙◌, ◌≡◌, ◌⊎◌}
 use Rattle.std.proofs.lemmas.Bool.{and_parts}
-use Rattle.aom_image.proofs.Given.{some_given}
+use Rattle.aom_families.proofs.ImageLemmas.{some_given}
 use Rattle.aom_image.specs.Image.{Image}
 use Rattle.aom_image.specs.Views.{method_at}
 use Rattle.aom_image.specs.declared.method.Method.{Method}
-use Rattle.aom_classes.proofs.Leading.{none_leads}
-use Rattle.aom_classes.proofs.Playing.{found}
+use Rattle.aom_families.proofs.ClassesLemmas.{found, none_leads}
 use Rattle.aom_classes.specs.Overriding.{body_by, body_of, found_in, leads_to, over_in, overrider_of, overrides, replaces}
 use Rattle.aom_classes.specs.Roles.{is_class, or_else}
 use Rattle.aom_roles.specs.Families.{parent_of}

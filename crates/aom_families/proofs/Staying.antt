@@ -2,12 +2,10 @@
 use Rattle.std.proofs.Common.{Bool, Option, Some, None, ap, false, refl, subst, length, suc, sym, true, zero, ℕ, ◌&&◌, ◌==◌, ◌∙◌, ◌≡◌}
 use Rattle.std.proofs.lemmas.Bool.{eq-eqb, eqb-true}
 use Rattle.aom_image.specs.Image.{Image}
-use Rattle.aom_classes.proofs.Playing.{found}
-use Rattle.aom_classes.proofs.Facts.{all_there}
-use Rattle.aom_classes.proofs.Keeping.{role_alone}
+use Rattle.aom_families.proofs.ClassesLemmas.{all_there, found, role_alone}
 use Rattle.aom_classes.specs.Overriding.{OverridesNothing, body_by, body_of, found_in, leads_in, leads_to, overrider_of, replaces}
 use Rattle.aom_classes.specs.Roles.{is_class, or_else}
-use Rattle.aom_roles.proofs.Descending.{itself, one_class}
+use Rattle.aom_families.proofs.RolesLemmas.{itself, one_class}
 use Rattle.aom_roles.specs.Families.{HasNoParents, descends, parent_of}
 use Rattle.aom_families.specs.Laws.{PlainImagesStay}
 

@@ -4,7 +4,7 @@ use Rattle.std.proofs.Common.{refl, subst, suc, sym, true, zero, ℕ, ⊎_elim, 
 use Rattle.std.specs.Prelude.{is_some, IsSome, max, nat_lt, slice_get}
 use Rattle.std.proofs.lemmas.Bool.{cases_lt, lt-ltb, ltb-true}
 use Rattle.std.proofs.lemmas.Option.{slice_get_within}
-use Rattle.aom_image.proofs.Given.{some_given}
+use Rattle.aom_families.proofs.ImageLemmas.{some_given}
 use Rattle.aom_image.specs.Image.{Image}
 use Rattle.aom_image.specs.Views.{class_at, fields_in, fields_of, method_at, method_class, class_in}
 use Rattle.aom_image.specs.declared.class.ClassDecl.{ClassDecl}
@@ -18,11 +18,7 @@ use Rattle.aom_classes.specs.Calls.{AllCallsOrdered, CallsOrdered, GoesBelow, Me
 use Rattle.aom_classes.specs.Families.{AllContinue}
 use Rattle.aom_classes.specs.Needs.{AllNeedsMet, NeedsMet}
 use Rattle.aom_classes.specs.Roles.{keeper_in, keeper_of, own_role, role_by, role_of}
-use Rattle.aom_classes.proofs.Beginning.{begins_whole}
-use Rattle.aom_classes.proofs.Facts.{all_there, at_place}
-use Rattle.aom_classes.proofs.Keeping.{none_kept}
-use Rattle.aom_classes.proofs.Mentioning.{goes_role}
-use Rattle.aom_classes.proofs.Playing.{own_found}
+use Rattle.aom_families.proofs.ClassesLemmas.{all_there, at_place, begins_whole, goes_role, none_kept, own_found}
 use Rattle.aom_families.proofs.Inheriting.{Continued, continued}
 use Rattle.aom_families.specs.Laws.{WeightsFall}
 use Rattle.aom_families.specs.Weights.{count_below, generation, own_weight, sessions_weight, weight, weight_by}

@@ -1,3 +1,3 @@
-pub mod GraphGrowing
-pub mod Going
-pub mod Growing
+mod GraphGrowing
+mod Going
+mod Growing

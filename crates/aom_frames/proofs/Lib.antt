@@ -1,6 +1,6 @@
-pub mod Boxed
-pub mod Lists
-pub mod Slots
-pub mod There
-pub mod Counts
-pub mod Entries
+mod Boxed
+mod Lists
+mod Slots
+mod There
+mod Counts
+mod Entries

@@ -1,2 +1,3 @@
-pub mod Given
-pub mod Lengths
+mod Given
+mod Lengths
+pub mod ImageLemmas

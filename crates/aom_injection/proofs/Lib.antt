@@ -1,3 +1,3 @@
-pub mod Numbers
-pub mod Marking
-pub mod Planning
+mod Numbers
+mod Marking
+mod Planning

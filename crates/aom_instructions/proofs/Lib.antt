@@ -1,3 +1,4 @@
-pub mod Again
-pub mod Finding
-pub mod Opcodes
+mod Again
+mod Finding
+mod Opcodes
+pub mod InstructionsLemmas

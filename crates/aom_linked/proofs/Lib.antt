@@ -1,8 +1,11 @@
-pub mod Flags
-pub mod Kept
-pub mod Nearest
-pub mod Noted
-pub mod Past
-pub mod Refusing
-pub mod Rows
-pub mod Unoverridden
+mod Flags
+mod Kept
+mod Nearest
+mod Noted
+mod Past
+mod Refusing
+mod Rows
+mod Unoverridden
+pub mod LinkedLemmas
+pub use Rattle.aom_classes.proofs.ClassesLemmas
+pub use Rattle.aom_roles.proofs.RolesLemmas

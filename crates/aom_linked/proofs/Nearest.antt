@@ -2,7 +2,7 @@
 use Rattle.std.proofs.Common.{Bool, IfSome, Option, Some, None, ap, arith, refl, subst, suc, sym, true, zero, ℕ, ◌<◌, ◌∙◌, ◌≡◌, ◌≤◌}
 use Rattle.aom_image.specs.Image.{Image}
 use Rattle.aom_roles.specs.Families.{parent_of}
-use Rattle.aom_roles.proofs.Descending.{parent_below}
+use Rattle.aom_linked.proofs.RolesLemmas.{parent_below}
 use Rattle.aom_classes.specs.Roles.{or_else}
 use Rattle.aom_classes.specs.Overriding.{body_by, body_of, found_in, overrider_of}
 use Rattle.aom_linked.specs.Bodies.{body_above}

@@ -12,7 +12,7 @@ use Rattle.aom_instructions.specs.declared.version.Version.{Version}
 use Rattle.aom_image.specs.declared.method.Role.{Role}
 use Rattle.aom_classes.specs.Roles.{plays, is_class, role_number, role_of}
 use Rattle.aom_linked.specs.Table.{IsRow, IsTable}
-use Rattle.aom_classes.proofs.Each.{both}
+use Rattle.aom_linked.proofs.ClassesLemmas.{both}
 
 -- a class that is not there is not this one
 pub other_class : (classes c : ℕ) (own : Option ℕ) → IfSome own (λ k. k < classes) → classes ≤ c → is_class c own ≡ false

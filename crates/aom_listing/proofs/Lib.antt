@@ -1,6 +1,7 @@
-pub mod Behind
-pub mod Lines
-pub mod PlainWords
-pub mod Split
-pub mod Stated
-pub mod Targets
+mod Behind
+mod Lines
+mod PlainWords
+mod Split
+mod Stated
+mod Targets
+pub mod ListingLemmas

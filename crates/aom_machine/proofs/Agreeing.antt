@@ -2,7 +2,7 @@
 use Rattle.std.proofs.lemmas.Bool.Decides.{nat_tests}
 use Rattle.std.proofs.lemmas.Option.{same_Some}
 use Rattle.std.proofs.Common.{Bool, List, None, Option, Some, [], ap, arith, cond, false, length, refl, subst, sym, true, ℕ, ℤ, ◌++◌, ◌<◌, ◌==◌, ◌∙◌, ◌∷◌, ◌≡◌}
-use Rattle.aom_image.proofs.Given.{false_given, none_given}
+use Rattle.aom_machine.proofs.ImageLemmas.{false_given, none_given}
 use Rattle.std.proofs.lemmas.Bool.{eq-eqb, eqb-true, ne_eqb}
 use Rattle.std.specs.Prelude.{is_some}
 use Rattle.aom_image.specs.Image.{Image}
@@ -16,10 +16,8 @@ use Rattle.aom_shape.specs.declared.kind.Filling.{Filling}
 use Rattle.aom_shape.specs.declared.kind.Filling.TheVariants.{Empty, Perhaps}
 use Rattle.aom_shape.specs.declared.kind.Kind.{Kind}
 use Rattle.aom_shape.specs.declared.kind.Kind.TheVariants.{Maybe, Null, Own, Unset, Word}
-use Rattle.aom_safety.proofs.Housing.{houses_field}
-use Rattle.aom_safety.proofs.Items.{length_forms}
-use Rattle.aom_semantics.proofs.Maps.{held_lives, one_place}
-use Rattle.aom_safety.proofs.Straight.{claim_field}
+use Rattle.aom_machine.proofs.SafetyLemmas.{claim_field, houses_field, length_forms, method_layer}
+use Rattle.aom_machine.proofs.SemanticsLemmas.{held_lives, one_place}
 use Rattle.aom_safety.specs.Claims.{Dispatching, Dying, Ending, Layer, Mark, Mark_form, Method, Object_form, Unwinding, claim}
 use Rattle.aom_safety.specs.Claims.{declared, declared_field, entry_claim, forms, home_claim, items_of, objects, own_field}
 use Rattle.aom_semantics.specs.Owned.{over}
@@ -27,13 +25,12 @@ use Rattle.aom_semantics.specs.Places.{Cell, Elsewhere, Entry, Field, Object, Pl
 use Rattle.aom_semantics.specs.State.{An_object, AtRoot, Closing, Destroy, Dispatched, Frame, Home, Inside, Item, Run, State}
 use Rattle.aom_semantics.specs.State.{Static, Task, Trapped, Unwind, field_place, home_holder, thing_holder, word}
 use Rattle.aom_safety.specs.WellTyped.{Back, Caught, Fits, Gone, Houses, IsHoused, Leaves, Now, Returns, Stack, Good}
-use Rattle.aom_safety.proofs.Layers.{method_layer}
 use Rattle.aom_machine.specs.Agreement.{Agreement, AgreesInAll, FieldsAgree, NumberSays, RegistersAgree}
 use Rattle.aom_machine_state.specs.Agrees.{Represents, number, word_at, word_in}
 use Rattle.aom_machine_state.specs.Places.{value}
 use Rattle.aom_machine_state.specs.Stands.{Machine, StandsFor}
 use Rattle.aom_machine_state.specs.Waits.{AllWait, KindSays, OthersWait, Waits}
-use Rattle.aom_machine_instructions.proofs.Running.{null_unnamed}
+use Rattle.aom_machine.proofs.MachineInstructionsLemmas.{null_unnamed}
 use Rattle.aom_machine.proofs.Waiting.{runs_typed}
 
 -- ---- registers

@@ -6,7 +6,7 @@ use Rattle.std.specs.Prelude.{filter, flat_map, map, suc, ◌||◌}
 use Rattle.std.proofs.lemmas.Bool.{eq-eqb, ne_eqb, or_parts, or_right}
 use Rattle.std.proofs.lemmas.List.{length-append}
 use Rattle.aom_machine_instructions.specs.Serving.{answers}
-use Rattle.aom_classes.proofs.Facts.{all_there}
+use Rattle.aom_machine.proofs.ClassesLemmas.{all_there}
 use Rattle.aom_clients.specs.Clients as kept
 use Rattle.aom_clients.specs.declared.entry.QueueEntry.{QueueEntry}
 use Rattle.aom_clients.specs.declared.entry.QueueEntry.TheVariants.{Close, Connect, Message}
@@ -21,16 +21,14 @@ use Rattle.aom_image.specs.declared.method.Thing.{Thing}
 use Rattle.aom_image.specs.declared.method.Thing.TheVariants.{Message as A_message, Object as An_object_of}
 use Rattle.aom_roles.specs.Things.{is_object}
 use Rattle.aom_cells.specs.Store.{count}
-use Rattle.aom_machine_state.proofs.Messages.{many_without, messages_in}
-use Rattle.aom_machine_state.proofs.Premises.{waiting_there}
+use Rattle.aom_machine.proofs.MachineStateLemmas.{many_without, messages_in, waiting_there}
 use Rattle.aom_machine_state.specs.Serving.{asked_by}
 use Rattle.aom_machine_state.specs.Stands.{StandsFor}
 use Rattle.aom_machine_state.specs.declared.parts.Parts.{Parts}
 use Rattle.aom_roles.specs.Classes.{kind_in}
 use Rattle.aom_roles.specs.Shapes.{kind_of}
-use Rattle.aom_semantics.proofs.Maps.{held_without, named_name, tidy_without}
-use Rattle.aom_safety.proofs.ClientsFacts.{waiting_message}
-use Rattle.aom_safety.proofs.Services.{service_unnamed}
+use Rattle.aom_machine.proofs.SemanticsLemmas.{held_without, named_name, tidy_without}
+use Rattle.aom_machine.proofs.SafetyLemmas.{service_unnamed, waiting_message}
 use Rattle.aom_semantics.specs.Clients.{count_messages, most_of}
 use Rattle.aom_semantics.specs.Enlisted.{thing_kind}
 use Rattle.aom_safety.specs.Kept.{ClientsFit, QueueFits}

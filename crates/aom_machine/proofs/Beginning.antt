@@ -20,9 +20,8 @@ use Rattle.aom_semantics.specs.World.{message_words}
 use Rattle.aom_machine_state.specs.declared.parts.Parts.{Parts}
 use Rattle.aom_machine_state.specs.Agrees.{Agrees, SameDispatch, SameFrame, Represents, word_at}
 use Rattle.aom_machine_state.specs.Places.{others, value_in}
-use Rattle.aom_machine_state.proofs.Entries.{mark_shows_none}
-use Rattle.aom_machine_state.proofs.Serving.{at_set}
-use Rattle.aom_machine_instructions.proofs.Running.{Aside}
+use Rattle.aom_machine.proofs.MachineStateLemmas.{at_set, mark_shows_none}
+use Rattle.aom_machine.proofs.MachineInstructionsLemmas.{Aside}
 use Rattle.aom_machine.specs.Servers.{told_first, told_words}
 use Rattle.aom_machine.specs.Turns.{begins_under}
 

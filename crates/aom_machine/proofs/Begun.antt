@@ -23,14 +23,9 @@ use Rattle.aom_machine_state.specs.LineBuffer.{LineBuffer}
 use Rattle.aom_cells.specs.Store.{Store, word_at}
 use Rattle.aom_roles.specs.Tables.{at}
 use Rattle.aom_shape.specs.declared.kind.Kind.TheVariants.{Null}
-use Rattle.aom_safety.proofs.ClientsTurn.{first_sent, fit_moved, fit_taken, tasks_begun}
-use Rattle.aom_safety.proofs.Orders.{apart_still, comes_moved, comes_served}
+use Rattle.aom_machine.proofs.SafetyLemmas.{apart_still, at_rest, comes_moved, comes_served, destroys, first_sent, fit_moved, fit_taken, fits_unowning}
+use Rattle.aom_machine.proofs.SafetyLemmas.{held_served, seats_first, service_here, service_moved, tasks_begun}
 use Rattle.aom_semantics.specs.Tokens.{TokensApart}
-use Rattle.aom_safety.proofs.Destroying.{destroys}
-use Rattle.aom_safety.proofs.Seated.{seats_first}
-use Rattle.aom_safety.proofs.Services.{held_served, service_here, service_moved}
-use Rattle.aom_safety.proofs.Signals.{at_rest}
-use Rattle.aom_safety.proofs.Straight.{fits_unowning}
 use Rattle.aom_safety.specs.Claims.{declared}
 use Rattle.aom_semantics.specs.Clients.{most_of}
 use Rattle.aom_semantics.specs.Destruction.{begun, begun_by}
@@ -46,8 +41,7 @@ use Rattle.aom_semantics.specs.State.{Of_server, Parts, Counters, Seat, Serves, 
 use Rattle.aom_safety.specs.Traps.{AllAtTraps}
 use Rattle.aom_safety.specs.WellTyped.{Keeps}
 use Rattle.aom_semantics.specs.World.{IsBetween, Picks, message_words, pick_line, picked, serving, taken_from as checked_taken}
-use Rattle.aom_progress.proofs.Payers.{begun_payer}
-use Rattle.aom_progress.proofs.Turns.{picking}
+use Rattle.aom_machine.proofs.ProgressLemmas.{begun_payer, picking}
 use Rattle.aom_progress.specs.Left.{left}
 use Rattle.aom_progress.specs.Payers.{class_of, declared_of, payer, price_of}
 use Rattle.aom_transcript.specs.declared.line.Line.TheVariants.{Serve}
@@ -58,7 +52,7 @@ use Rattle.aom_machine_state.specs.Serving.{asked_by, message_name}
 use Rattle.aom_machine_state.specs.Stands.{StandsFor}
 use Rattle.aom_machine_state.specs.Waits.{OthersWait}
 use Rattle.aom_rules.specs.Typing.{Typing}
-use Rattle.aom_machine_instructions.proofs.RoomMoves.{dispatches_with_room}
+use Rattle.aom_machine.proofs.MachineInstructionsLemmas.{dispatches_with_room}
 use Rattle.aom_machine.specs.Servers.{AreRead, Begins, IsWord, Notes, ServesFirst, accepting, attending, parting, serve_asked, taken_from}
 use Rattle.aom_machine.specs.Turns.{Takes}
 use Rattle.aom_machine.proofs.Dispatching.{accept_agrees, accept_goes, attend_agrees, attend_goes, part_agrees, part_goes}

@@ -18,29 +18,24 @@ use Rattle.aom_typings.specs.Heights.{HasHeights}
 use Rattle.aom_budget.specs.Budgets.{CostsWithin}
 use Rattle.aom_semantics.specs.Places.{Place, Elsewhere, Root}
 use Rattle.aom_safety.specs.Laws.{BootKeeps, StepKeeps, LinkedIsWired}
-use Rattle.aom_safety.proofs.ClientsKeep.{clients_keep}
+use Rattle.aom_machine.proofs.SafetyLemmas.{boot as boots_at_traps, clients_keep}
 use Rattle.aom_safety.specs.Quiet.{CalmKeeps}
 use Rattle.aom_semantics.specs.World.{main_tasks, boot_state}
 use Rattle.aom_typings.specs.Dispatches.{IsAffordable}
 use Rattle.aom_typings.specs.Prices.{Prices}
 use Rattle.aom_progress.specs.Laws.{BootWithin, MovesPay}
-use Rattle.aom_safety.proofs.Standing.{boot as boots_at_traps}
-use Rattle.aom_semantics.proofs.Maps.{cond_same}
+use Rattle.aom_machine.proofs.SemanticsLemmas.{cond_same}
 use Rattle.aom_machine_state.specs.declared.parts.Parts.{Parts}
 use Rattle.aom_machine_state.specs.Boot.{Booted}
-use Rattle.aom_machine_state.proofs.Beginning.{first_client, first_queue, services_begin}
+use Rattle.aom_machine.proofs.MachineStateLemmas.{all_same, first_client, first_queue, mark_shows_none, services_begin}
 use Rattle.aom_machine_state.specs.Places.{value}
 use Rattle.aom_machine_state.specs.Agrees.{SameTasks, SameItems, word_at, thing_in, Agrees}
 use Rattle.aom_machine.proofs.Affording.{affords}
-use Rattle.aom_machine_instructions.proofs.CallActs.{shows_null}
-use Rattle.aom_machine_state.proofs.Entries.{mark_shows_none}
+use Rattle.aom_machine.proofs.MachineInstructionsLemmas.{begun_frame, begun_registers, boot_room, shows_null}
 use Rattle.aom_machine.proofs.Paying.{boots_within, keeps_within}
-use Rattle.aom_machine_instructions.proofs.Rooms.{boot_room}
-use Rattle.aom_machine_instructions.proofs.Running.{begun_frame, begun_registers}
 use Rattle.aom_machine.proofs.Waiting.{none_waits}
 use Rattle.aom_machine_state.specs.Stands.{Sound, StandsFor}
 use Rattle.aom_cells.specs.Sessions.{Standing, is_open}
-use Rattle.aom_machine_state.proofs.CellWords.{all_same}
 use Rattle.std.proofs.lemmas.List.{length-replicate}
 
 -- three tasks, none of which has anything there

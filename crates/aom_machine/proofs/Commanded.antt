@@ -11,8 +11,8 @@ use Rattle.aom_clients.specs.declared.client.Client.TheVariants.{Unconnected}
 use Rattle.aom_clients.specs.declared.refusal.CommandRefusal.{CommandRefusal}
 use Rattle.aom_clients.specs.declared.server.Server.{Server}
 use Rattle.aom_image.specs.Image.{Image}
-use Rattle.aom_safety.proofs.Services.{held_served, named_served, service_there, service_unnamed}
-use Rattle.aom_safety.proofs.Sifted.{cell_of, cell_of_sifted, kept as kept_cell, service_cell, service_in, sifted, withdrawn_so}
+use Rattle.aom_machine.proofs.SafetyLemmas.{cell_of, cell_of_sifted, held_served, kept as kept_cell, named_served, service_cell, service_in, service_there}
+use Rattle.aom_machine.proofs.SafetyLemmas.{service_unnamed, sifted, withdrawn_so}
 use Rattle.aom_safety.specs.Kept.{ClientsFit, QueueFits}
 use Rattle.aom_semantics.specs.Clients.{Listed, asked_server, client_at, commanded, leaving, refusal, sent_message}
 use Rattle.aom_semantics.specs.Places.{Asked, Cell, Close_of, Connect_of, Elsewhere, Message_of, Place, Queued, Service, Tidy, held, named, same_place, service_of}
@@ -21,10 +21,8 @@ use Rattle.aom_semantics.specs.State.{State}
 use Rattle.aom_transcript.specs.declared.event.ClientCommand.{ClientCommand}
 use Rattle.aom_transcript.specs.declared.event.ClientCommand.TheVariants.{Close, Connect, Die, Send}
 use Rattle.aom_machine.proofs.ByCommand.{by_command, by_connecting, by_leaving, by_sending, by_told}
-use Rattle.aom_machine_state.proofs.Beside.{Beside, beside_itself, beside_message, beside_served, beside_then}
-use Rattle.aom_machine_state.proofs.Elsewhere.{SessionsSame}
-use Rattle.aom_machine_state.proofs.Serving.{at_set}
-use Rattle.aom_machine_state.proofs.Told.{Told_alike, told_served}
+use Rattle.aom_machine.proofs.MachineStateLemmas.{Beside, SessionsSame, Told_alike, at_set, beside_itself, beside_message, beside_served, beside_then}
+use Rattle.aom_machine.proofs.MachineStateLemmas.{told_served}
 use Rattle.aom_machine_state.specs.Places.{session_with}
 
 -- a place in a queue is none that is not

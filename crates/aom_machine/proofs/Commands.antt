@@ -21,22 +21,19 @@ use Rattle.aom_semantics.specs.Places.{named}
 use Rattle.aom_semantics.specs.Servers.{is_among, withdrawn}
 use Rattle.aom_semantics.specs.State.{State}
 use Rattle.aom_semantics.specs.World.{IsBetween}
-use Rattle.aom_safety.proofs.Services.{service_unnamed}
+use Rattle.aom_machine.proofs.SafetyLemmas.{service_unnamed}
 use Rattle.aom_transcript.specs.declared.event.ClientCommand.{ClientCommand}
 use Rattle.aom_transcript.specs.declared.event.ClientCommand.TheVariants.{Close, Connect, Die, Send}
 use Rattle.aom_transcript.specs.declared.line.Line.{Line}
 use Rattle.aom_transcript.specs.declared.line.Line.TheVariants.{Refuse}
 use Rattle.aom_machine_state.specs.LineBuffer.{LineBuffer}
-use Rattle.aom_machine_state.proofs.Commanding.{connect_refused, found_server, same_close, same_connect, same_die, same_send, send_refused}
-use Rattle.aom_machine_state.proofs.Leaving.{freed_kept, freed_once, messages_withdrawn}
-use Rattle.aom_machine_state.proofs.Listing.{first_asked}
-use Rattle.aom_machine_state.proofs.Sizing.{sized_close, sized_connect, sized_die, sized_send}
-use Rattle.aom_machine_state.proofs.Elsewhere.{SessionsSame}
+use Rattle.aom_machine.proofs.MachineStateLemmas.{SessionsSame, connect_refused, first_asked, found_server, freed_kept, freed_once, messages_withdrawn}
+use Rattle.aom_machine.proofs.MachineStateLemmas.{same_close, same_connect, same_die, same_send, send_refused, sized_close, sized_connect, sized_die}
+use Rattle.aom_machine.proofs.MachineStateLemmas.{sized_send, taken_sent}
 use Rattle.aom_machine_state.specs.Messages.{SameMessages}
 use Rattle.aom_machine_state.specs.Serving.{AreSized, Once, SameClients, message_name, sessionless}
 use Rattle.aom_machine_state.specs.Stands.{Machine, StandsFor}
 use Rattle.aom_machine_state.specs.declared.parts.Parts.{Parts}
-use Rattle.aom_machine_state.proofs.Serving.{taken_sent}
 use Rattle.aom_machine.proofs.Commanded.{Untouched, sessions_close, sessions_connect, sessions_die, sessions_send}
 use Rattle.aom_machine.proofs.Obeyed.{obeyed_stands, servers_below, typed_now, v}
 use Rattle.aom_machine.proofs.Obeying.{messages_close, messages_connect, messages_die, messages_send, sent_free, sent_name, free_name}

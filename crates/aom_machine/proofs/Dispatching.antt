@@ -26,11 +26,8 @@ use Rattle.aom_image.specs.declared.method.Thing.{Thing}
 use Rattle.aom_image.specs.declared.method.Thing.TheVariants.{Message as A_message, Object as An_object_of}
 use Rattle.aom_roles.specs.Things.{is_object}
 use Rattle.aom_cells.specs.Store.{word_at as message_word}
-use Rattle.aom_semantics.proofs.Maps.{held_lives, held_moved, named_moved, requested_moved}
-use Rattle.aom_safety.proofs.Services.{held_served, service_moved, service_there}
-use Rattle.aom_safety.proofs.Signals.{at_rest}
-use Rattle.aom_safety.proofs.Straight.{fits_unowning}
-use Rattle.aom_safety.proofs.Things.{message_plain}
+use Rattle.aom_machine.proofs.SemanticsLemmas.{held_lives, held_moved, named_moved, requested_moved}
+use Rattle.aom_machine.proofs.SafetyLemmas.{at_rest, fits_unowning, held_served, message_plain, service_moved, service_there, session_object}
 use Rattle.aom_semantics.specs.Destruction as checked
 use Rattle.aom_semantics.specs.Enlisted.{part_of}
 use Rattle.aom_semantics.specs.Places.{Cell, Elsewhere, Entry as Entry_at, Field, Going, In_service, Object, Place, Queued, Register}
@@ -46,27 +43,13 @@ use Rattle.aom_machine_state.specs.Serving.{SameClients, asked_by, message_name,
 use Rattle.aom_machine_state.specs.Tokens.{SameTokens}
 use Rattle.aom_semantics.specs.Tokens.{awaited}
 use Rattle.aom_machine_state.specs.Stands.{StandsFor}
-use Rattle.aom_machine_state.proofs.Beside.{beside_served, cells_beside, listed_beside, natives_beside}
-use Rattle.aom_machine_state.proofs.Tokens.{tokens_still}
-use Rattle.aom_machine_state.proofs.Told.{told_served, tokens_beside}
-use Rattle.aom_machine_state.proofs.CellFields.{served_written}
-use Rattle.aom_machine_state.proofs.Cells.{cells_moved}
-use Rattle.aom_machine_state.proofs.Elsewhere.{entry_taken, message_taken, session_released}
-use Rattle.aom_machine_state.proofs.Leaving.{waiting_once, places_in, among_places}
-use Rattle.aom_machine_state.proofs.Listing.{listed_alike}
-use Rattle.aom_machine_state.proofs.Messages.{messages_moved, messages_served}
-use Rattle.aom_machine_state.proofs.Services.{services_moved}
-use Rattle.aom_machine_state.proofs.Servicing.{same_attended, same_next, same_released}
-use Rattle.aom_machine_state.proofs.Sessions.{natives_moved}
-use Rattle.aom_machine_state.proofs.Sizing.{sized_next, sized_released}
-use Rattle.aom_machine_state.proofs.Values.{moves}
-use Rattle.aom_machine_instructions.proofs.GoingActs.{begins, destructor_same, dying_shows, server_same, thing_is}
-use Rattle.aom_safety.proofs.Owned.{session_object}
-use Rattle.aom_machine_instructions.proofs.Running.{Aside, begun_frame, begun_registers, nothing_held, object_class, object_small}
+use Rattle.aom_machine.proofs.MachineStateLemmas.{among_places, beside_served, cells_beside, cells_moved, entry_taken, is_at, listed_alike, listed_beside}
+use Rattle.aom_machine.proofs.MachineStateLemmas.{message_taken, messages_moved, messages_served, moves, names_same, natives_beside, natives_moved, places_in}
+use Rattle.aom_machine.proofs.MachineStateLemmas.{requests_moved, same_attended, same_next, same_released, served_written, services_moved, session_released}
+use Rattle.aom_machine.proofs.MachineStateLemmas.{sized_next, sized_released, tokens_beside, tokens_still, told_served, waiting_once}
+use Rattle.aom_machine.proofs.MachineInstructionsLemmas.{Aside, begins, begun_frame, begun_registers, destructor_same, dying_shows, nothing_held, object_class}
+use Rattle.aom_machine.proofs.MachineInstructionsLemmas.{object_small, server_same, thing_is}
 use Rattle.aom_machine_instructions.specs.Going.{dying}
-use Rattle.aom_machine_state.proofs.Asking.{requests_moved}
-use Rattle.aom_machine_state.proofs.Departing.{is_at}
-use Rattle.aom_machine_state.proofs.Vanishing.{names_same}
 use Rattle.aom_machine.specs.Servers.{Notes, accepting, attending, is_queued, parting, taken_from, told_words}
 use Rattle.aom_machine.proofs.Beginning.{ShowsIdle, begins_agrees, told_frame, words_shown}
 use Rattle.aom_machine.proofs.Noting.{noted_requests, waits_alike}

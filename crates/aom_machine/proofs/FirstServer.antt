@@ -15,7 +15,7 @@ use Rattle.aom_image.specs.declared.method.Thing.{Thing}
 use Rattle.aom_image.specs.declared.method.Thing.TheVariants.{Message, Object as An_object_of}
 use Rattle.aom_roles.specs.Things.{is_object}
 use Rattle.aom_clients.specs.Lists.{first_of, list_at}
-use Rattle.aom_machine_instructions.proofs.RequestActs.{kind_found}
+use Rattle.aom_machine.proofs.MachineInstructionsLemmas.{kind_found}
 use Rattle.aom_roles.specs.Classes.{kind_in, sessions_in, sessions_of}
 use Rattle.aom_roles.specs.Shapes.{kind_of}
 use Rattle.aom_semantics.specs.Clients.{is_of_class, most_of}
@@ -26,8 +26,7 @@ use Rattle.aom_machine_state.specs.Stands.{Stands}
 use Rattle.aom_machine_state.specs.declared.parts.Parts.{Parts}
 use Rattle.aom_machine.specs.Clients.{first_server}
 use Rattle.aom_machine.proofs.Turning.{class_in}
-use Rattle.aom_machine_state.proofs.CellFields.{cell_of}
-use Rattle.aom_machine_state.proofs.Cells.{class_told}
+use Rattle.aom_machine.proofs.MachineStateLemmas.{cell_of, class_told}
 
 -- what is known of it
 pub record IsFirst (p : Image) (m : Parts) (class n : ℕ) : Type 0 where

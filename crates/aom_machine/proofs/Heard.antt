@@ -16,7 +16,7 @@ use Rattle.aom_semantics.specs.State.{State}
 use Rattle.aom_transcript.specs.declared.event.ClientCommand.{ClientCommand}
 use Rattle.aom_transcript.specs.declared.event.ClientCommand.TheVariants.{Close, Connect, Die, Send}
 use Rattle.aom_transcript.specs.declared.line.Line.TheVariants.{Refuse}
-use Rattle.aom_machine_state.proofs.Sizing.{sized_close, sized_connect, sized_die, sized_send}
+use Rattle.aom_machine.proofs.MachineStateLemmas.{sized_close, sized_connect, sized_die, sized_send}
 use Rattle.aom_machine_state.specs.Progress.{progress_by}
 use Rattle.aom_machine_state.specs.Serving.{AreSized}
 use Rattle.aom_machine_state.specs.Stands.{Stands, StandsFor}

@@ -3,7 +3,7 @@ use Rattle.std.proofs.Common.{ap, arith, List, subst, sym, ℕ, ◌≡◌, []}
 use Rattle.aom_clients.specs.declared.client.Client.{Client}
 use Rattle.aom_image.specs.Image.{Image}
 use Rattle.aom_roles.specs.Tables.{at}
-use Rattle.aom_safety.proofs.Orders.{NoneComes, apart_still}
+use Rattle.aom_machine.proofs.SafetyLemmas.{NoneComes, apart_still}
 use Rattle.aom_safety.specs.Kept.{ClientsFit, TasksKept}
 use Rattle.aom_semantics.specs.Places.{Cell}
 use Rattle.aom_semantics.specs.State.{Counters, State}

@@ -9,19 +9,13 @@ use Rattle.aom_image.specs.Image.{Image}
 use Rattle.aom_roles.specs.Things.{is_object}
 use Rattle.aom_cells.specs.Heap.{Heap, Lives, class_at}
 use Rattle.aom_machine_state.specs.LineBuffer.{LineBuffer}
-use Rattle.aom_active.proofs.Cells.{asked_lives}
-use Rattle.aom_active.proofs.Asking.{queued_same}
-use Rattle.aom_active.proofs.Telling.{standing_follows}
+use Rattle.aom_machine.proofs.ActiveLemmas.{asked_lives, queued_same, standing_follows}
 use Rattle.aom_active.specs.Agrees.{Active, StandsFor as Asks_for, queued, timer_in}
 use Rattle.aom_active.specs.Meanings.{Makes, asked_anew}
 use Rattle.aom_determinism.specs.Owed.{serves}
 use Rattle.aom_cells.specs.Sessions.{Sets, Standing, is_open}
 use Rattle.aom_roles.specs.Tables.{at}
-use Rattle.aom_safety.proofs.ClientsTurn.{fit_same, same_bereaved}
-use Rattle.aom_safety.proofs.Counts.{count_bereaved}
-use Rattle.aom_safety.proofs.Orders.{comes_bereaved}
-use Rattle.aom_safety.proofs.Storing.{bereaved_alike}
-use Rattle.aom_safety.proofs.Turning.{bereaved_well}
+use Rattle.aom_machine.proofs.SafetyLemmas.{bereaved_alike, bereaved_well, comes_bereaved, count_bereaved, fit_same, same_bereaved, session_unnamed}
 use Rattle.aom_semantics.specs.Enlisted.{completed_with, is_unanswered, on_request}
 use Rattle.aom_semantics.specs.Natives.{all_bereaved, bereaved, is_owed, terminated, terminated_request}
 use Rattle.aom_semantics.specs.Places.{Cell, Request, in_session, named, requested, word_field}
@@ -30,7 +24,7 @@ use Rattle.aom_semantics.specs.Tokens.{awaited}
 use Rattle.aom_cells.specs.Tokens.{Kept as Kept_tokens}
 use Rattle.aom_semantics.specs.World.{Kills, heard_one, without_native}
 use Rattle.aom_progress.specs.Left.{is_entry}
-use Rattle.aom_progress.proofs.Pushed.{reset_same}
+use Rattle.aom_machine.proofs.ProgressLemmas.{reset_same}
 use Rattle.aom_transcript.specs.declared.line.Line.TheVariants.{Killed}
 use Rattle.aom_machine_state.specs.declared.parts.Parts.{Parts}
 use Rattle.aom_machine_state.specs.declared.progress.Progress.TheVariants.{Turned}
@@ -49,11 +43,7 @@ use Rattle.aom_semantics.specs.Clients.{count_messages}
 use Rattle.aom_machine_state.specs.Messages.{is_a_message}
 use Rattle.aom_machine_state.specs.Services.{SameServices}
 use Rattle.aom_machine_state.specs.Serving.{message_name}
-use Rattle.aom_machine_state.proofs.Listing.{listed_alike}
-use Rattle.aom_machine_state.proofs.Messages.{messages_as}
-use Rattle.aom_machine_state.proofs.Services.{services_still}
-use Rattle.aom_machine_state.proofs.Still.{still_bereaved}
-use Rattle.aom_safety.proofs.Sessions.{session_unnamed}
+use Rattle.aom_machine.proofs.MachineStateLemmas.{listed_alike, messages_as, services_still, still_bereaved}
 use Rattle.aom_machine.proofs.Idle.{stands_idle}
 use Rattle.aom_machine.proofs.Timers.{timers_same}
 use Rattle.aom_machine.proofs.Turning.{machine_between}

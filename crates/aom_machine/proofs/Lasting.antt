@@ -4,8 +4,7 @@ use Rattle.std.proofs.Common.{arith, Bool, None, Option, cond, inr, pos, refl, �
 use Rattle.std.specs.Ordering.{int_eq}
 use Rattle.std.specs.Prelude.{◌⊎◌}
 use Rattle.aom_image.specs.Image.{Image}
-use Rattle.aom_safety.proofs.Moving.{steps_are_moves}
-use Rattle.aom_safety.proofs.Resting.{IsEnd, Takes, course_ended, move_rest}
+use Rattle.aom_machine.proofs.SafetyLemmas.{IsEnd, Takes, course_ended, move_rest, steps_are_moves}
 use Rattle.aom_image.specs.declared.method.Role.TheVariants.{Error as Answers}
 use Rattle.aom_semantics.specs.Enlisted.{part_of}
 use Rattle.aom_semantics.specs.Moves.{answered, asking, dispatch_ends, failed, handled, main_ends, object_ends, stage_ends, step}

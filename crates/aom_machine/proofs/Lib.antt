@@ -1,41 +1,52 @@
-pub mod Waiting
-pub mod Nexts
-pub mod Announcing
-pub mod Lasting
-pub mod Ranking
-pub mod Progressing
-pub mod Counting
-pub mod Turning
-pub mod Timers
-pub mod Served
-pub mod Polling
-pub mod Killing
-pub mod Affording
-pub mod Paying
-pub mod Booting
-pub mod StepLines
-pub mod Settled
-pub mod Working
-pub mod RunsAfter
-pub mod Unwanted
-pub mod Wanting
-pub mod Many
-pub mod Onward
-pub mod Agreeing
-pub mod Seen
-pub mod FirstServer
-pub mod Beginning
-pub mod Dispatching
-pub mod Taking
-pub mod Answering
-pub mod ByCommand
-pub mod Commanded
-pub mod Commands
-pub mod Forgotten
-pub mod Heard
-pub mod Idle
-pub mod Noting
-pub mod Obeyed
-pub mod Obeying
-pub mod Queued
-pub mod Begun
+mod Waiting
+mod Nexts
+mod Announcing
+mod Lasting
+mod Ranking
+mod Progressing
+mod Counting
+mod Turning
+mod Timers
+mod Served
+mod Polling
+mod Killing
+mod Affording
+mod Paying
+mod Booting
+mod StepLines
+mod Settled
+mod Working
+mod RunsAfter
+mod Unwanted
+mod Wanting
+mod Many
+mod Onward
+mod Agreeing
+mod Seen
+mod FirstServer
+mod Beginning
+mod Dispatching
+mod Taking
+mod Answering
+mod ByCommand
+mod Commanded
+mod Commands
+mod Forgotten
+mod Heard
+mod Idle
+mod Noting
+mod Obeyed
+mod Obeying
+mod Queued
+mod Begun
+pub mod MachineLemmas
+pub use Rattle.aom_active.proofs.ActiveLemmas
+pub use Rattle.aom_classes.proofs.ClassesLemmas
+pub use Rattle.aom_determinism.proofs.DeterminismLemmas
+pub use Rattle.aom_image.proofs.ImageLemmas
+pub use Rattle.aom_machine_instructions.proofs.MachineInstructionsLemmas
+pub use Rattle.aom_machine_state.proofs.MachineStateLemmas
+pub use Rattle.aom_progress.proofs.ProgressLemmas
+pub use Rattle.aom_safety.proofs.SafetyLemmas
+pub use Rattle.aom_scheduler.proofs.SchedulerLemmas
+pub use Rattle.aom_semantics.proofs.SemanticsLemmas

@@ -3,7 +3,7 @@ use Rattle.std.proofs.lemmas.Bool.Decides.{nat_tests}
 use Rattle.std.proofs.Common.{arith, ap, Bool, cond, false, List, None, Option, refl, Some, subst, sym, true, ℕ, ◌==◌, ◌∙◌, ◌≡◌}
 use Rattle.std.specs.Prelude.{is_some}
 use Rattle.std.proofs.lemmas.Bool.{eqb-true}
-use Rattle.aom_active.proofs.Telling.{standing_follows, told_server}
+use Rattle.aom_machine.proofs.ActiveLemmas.{queue_same, standing_follows, told_server}
 use Rattle.aom_active.specs.Agrees.{Active, queue_in, queued}
 use Rattle.aom_active.specs.Meanings.{queued_anew}
 use Rattle.aom_clients.specs.Clients as kept
@@ -12,11 +12,10 @@ use Rattle.aom_image.specs.Image.{Image}
 use Rattle.aom_scheduler.specs.Requests.{is_server as is_kept_server, request_at}
 use Rattle.aom_semantics.specs.Places.{Cell, Object, Request, Service, named, requested, service_of}
 use Rattle.aom_semantics.specs.Servers.{has_more}
-use Rattle.aom_machine_state.proofs.Beside.{Beside, NamedBeside}
+use Rattle.aom_machine.proofs.MachineStateLemmas.{Beside, NamedBeside}
 use Rattle.aom_machine_state.specs.Agrees.{SameRequests}
 use Rattle.aom_machine_state.specs.Serving.{SameClients}
 use Rattle.aom_machine.specs.Servers.{NotesBy, is_queued}
-use Rattle.aom_active.proofs.Asking.{queue_same}
 
 -- whose queue it is does not hang on what waits there
 kind_alone : (p : Image) (o : Option Object) (v w : Service) → is_some (queue_in p o v) ≡ is_some (queue_in p o w)

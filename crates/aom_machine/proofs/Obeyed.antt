@@ -8,11 +8,7 @@ use Rattle.aom_clients.specs.Clients as kept
 use Rattle.aom_image.specs.Image.{Image}
 use Rattle.aom_image.specs.declared.method.Thing.TheVariants.{Message}
 use Rattle.aom_cells.specs.Store.{Store}
-use Rattle.aom_safety.proofs.ClientsCommand.{fit_commanded}
-use Rattle.aom_safety.proofs.ClientsFacts.{waiting_well}
-use Rattle.aom_safety.proofs.Obeying.{commanded_well}
-use Rattle.aom_safety.proofs.Orders.{NoneComes}
-use Rattle.aom_safety.proofs.Things.{message_plain}
+use Rattle.aom_machine.proofs.SafetyLemmas.{NoneComes, commanded_well, fit_commanded, message_plain, waiting_well}
 use Rattle.aom_semantics.specs.Clients.{commanded}
 use Rattle.aom_safety.specs.Kept.{ClientsFit}
 use Rattle.aom_semantics.specs.Places.{Elsewhere, Message_of, Object, Place, Queued, held, named, service_of}
@@ -21,15 +17,12 @@ use Rattle.aom_semantics.specs.State.{Counters, State}
 use Rattle.aom_semantics.specs.Tokens.{awaited, order_in}
 use Rattle.aom_safety.specs.WellTyped.{WellTyped}
 use Rattle.aom_semantics.specs.World.{heard_one}
-use Rattle.aom_progress.proofs.Pushed.{served_same, withdrawn_same}
+use Rattle.aom_machine.proofs.ProgressLemmas.{served_same, withdrawn_same}
 use Rattle.aom_progress.specs.Left.{is_entry, objects_left}
 use Rattle.aom_typings.specs.Prices.{Prices}
 use Rattle.aom_transcript.specs.declared.event.ClientCommand.{ClientCommand}
-use Rattle.aom_machine_state.proofs.Beside.{Beside, cells_beside, listed_beside, natives_beside, requests_beside}
-use Rattle.aom_machine_state.proofs.Elsewhere.{SessionsSame, shows_again}
-use Rattle.aom_machine_state.proofs.Leaving.{beside_withdrawn, holds_withdrawn, told_withdrawn}
-use Rattle.aom_machine_state.proofs.Premises.{queue_empty}
-use Rattle.aom_machine_state.proofs.Told.{Told_alike, tokens_beside}
+use Rattle.aom_machine.proofs.MachineStateLemmas.{Beside, SessionsSame, Told_alike, beside_withdrawn, cells_beside, holds_withdrawn, listed_beside}
+use Rattle.aom_machine.proofs.MachineStateLemmas.{natives_beside, queue_empty, requests_beside, shows_again, tokens_beside, told_withdrawn}
 use Rattle.aom_machine_state.specs.Agrees.{Agrees, SameRequests, Represents, word_at}
 use Rattle.aom_machine_state.specs.Messages.{SameMessages}
 use Rattle.aom_machine_state.specs.Places.{others, value}

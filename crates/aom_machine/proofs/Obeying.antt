@@ -16,16 +16,14 @@ use Rattle.aom_semantics.specs.Places.{Cell, Message_of, named}
 use Rattle.aom_semantics.specs.Servers.{asked_last, reserved, withdrawn}
 use Rattle.aom_semantics.specs.State.{State}
 use Rattle.aom_transcript.specs.declared.event.ClientCommand.TheVariants.{Close, Connect, Die, Send}
-use Rattle.aom_machine_state.proofs.Commanding.{row_close, row_die}
-use Rattle.aom_machine_state.proofs.Messages.{message_made, messages_served}
+use Rattle.aom_machine.proofs.MachineStateLemmas.{cell_small, message_made, messages_served, row_close, row_die}
 use Rattle.aom_machine_state.specs.Messages.{SameMessages}
 use Rattle.aom_machine_state.specs.Serving.{SameClients, message_name, sessionless}
-use Rattle.aom_machine_state.proofs.Cells.{cell_small}
 use Rattle.aom_machine_state.specs.Agrees.{SameCells}
 use Rattle.aom_machine.proofs.ByCommand.{by_connecting, by_told}
 use Rattle.aom_machine.specs.Clients.{Forgets, Keeps_sent, SameKept}
 use Rattle.aom_cells.specs.Heap.{Heap}
-use Rattle.aom_machine_instructions.proofs.Running.{no_thing}
+use Rattle.aom_machine.proofs.MachineInstructionsLemmas.{no_thing}
 
 -- ---- the name of what is sent
 

@@ -12,7 +12,7 @@ use Rattle.aom_safety.specs.WellTyped.{WellTyped}
 use Rattle.aom_semantics.specs.World.{boot_state, main_tasks}
 use Rattle.aom_typings.specs.Dispatches.{IsAffordable}
 use Rattle.aom_typings.specs.Prices.{Prices}
-use Rattle.aom_progress.proofs.Counted.{none_counted, steps_counted}
+use Rattle.aom_machine.proofs.ProgressLemmas.{none_counted, steps_counted}
 use Rattle.aom_progress.specs.Laws.{BootWithin, MovesPay}
 use Rattle.aom_progress.specs.Payers.{declared_of, payer}
 use Rattle.aom_machine_state.specs.Stands.{KeepsWithin}

@@ -7,20 +7,18 @@ use Rattle.aom_image.specs.Image.{Image}
 use Rattle.aom_cells.specs.Heap.{Lives}
 use Rattle.aom_machine_state.specs.LineBuffer.{LineBuffer}
 use Rattle.aom_scheduler.specs.Requests.{is_pending, request_at}
-use Rattle.aom_active.proofs.Halves.{timer_anew}
+use Rattle.aom_machine.proofs.ActiveLemmas.{timer_anew}
 use Rattle.aom_active.specs.Agrees.{Active, queued, timer_in}
 use Rattle.aom_active.specs.Meanings.{Makes}
 use Rattle.aom_determinism.specs.Owed.{owes, serves, serves_object}
-use Rattle.aom_safety.proofs.ClientsTurn.{fit_same, on_none, same_requested}
-use Rattle.aom_safety.proofs.Turned.{recorded_so}
-use Rattle.aom_safety.proofs.Turning.{completed}
+use Rattle.aom_machine.proofs.SafetyLemmas.{comes_asked, completed, fit_same, on_none, recorded_so, same_requested}
 use Rattle.aom_semantics.specs.Enlisted.{completed_with, on_request, recorded}
 use Rattle.aom_semantics.specs.Natives.{is_outstanding_at, is_owed, is_served_by}
 use Rattle.aom_semantics.specs.Places.{Object, Request, named, requested}
 use Rattle.aom_semantics.specs.State.{CompletedTwice, Goes, IsStuck, Counters, State, FitsWord}
 use Rattle.aom_semantics.specs.World.{AnswersWell, Completion, Polls, answered_by, past_native, turned, with_request}
 use Rattle.aom_progress.specs.Left.{is_entry}
-use Rattle.aom_progress.proofs.Pushed.{asked_same}
+use Rattle.aom_machine.proofs.ProgressLemmas.{asked_same}
 use Rattle.aom_machine_state.specs.declared.parts.Parts.{Parts}
 use Rattle.aom_machine_state.specs.declared.progress.Progress.TheVariants.{Turned}
 use Rattle.aom_machine_state.specs.Agrees.{Agrees, Represents, word_at}
@@ -29,13 +27,9 @@ use Rattle.aom_machine_state.specs.Progress.{progress_by}
 use Rattle.aom_machine.specs.Serving.{Finishes}
 use Rattle.aom_machine_state.specs.Stands.{Machine, Stands, StandsFor}
 use Rattle.aom_machine.specs.Turns.{Answers, Takes}
-use Rattle.aom_machine_state.proofs.CellFields.{cell_of}
+use Rattle.aom_machine.proofs.MachineStateLemmas.{cell_of, natives_asked, pending_told, services_asked}
 use Rattle.aom_machine.proofs.Served.{Placed, coded, its_place, owes_in_all, served_object, untimed, untold}
-use Rattle.aom_machine_state.proofs.Owed.{pending_told}
-use Rattle.aom_safety.proofs.Orders.{comes_asked}
 use Rattle.aom_semantics.specs.Tokens.{awaited}
-use Rattle.aom_machine_state.proofs.Services.{services_asked}
-use Rattle.aom_machine_state.proofs.Sessions.{natives_asked}
 use Rattle.aom_machine.proofs.Idle.{stands_idle}
 use Rattle.aom_machine.proofs.Timers.{timers_same}
 use Rattle.aom_machine.proofs.Turning.{alike, cells_then, machine_between, order_same, requests_asked, rest_turns, silent}

@@ -22,8 +22,8 @@ use Rattle.aom_image.specs.declared.method.Thing.{Thing}
 use Rattle.aom_image.specs.declared.method.Thing.TheVariants.{Object as An_object_of}
 use Rattle.aom_roles.specs.Things.{is_object}
 use Rattle.aom_cells.specs.Store.{IsKept}
-use Rattle.aom_semantics.proofs.Maps.{held_lives}
-use Rattle.aom_safety.proofs.Signals.{at_rest}
+use Rattle.aom_machine.proofs.SemanticsLemmas.{held_lives}
+use Rattle.aom_machine.proofs.SafetyLemmas.{at_rest, session_object}
 use Rattle.aom_safety.specs.Claims.{items_of}
 use Rattle.aom_semantics.specs.Enlisted.{part_of}
 use Rattle.aom_safety.specs.Kept.{EntryFits, QueueFits, asked_again}
@@ -36,16 +36,9 @@ use Rattle.aom_machine_state.specs.declared.parts.Parts.{Parts as Machine_parts}
 use Rattle.aom_machine_state.specs.Agrees.{number, thing_in}
 use Rattle.aom_machine_state.specs.Serving.{SameClients, asked_by, message_name}
 use Rattle.aom_machine_state.specs.Stands.{StandsFor}
-use Rattle.aom_machine_state.proofs.Departing.{is_at}
-use Rattle.aom_machine_state.proofs.Entries.{same_items_length}
-use Rattle.aom_machine_state.proofs.Leaving.{among_places, waiting_kept}
-use Rattle.aom_machine_state.proofs.Premises.{leaving_below, messages_wait, open_below}
-use Rattle.aom_machine_state.proofs.Values.{none_alike}
-use Rattle.aom_machine_state.proofs.Withdrawing.{AllWait}
-use Rattle.aom_machine_instructions.proofs.Finding.{class_fits}
-use Rattle.aom_safety.proofs.Owned.{session_object}
-use Rattle.aom_machine_instructions.proofs.RoomMoves.{none_formed}
-use Rattle.aom_machine_instructions.proofs.Running.{object_class, object_small}
+use Rattle.aom_machine.proofs.MachineStateLemmas.{AllWait, among_places, is_at, leaving_below, messages_wait, none_alike, open_below, same_items_length}
+use Rattle.aom_machine.proofs.MachineStateLemmas.{waiting_kept}
+use Rattle.aom_machine.proofs.MachineInstructionsLemmas.{class_fits, none_formed, object_class, object_small}
 use Rattle.aom_machine.specs.Servers.{HasCaller, CanTake, HasSession, IsOfClass, taken_from as machine_taken}
 use Rattle.aom_machine.specs.Turns.{IsIdle}
 use Rattle.aom_machine.proofs.Dispatching.{served_object, session_named}

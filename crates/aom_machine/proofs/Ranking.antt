@@ -16,23 +16,20 @@ use Rattle.aom_frames.specs.declared.task.Task.TheVariants.{Trapped as Is_trap, 
 use Rattle.aom_frames.specs.declared.item.Item.{Item as Machine_item}
 use Rattle.aom_progress.specs.Worths.{over_worth}
 use Rattle.aom_progress.specs.Ranks.{closing_rank, price, rank_worths, left_in, end_rank, waiting_rank, tasks_rank, destructions, operations, rank}
-use Rattle.aom_progress.proofs.Goings.{cells_stand_or_go}
-use Rattle.aom_progress.proofs.Ranking.{moves_lower_ranks}
-use Rattle.aom_progress.proofs.Rounds.{worth_alike}
-use Rattle.aom_semantics.proofs.Maps.{held_lives}
+use Rattle.aom_machine.proofs.ProgressLemmas.{cells_stand_or_go, moves_lower_ranks, worth_alike}
+use Rattle.aom_machine.proofs.SemanticsLemmas.{held_lives}
 use Rattle.aom_semantics.specs.Places.{Elsewhere, Going, Place, Root}
 use Rattle.aom_machine_state.specs.Agrees.{SameDispatch, dispatch_of, SameFrame, SameTasks, SameItems, Agrees, heard_by}
 use Rattle.aom_machine_state.specs.Places.{going_in, going_of}
-use Rattle.aom_machine_instructions.proofs.Running.{null_unnamed, object_there}
+use Rattle.aom_machine.proofs.MachineInstructionsLemmas.{null_unnamed, object_there}
 use Rattle.aom_progress.specs.RankLaws.{GoesNoMessage}
 use Rattle.aom_machine_state.specs.declared.parts.Parts.{Parts}
 use Rattle.aom_frames.specs.declared.dispatch.Dispatch.{Dispatch as Machine_dispatch}
 use Rattle.aom_machine.specs.Ranks.{ranked, operations_in, rank_in}
 use Rattle.aom_machine_state.specs.Stands.{Sound}
 use Rattle.aom_machine_instructions.specs.Moves.{Moved}
-use Rattle.aom_machine_state.proofs.Alike.{by_task, by_tasks, by_item, by_items}
-use Rattle.aom_machine_state.proofs.Values.{same_length}
-use Rattle.aom_image.proofs.Given.{cons_given}
+use Rattle.aom_machine.proofs.MachineStateLemmas.{by_item, by_items, by_task, by_tasks, same_length}
+use Rattle.aom_machine.proofs.ImageLemmas.{cons_given}
 
 -- ---- what is left of a method hangs on the number of rounds in each counter
 

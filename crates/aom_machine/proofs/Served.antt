@@ -9,11 +9,11 @@ use Rattle.aom_image.specs.declared.class.ClassKind.{ClassKind}
 use Rattle.aom_image.specs.declared.method.Thing.{Thing}
 use Rattle.aom_roles.specs.Things.{is_object}
 use Rattle.aom_roles.specs.Shapes.{kind_of}
-use Rattle.aom_semantics.proofs.Maps.{named_name}
+use Rattle.aom_machine.proofs.SemanticsLemmas.{named_name}
 use Rattle.aom_cells.specs.Heap.{class_at}
 use Rattle.aom_scheduler.specs.Requests.{request_at}
 use Rattle.aom_active.specs.Agrees.{timer_in}
-use Rattle.aom_determinism.proofs.Cells.{native_served}
+use Rattle.aom_machine.proofs.DeterminismLemmas.{native_served}
 use Rattle.aom_determinism.specs.Owed.{owes, serves}
 use Rattle.aom_semantics.specs.Enlisted.{is_unanswered, thing_kind}
 use Rattle.aom_semantics.specs.Natives.{is_owed, is_served_by, native_of}
@@ -22,7 +22,7 @@ use Rattle.aom_safety.specs.Requests.{Known, Suits, states_claim}
 use Rattle.aom_semantics.specs.State.{State}
 use Rattle.aom_semantics.specs.Tokens.{awaited}
 use Rattle.aom_semantics.specs.World.{cell_at as standing_at}
-use Rattle.aom_machine_state.proofs.Owed.{held_owed, told_alike}
+use Rattle.aom_machine.proofs.MachineStateLemmas.{held_owed, told_alike}
 use Rattle.aom_machine_state.specs.declared.parts.Parts.{Parts}
 use Rattle.aom_machine_state.specs.Messages.{is_a_message}
 use Rattle.aom_machine.specs.Serving.{serves_class}

@@ -7,7 +7,7 @@ use Rattle.aom_active.specs.Agrees.{Active}
 use Rattle.aom_active.specs.Meanings as meanings
 use Rattle.aom_scheduler.specs.Requests.{is_server as is_served, request_at}
 use Rattle.aom_machine_state.specs.LineBuffer.{LineBuffer}
-use Rattle.aom_safety.proofs.Signals.{signals_are_ready}
+use Rattle.aom_machine.proofs.SafetyLemmas.{signals_are_ready}
 use Rattle.aom_semantics.specs.Places.{named, requested}
 use Rattle.aom_semantics.specs.Servers.{is_server}
 use Rattle.aom_semantics.specs.State.{Seat, State}

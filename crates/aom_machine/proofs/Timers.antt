@@ -4,13 +4,10 @@ use Rattle.std.proofs.Common.{ap, Bool, List, None, Option, Some, [], false, ref
 use Rattle.std.specs.Prelude.{get_or, option_map}
 use Rattle.std.proofs.lemmas.Bool.{eqb-false, eqb-true, true≢false}
 use Rattle.std.proofs.lemmas.Option.{none-some, same_Some}
-use Rattle.aom_active.proofs.Dues.{next_due_is, not_both}
-use Rattle.aom_active.proofs.Firsts.{first_timer}
-use Rattle.aom_active.proofs.Halves.{Timely, timely_kept, timely_without}
-use Rattle.aom_active.proofs.Lists.{id_of}
+use Rattle.aom_machine.proofs.ActiveLemmas.{Timely, first_timer, id_of, next_due_is, not_both, timely_kept, timely_without}
 use Rattle.aom_active.specs.Agrees.{Active, ComesSooner, StandsFor as Asks_for, queued, timer_in}
 use Rattle.aom_active.specs.Meanings.{asked_anew}
-use Rattle.aom_scheduler.proofs.Items.{AreDistinct, at_head, without-at}
+use Rattle.aom_machine.proofs.SchedulerLemmas.{AreDistinct, at_head, without-at}
 use Rattle.aom_scheduler.specs.Pending as Held
 use Rattle.aom_scheduler.specs.declared.timer.Timer.{Timer as Machine_timer}
 use Rattle.aom_semantics.specs.Places.{Request, Timer}

@@ -26,21 +26,15 @@ use Rattle.aom_frames.specs.declared.task.Task.TheVariants.{Dispatched as Ends, 
 use Rattle.aom_machine_state.specs.LineBuffer.{LineBuffer}
 use Rattle.aom_transcript.specs.declared.line.Ending.TheVariants.{Limit, Waiting}
 use Rattle.aom_transcript.specs.declared.line.Line.TheVariants.{Run as Run_line}
-use Rattle.aom_active.proofs.Asking.{are_wanted, asked_set, queued_same}
-use Rattle.aom_active.proofs.Choosing as choosing
-use Rattle.aom_active.proofs.Dues.{due_first, none_due}
-use Rattle.aom_active.proofs.Telling.{standing_follows, told_server, told_state, told_status}
+use Rattle.aom_machine.proofs.ActiveLemmas.{are_wanted, asked_set, due_first, none_due, none_picked as none_chosen, picked as is_chosen, queued_same}
+use Rattle.aom_machine.proofs.ActiveLemmas.{standing_follows, told_server, told_state, told_status}
 use Rattle.aom_active.specs.Agrees.{Active, StandsFor as Asks_for, queued, timer_in}
 use Rattle.aom_active.specs.Meanings.{IsFirstDue, IsFirstReady, Makes, asked_anew}
 use Rattle.aom_active.specs.Meanings as meanings
 use Rattle.aom_scheduler.specs.Requests.{is_server as is_served, request_at}
-use Rattle.aom_safety.proofs.Signals.{at_rest, signals_are_ready}
-use Rattle.aom_safety.proofs.Storing.{Alike, rerequested_alike}
-use Rattle.aom_safety.proofs.ClientsTurn.{fit_same, on_none, same_requested}
-use Rattle.aom_safety.proofs.Turned.{picked}
-use Rattle.aom_safety.proofs.Turning.{completed, picked_well}
+use Rattle.aom_machine.proofs.SafetyLemmas.{Alike, apart_still, at_rest, comes_asked, completed, fit_same, on_none, picked, picked_well, rerequested_alike}
+use Rattle.aom_machine.proofs.SafetyLemmas.{same_requested, signals_are_ready}
 use Rattle.aom_safety.specs.Claims.{items_of}
-use Rattle.aom_safety.proofs.Orders.{apart_still, comes_asked}
 use Rattle.aom_semantics.specs.Enlisted.{on_request, part_of, status_of, taken_up, timed_out}
 use Rattle.aom_semantics.specs.Tokens.{awaited}
 use Rattle.aom_semantics.specs.Servers.{has_more, is_server}
@@ -49,8 +43,7 @@ use Rattle.aom_semantics.specs.State.{Dispatch, Dispatched, Goes, Inside, Of_obj
 use Rattle.aom_safety.specs.WellTyped.{Keeps}
 use Rattle.aom_semantics.specs.World.{Candidate, Cuts, Hears, IsBetween, Passes, Picks, Timed, Turning, Waits, dispatched, serves_first, due_of, first_due}
 use Rattle.aom_semantics.specs.World.{first_ready, is_ready, picked as any_picked, run_line, turned, with_request, written_by, ready_count, signal_count}
-use Rattle.aom_progress.proofs.Pushed.{asked_same}
-use Rattle.aom_progress.proofs.Turns.{picking}
+use Rattle.aom_machine.proofs.ProgressLemmas.{asked_same, picking}
 use Rattle.aom_progress.specs.Left.{is_entry}
 use Rattle.aom_progress.specs.Payers as payers
 use Rattle.aom_progress.specs.Payers.{declared_of, payer, price_of}
@@ -62,20 +55,13 @@ use Rattle.aom_machine_state.specs.Progress.{progress_by}
 use Rattle.aom_machine_state.specs.Stands.{KeepsWithin, Machine, Stands, StandsFor}
 use Rattle.aom_machine.specs.Steps.{progress}
 use Rattle.aom_machine.specs.Turns.{CanDispatch, Completed, Dispatches, Picked, TakesAll, running}
-use Rattle.aom_machine_state.proofs.Entries.{mark_shows_none, same_items_length}
-use Rattle.aom_machine_instructions.proofs.Finding.{class_fits}
-use Rattle.aom_machine_instructions.proofs.GoingActs.{fresh_value, fresh_word, thing_is}
-use Rattle.aom_machine_state.proofs.Overs.{over_value, over_words}
+use Rattle.aom_machine.proofs.MachineStateLemmas.{at_depth, cells_asked, going_past, mark_shows_none, natives_asked, none_alike, over_value, over_words}
+use Rattle.aom_machine.proofs.MachineStateLemmas.{register_past, same_items_length, services_asked}
+use Rattle.aom_machine.proofs.MachineInstructionsLemmas.{agrees_rest, begun_frame, class_fits, dispatches_with_room, fresh_value, fresh_word, lives_below}
+use Rattle.aom_machine.proofs.MachineInstructionsLemmas.{none_formed, room_rest, thing_is, typed_rest, within_rest}
 use Rattle.aom_machine.proofs.Idle.{stands_idle}
 use Rattle.aom_machine.proofs.Progressing.{between, is_as_far}
 use Rattle.aom_machine.proofs.Served.{ticks_untold}
-use Rattle.aom_machine_instructions.proofs.RoomMoves.{dispatches_with_room, none_formed}
-use Rattle.aom_machine_instructions.proofs.Running.{begun_frame, lives_below}
-use Rattle.aom_machine_instructions.proofs.Stepping.{agrees_rest, room_rest, typed_rest, within_rest}
-use Rattle.aom_machine_state.proofs.Values.{at_depth, going_past, none_alike, register_past}
-use Rattle.aom_machine_state.proofs.Asking.{cells_asked}
-use Rattle.aom_machine_state.proofs.Services.{services_asked}
-use Rattle.aom_machine_state.proofs.Sessions.{natives_asked}
 
 -- ---- another request of a cell
 
@@ -336,7 +322,7 @@ module _ (p : Image) (m : Parts) (s : State) (st : StandsFor (record { image = p
 
   pub found_of : (id : ℕ) → IsFirstReady id (requested s.cells) (queued p s.cells) → Found id
   found_of id f =
-      let x = choosing.picked s.cells (queued p s.cells) id st.typed.good.tidy wanted f in
+      let x = is_chosen s.cells (queued p s.cells) id st.typed.good.tidy wanted f in
       record {
         candidate = x.0;
         first = x.1;
@@ -349,7 +335,7 @@ module _ (p : Image) (m : Parts) (s : State) (st : StandsFor (record { image = p
       }
 
   pub none_found : meanings.NoneReady (requested s.cells) (queued p s.cells) → first_ready s.cells ≡ None
-  none_found none = choosing.none_picked s.cells (queued p s.cells) st.typed.good.tidy wanted none
+  none_found none = none_chosen s.cells (queued p s.cells) st.typed.good.tidy wanted none
 
   -- what waits at it
   queue_told : (id : ℕ) (k : Found id) (b : Bool) → is_server p k.candidate.seat.object.thing ≡ b → queued p s.cells id ≡ cond b (Some (has_more (service_of s.cells id).queue)) None

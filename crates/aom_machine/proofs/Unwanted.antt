@@ -8,7 +8,7 @@ use Rattle.aom_image.specs.declared.class.ClassDecl.{ClassDecl}
 use Rattle.aom_image.specs.declared.class.ClassKind.{ClassKind}
 use Rattle.aom_image.specs.declared.method.Thing.{Thing}
 use Rattle.aom_image.specs.declared.method.Thing.TheVariants.{Object as An_object_of, Message}
-use Rattle.aom_classes.proofs.Facts.{all_there}
+use Rattle.aom_machine.proofs.ClassesLemmas.{all_there}
 use Rattle.aom_roles.specs.Classes.{kind_in}
 use Rattle.aom_roles.specs.Shapes.{kind_of}
 use Rattle.aom_semantics.specs.Enlisted.{thing_kind}

@@ -23,19 +23,13 @@ use Rattle.aom_roles.specs.Tables.{at, put_at}
 use Rattle.aom_rules.specs.Typing.{Typing, shape_at}
 use Rattle.aom_shape.specs.declared.kind.Kind.{Kind}
 use Rattle.aom_shape.specs.declared.kind.Kind.TheVariants.{Null, Unset}
-use Rattle.aom_safety.proofs.Finishing.{all_parts}
-use Rattle.aom_safety.proofs.Guarded.{guarded_goes, guarded_met}
-use Rattle.aom_semantics.proofs.Maps.{at-put_at, held_without, same_place-true}
-use Rattle.aom_safety.proofs.Redeeming.{redeemed_by_alike}
-use Rattle.aom_safety.proofs.Moving.{steps_are_moves}
-use Rattle.aom_safety.proofs.Storing.{ended_alike, held_set_word, rerequested_alike, resessioned_alike}
-use Rattle.aom_safety.proofs.Straight.{register_fits}
+use Rattle.aom_machine.proofs.SafetyLemmas.{all_parts, each_unslotted_alike, ended_alike, guarded_goes, guarded_met, held_dropped, held_served, held_set_word}
+use Rattle.aom_machine.proofs.SafetyLemmas.{method_layer, queue_dropped, redeemed_by_alike, register_fits, rerequested_alike, resessioned_alike}
+use Rattle.aom_machine.proofs.SafetyLemmas.{steps_are_moves}
+use Rattle.aom_machine.proofs.SemanticsLemmas.{at-put_at, held_without, same_place-true}
 use Rattle.aom_semantics.specs.Calls.{accepted_cells, needs_each, needs_entering, needs_target, passed_cells, result_cells, returned}
 use Rattle.aom_semantics.specs.Cleanup.{to_trap, top_place}
 use Rattle.aom_semantics.specs.Destruction.{begun, destructed, line_on, first_session, parting}
-use Rattle.aom_safety.proofs.Dropping.{held_dropped, queue_dropped}
-use Rattle.aom_safety.proofs.Services.{held_served}
-use Rattle.aom_safety.proofs.Unslotting.{each_unslotted_alike}
 use Rattle.aom_semantics.specs.Clients.{each_unslotted}
 use Rattle.aom_semantics.specs.Servers.{without_queue}
 use Rattle.aom_semantics.specs.Effects.{Calls, Cancels, Carried, Counts, Destroys, Destroys_last, Effect, Goes_on, Handed, Jumps}
@@ -51,12 +45,10 @@ use Rattle.aom_safety.specs.Steps.{Acts, Arrives, Clears, Comes_out, Empties, En
 use Rattle.aom_safety.specs.WellTyped.{Fits, Good, WellTyped, WordFits}
 use Rattle.aom_semantics.specs.Words.{here, stored}
 use Rattle.aom_semantics.specs.World.{boot_state}
-use Rattle.aom_safety.proofs.Layers.{method_layer}
 use Rattle.aom_machine_instructions.specs.Acts.{requested}
 use Rattle.aom_machine_state.specs.Waits.{AllWait, KindSays, OthersWait, Waits, while_waiting}
-use Rattle.aom_machine_state.proofs.Depths.{held_apart}
-use Rattle.aom_machine_instructions.proofs.Running.{no_word}
-use Rattle.aom_machine_instructions.proofs.Stepping.{at_step, step_of_instr}
+use Rattle.aom_machine.proofs.MachineStateLemmas.{held_apart}
+use Rattle.aom_machine.proofs.MachineInstructionsLemmas.{at_step, no_word, step_of_instr}
 use Rattle.std.specs.Ordering.{int_eq}
 use Rattle.aom_image.specs.declared.method.Role.TheVariants.{Error as Answers}
 use Rattle.aom_roles.specs.Tests.{AllTrue}

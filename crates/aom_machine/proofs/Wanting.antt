@@ -18,7 +18,7 @@ use Rattle.aom_semantics.specs.Enlisted.{thing_kind}
 use Rattle.aom_semantics.specs.Natives.{is_dead, is_owed, native_of}
 use Rattle.aom_semantics.specs.Places.{Going, Object, held as owned_at, in_session, named, requested}
 use Rattle.aom_semantics.specs.State.{AtRoot, Destroy, Home, Inside, State, Static, Task, word}
-use Rattle.aom_safety.proofs.Exchanging.{HasWords, has_words}
+use Rattle.aom_machine.proofs.SafetyLemmas.{HasWords, has_words}
 use Rattle.aom_semantics.specs.Wanted.{Exchange, Nothing, An_open, A_start, An_ask, A_cancel, A_close, exchange, exchange_at, Wanted, Asks, Cancels}
 use Rattle.aom_semantics.specs.Wanted.{Closes, Starts, is_served, wanted, wanted_at, wanted_by, wanted_going, wanted_gone, wanted_here, wanted_task}
 use Rattle.aom_safety.specs.WellTyped.{Keeps}
@@ -34,14 +34,10 @@ use Rattle.aom_machine_state.specs.Agrees.{home_number, thing_in}
 use Rattle.aom_machine_state.specs.Fields.{this}
 use Rattle.aom_machine_state.specs.Stands.{StandsFor}
 use Rattle.aom_machine.specs.Wanted.{as_wanted, wanted_call, wanted_of, word_here}
-use Rattle.aom_machine_instructions.proofs.FieldActs.{housed, inside_number, inside_object, inside_there, this_is}
-use Rattle.aom_machine_instructions.proofs.RequestActs.{kind_same}
-use Rattle.aom_machine_instructions.proofs.Finding.{object_lives}
-use Rattle.aom_machine_instructions.proofs.GoingActs.{by_going, going_object, number_of}
-use Rattle.aom_machine_instructions.proofs.Running.{an_open, object_class}
-use Rattle.aom_machine_instructions.proofs.Stepping.{at_step, cell_found, frame_of, going_of, met, step_of_instr}
-use Rattle.aom_semantics.proofs.Maps.{held_lives}
-use Rattle.aom_machine_instructions.proofs.WordActs.{word_read}
+use Rattle.aom_machine.proofs.MachineInstructionsLemmas.{an_open, at_step, by_going, cell_found, frame_of, going_object, going_of, housed, inside_number}
+use Rattle.aom_machine.proofs.MachineInstructionsLemmas.{inside_object, inside_there, kind_same, met, number_of, object_class, object_lives, step_of_instr}
+use Rattle.aom_machine.proofs.MachineInstructionsLemmas.{this_is, word_read}
+use Rattle.aom_machine.proofs.SemanticsLemmas.{held_lives}
 
 both_not : (a b : Bool) → (not a && not b) ≡ not (a || b)
 both_not x b = grind arith

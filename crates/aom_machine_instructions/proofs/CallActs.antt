@@ -10,7 +10,7 @@ use Rattle.aom_semantics.specs.State.{Dispatch, Dispatched, Counters, State}
 use Rattle.aom_semantics.specs.Calls.{below_top}
 use Rattle.aom_safety.specs.Claims.{Dispatching}
 use Rattle.aom_safety.specs.WellTyped.{WellTyped, Good, Fits}
-use Rattle.aom_safety.proofs.Layers.{dispatch_layer}
+use Rattle.aom_machine_instructions.proofs.SafetyLemmas.{dispatch_layer, fits_unowning}
 use Rattle.aom_frames.specs.Items.{Stack as Machine_items, entry_in}
 use Rattle.aom_frames.specs.declared.item.Item.TheVariants.{Mark as Is_mark}
 use Rattle.aom_frames.specs.declared.task.Task.TheVariants.{Dispatched as Ends}
@@ -20,12 +20,11 @@ use Rattle.aom_machine_state.specs.Places.{others, value_in}
 use Rattle.aom_machine_state.specs.Agrees.{word_at, Represents, SameDispatch, number, Agrees}
 use Rattle.aom_machine_instructions.specs.Acts.{Does}
 use Rattle.aom_machine_state.specs.Places as places
-use Rattle.aom_machine_state.proofs.Entries.{mark_shows_none}
+use Rattle.aom_machine_instructions.proofs.MachineStateLemmas.{mark_shows_none}
 use Rattle.aom_machine_instructions.proofs.GoingOn.{goes_on_as}
 use Rattle.aom_machine_instructions.proofs.Running.{agrees_with, aside_of, aside_unmarked}
 use Rattle.aom_machine_instructions.proofs.WordActs.{plain_does}
-use Rattle.aom_safety.proofs.Straight.{fits_unowning}
-use Rattle.aom_semantics.proofs.Maps.{cond_same}
+use Rattle.aom_machine_instructions.proofs.SemanticsLemmas.{cond_same}
 
 pub stop_does : (m : Parts) (refused : List ℕ) → Does refused Stop m (places.next (record m { rest = record m.rest { stopped = true } }))
 stop_does m refused = plain_does m (places.next (record m { rest = record m.rest { stopped = true } })) refused Stop refl (λ p h c met.

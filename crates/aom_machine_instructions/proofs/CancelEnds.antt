@@ -15,7 +15,7 @@ use Rattle.aom_roles.specs.Roles.{is_cancel}
 use Rattle.aom_roles.specs.Kinds.{is_active_kind}
 use Rattle.aom_cells.specs.Heap.{Lives, cell_at, null}
 use Rattle.aom_classes.specs.Linked.{IsLinked}
-use Rattle.aom_classes.proofs.Facts.{all_there}
+use Rattle.aom_machine_instructions.proofs.ClassesLemmas.{all_there}
 use Rattle.aom_roles.specs.Shapes.{IsShaped, is_active_in}
 use Rattle.aom_rules.specs.Requests.{own_kind}
 use Rattle.aom_semantics.specs.Calls.{result_needs}
@@ -25,15 +25,11 @@ use Rattle.aom_semantics.specs.Places.{Cell, Object, Request, named, requested, 
 use Rattle.aom_safety.specs.Requests.{Known, Suits, states_claim}
 use Rattle.aom_semantics.specs.State.{AtRoot, Choice, Home, Inside, Run, Static}
 use Rattle.aom_safety.specs.WellTyped.{Good}
-use Rattle.aom_safety.proofs.Finishing.{all_parts}
-use Rattle.aom_safety.proofs.Layers.{method_layer}
-use Rattle.aom_safety.proofs.Requesting.{active_listed, main_of_none, of_object}
-use Rattle.aom_safety.proofs.Storing.{ended_alike}
-use Rattle.aom_safety.proofs.Straight.{At}
+use Rattle.aom_machine_instructions.proofs.SafetyLemmas.{At, active_listed, all_parts, ended_alike, main_of_none, method_layer, of_object}
 use Rattle.aom_scheduler.specs.Requests.{is_pending, request_at}
 use Rattle.aom_active.specs.Agrees.{Active, StandsFor, queued}
 use Rattle.aom_active.specs.Meanings.{asked_anew, is_being_cancelled}
-use Rattle.aom_active.proofs.Telling.{told_cancelling, told_over}
+use Rattle.aom_machine_instructions.proofs.ActiveLemmas.{told_cancelling, told_over}
 use Rattle.aom_frames.specs.Tasks.{Runs, method_here, this_here}
 use Rattle.aom_machine_state.specs.declared.parts.Parts.{Parts}
 use Rattle.aom_machine_instructions.specs.Acts.{At_hand, requested as counted}
@@ -42,15 +38,12 @@ use Rattle.aom_machine_state.specs.Fields.{this}
 use Rattle.aom_machine_instructions.specs.Next.{IsNext, counting}
 use Rattle.aom_machine_state.specs.Places.{value}
 use Rattle.aom_machine_instructions.specs.Requests.{EndsCancel, IsCancelled, IsOver}
-use Rattle.aom_machine_state.proofs.CellFields.{cell_of}
+use Rattle.aom_machine_instructions.proofs.MachineStateLemmas.{cell_of, cells_asked, natives_asked, services_ended}
 use Rattle.aom_machine_instructions.proofs.FieldActs.{housed, inside_object}
 use Rattle.aom_machine_instructions.proofs.RequestActs.{in_one, requests_set}
-use Rattle.aom_machine_state.proofs.Services.{services_ended}
 use Rattle.aom_machine_instructions.proofs.Housing.{at_hand, needs_met}
 use Rattle.aom_machine_instructions.proofs.Running.{by_top}
 use Rattle.aom_machine_instructions.proofs.Stepping.{at_step}
-use Rattle.aom_machine_state.proofs.Asking.{cells_asked}
-use Rattle.aom_machine_state.proofs.Sessions.{natives_asked}
 
 -- ---- the method works on an active object
 

@@ -26,11 +26,9 @@ use Rattle.aom_safety.specs.Quiet.{IsCalm, calm, is_clearing}
 use Rattle.aom_semantics.specs.State.{Dispatched, Frame, Item, Run, State, Task, Trapped, Unwind}
 use Rattle.aom_safety.specs.Traps.{marks, traps}
 use Rattle.aom_safety.specs.WellTyped.{Back, Gone, Leaves, Now, Returns, Stack, WellTyped}
-use Rattle.aom_safety.proofs.Layers.{method_layer}
-use Rattle.aom_safety.proofs.Trapping.{all_matched}
+use Rattle.aom_machine_instructions.proofs.SafetyLemmas.{all_matched, method_layer}
 use Rattle.aom_machine_state.specs.Room.{AllRunUnder, AllUnder, HasRoom, IsUnder, entries_in}
-use Rattle.aom_machine_state.proofs.Depths.{Roomy}
-use Rattle.aom_machine_state.proofs.Heights.{stands_here}
+use Rattle.aom_machine_instructions.proofs.MachineStateLemmas.{Roomy, stands_here}
 use Rattle.aom_machine_instructions.proofs.RoomActs.{may_call, pushes}
 use Rattle.aom_machine_instructions.proofs.RoomMoves.{line_goes, none_going_there, tables_of}
 

@@ -12,7 +12,7 @@ use Rattle.aom_frames.specs.declared.item.Item.TheVariants.{Object as Holds_obje
 use Rattle.aom_rules.specs.Typing.{Typing}
 use Rattle.aom_semantics.specs.Cleanup.{dealt_with as deals_with, destroyed, operation_frame, tops_entry, top_is_whole, top_place}
 use Rattle.aom_semantics.specs.Places.{moved, Place, Register, Entry, Going, Object, changed, held}
-use Rattle.aom_safety.proofs.Dealing.{dealing as dealing_effect}
+use Rattle.aom_machine_instructions.proofs.SafetyLemmas.{dealing as dealing_effect, entry_object}
 use Rattle.aom_semantics.specs.State.{Static, frame_of, Run, Item, An_object, State}
 use Rattle.aom_safety.specs.WellTyped.{WellTyped}
 use Rattle.aom_frames.specs.Tasks.{fresh, with_register}
@@ -28,15 +28,14 @@ use Rattle.aom_machine_instructions.specs.Cleanup.{TopLives, dealing, dealt_with
 use Rattle.aom_machine_instructions.specs.Going.{destructor_at, is_server_class}
 use Rattle.aom_image.specs.WellFormed.{WellFormed}
 use Rattle.aom_cells.specs.Heap.{class_at}
-use Rattle.aom_semantics.proofs.Maps.{held_lives}
-use Rattle.aom_safety.proofs.Owned.{entry_object}
+use Rattle.aom_machine_instructions.proofs.SemanticsLemmas.{held_lives}
 use Rattle.aom_machine_state.specs.Places.{others, value_in, with_items}
-use Rattle.aom_machine_state.proofs.Alike.{Entries_alike, entries_alike, entries_own, entries_run}
-use Rattle.aom_machine_state.proofs.Entries.{owns_none, same_items_length, top_value, value_alike, value_popped}
+use Rattle.aom_machine_instructions.proofs.MachineStateLemmas.{Entries_alike, entries_alike, entries_own, entries_run, going_past, kept, owns_none}
+use Rattle.aom_machine_instructions.proofs.MachineStateLemmas.{same_items_length, same_length, top_value, value_alike, value_popped, value_written}
+use Rattle.aom_machine_instructions.proofs.MachineStateLemmas.{word_written, writes}
 use Rattle.aom_machine_instructions.proofs.GoingActs.{begins, destructor_same, server_same, dying_shows, fresh_value, fresh_word}
 use Rattle.aom_machine_instructions.proofs.ReturnActs.{none_above}
 use Rattle.aom_machine_instructions.proofs.Running.{agrees_with, aside_moved, aside_of, aside_with, begun_frame, nothing_held, object_small, reframed}
-use Rattle.aom_machine_state.proofs.Values.{going_past, kept, same_length, value_written, word_written, writes}
 use Rattle.aom_machine_instructions.proofs.WordActs.{plain_at}
 
 module _ (p : Image) (formed : WellFormed p) (m : Parts) (t : Typing) (s : State) (typed : WellTyped p t s) (agrees : Agrees p m s) where

@@ -13,7 +13,7 @@ use Rattle.aom_image.specs.declared.method.Role.TheVariants.{Error as Answers}
 use Rattle.aom_cells.specs.Heap.{null}
 use Rattle.aom_classes.specs.Roles.{role_of}
 use Rattle.aom_rules.specs.Typing.{Typing}
-use Rattle.aom_safety.proofs.View.{under_dispatch}
+use Rattle.aom_machine_instructions.proofs.SafetyLemmas.{dispatch_layer, sits_lives, under_dispatch}
 use Rattle.aom_semantics.specs.Places.{Cell, Place, Register, Elsewhere, Root, Object, changed, held}
 use Rattle.aom_transcript.specs.declared.line.Ending.TheVariants.{Stopped, MainLeft as Left_with}
 use Rattle.aom_semantics.specs.State.{Dispatch, guarded, Home, Inside, Frame, frame_of, Seat, Asks, Task, Run, Dispatched, Counters, State, Choice, raised}
@@ -38,17 +38,15 @@ use Rattle.aom_machine_instructions.specs.Going.{ending_here, uprooted}
 use Rattle.aom_machine_state.specs.Agrees.{word_at, Represents, dispatch_of, number, seat_of, Agrees}
 use Rattle.aom_machine_state.specs.Stands.{Stands}
 use Rattle.aom_machine_instructions.specs.Moves.{Moves}
-use Rattle.aom_machine_state.proofs.Alike.{Alike, An_end, Tops, alike, both_end, end_on_top, tops}
+use Rattle.aom_machine_instructions.proofs.MachineStateLemmas.{Alike, An_end, Tops, alike, both_end, end_on_top, kept, none_alike, tops, value_written}
+use Rattle.aom_machine_instructions.proofs.MachineStateLemmas.{word_written, writes}
 use Rattle.aom_machine_instructions.proofs.Finding.{class_fits, root_lives}
 use Rattle.aom_machine_instructions.proofs.Running.{object_small}
-use Rattle.aom_safety.proofs.Layers.{dispatch_layer}
-use Rattle.aom_safety.proofs.Services.{sits_lives}
 use Rattle.aom_safety.specs.WellTyped.{Good, SitsFirst}
 use Rattle.aom_safety.specs.WellTyped.{seat_of as checked_seat}
 use Rattle.aom_semantics.specs.State.{Object_left}
 use Rattle.aom_machine_state.specs.Agrees.{subject_of}
 use Rattle.aom_semantics.specs.Places.{named}
-use Rattle.aom_machine_state.proofs.Values.{kept, none_alike, value_written, word_written, writes}
 use Rattle.aom_machine_instructions.proofs.Running.{agrees_with, an_open, aside_counted, aside_of, begun_frame, not_null, reframed}
 use Rattle.aom_machine_instructions.proofs.CallActs.{Closing, closing, shows_null}
 use Rattle.aom_machine_instructions.proofs.OnTop.{ending_of}

@@ -5,7 +5,7 @@ use Rattle.std.proofs.Common.{slice_index_or, subst, sym, true, ℕ, ℤ, ◌&&�
 use Rattle.std.specs.Prelude.{is_some, ◌||◌}
 use Rattle.std.proofs.lemmas.Bool.{eq-eqb, eqb-true, false≢true}
 use Rattle.std.proofs.lemmas.List.Folds.{list_any_at}
-use Rattle.aom_active.proofs.Asking.{asked_set, newest}
+use Rattle.aom_machine_instructions.proofs.ActiveLemmas.{asked_set, newest}
 use Rattle.aom_active.specs.Agrees.{Active, queued}
 use Rattle.aom_active.specs.Meanings.{Enlists}
 use Rattle.aom_cells.specs.Heap.{class_at}
@@ -14,20 +14,16 @@ use Rattle.aom_image.specs.declared.method.Thing.TheVariants.{Object as An_objec
 use Rattle.aom_instructions.specs.declared.instr.Instr.TheVariants.{Enlist}
 use Rattle.aom_clients.specs.Lists.{IsFree, IsIn, Table, list_at, with_list}
 use Rattle.aom_roles.specs.Classes.{sessions_in}
-use Rattle.aom_safety.proofs.Services.{service_asked}
-use Rattle.aom_safety.proofs.Storing.{requested_here, requested_there, rerequested_alike}
+use Rattle.aom_machine_instructions.proofs.SafetyLemmas.{requested_here, requested_there, rerequested_alike, service_asked}
 use Rattle.aom_semantics.specs.Clients.{is_of_class}
 use Rattle.aom_semantics.specs.Enlisted.{first_request, home_kind, next_order, rerequested}
 use Rattle.aom_semantics.specs.Places.{Cell, Object, Register, Request, Service, Tidy, named, requested, set_request}
 use Rattle.aom_semantics.specs.Servers.{is_among, is_server}
 use Rattle.aom_semantics.specs.State.{Inside}
 use Rattle.aom_semantics.specs.Tokens.{awaited}
-use Rattle.aom_machine_state.proofs.Tokens.{tokens_still}
+use Rattle.aom_machine_instructions.proofs.MachineStateLemmas.{listed_last, messages_asked, same_still, still_requested, tokens_still}
 use Rattle.aom_machine_state.specs.Serving.{message_name}
 use Rattle.aom_machine_state.specs.Tokens.{SameTokens}
-use Rattle.aom_machine_state.proofs.Listing.{listed_last}
-use Rattle.aom_machine_state.proofs.Messages.{messages_asked}
-use Rattle.aom_machine_state.proofs.Still.{same_still, still_requested}
 use Rattle.aom_machine_state.specs.Fields.{this}
 use Rattle.aom_machine_state.specs.Listing.{SameListed, is_listed, lists, order_in}
 use Rattle.aom_machine_state.specs.Places as places

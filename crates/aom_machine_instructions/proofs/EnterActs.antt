@@ -2,7 +2,9 @@
 use Rattle.std.proofs.lemmas.Bool.Decides.{nat_tests}
 use Rattle.aom_image.specs.declared.method.Thing.TheVariants.{Message as A_message, Object as An_object_of}
 use Rattle.aom_cells.specs.declared.cell.Cell.{Cell as Machine_cell}
-use Rattle.aom_machine_state.proofs.Heights.{stands_here}
+use Rattle.aom_machine_instructions.proofs.MachineStateLemmas.{cells_moved, entry_number, held_over, higher, kept, mark_shows_none, moves, natives_passed}
+use Rattle.aom_machine_instructions.proofs.MachineStateLemmas.{over_deep, over_register, over_value, over_word, over_words, requests_passed, services_passed}
+use Rattle.aom_machine_instructions.proofs.MachineStateLemmas.{stands_here, tasks_over, value_here, value_written, word_written, writes}
 use Rattle.aom_machine_instructions.proofs.Stepping.{at_step}
 use Rattle.aom_machine_instructions.proofs.Finding.{class_fits}
 use Rattle.aom_frames.specs.declared.view.View.{View}
@@ -33,38 +35,29 @@ use Rattle.aom_semantics.specs.Calls.{needs_target, passed_cells, passed_words, 
 use Rattle.aom_semantics.specs.Places.{named, Place, Register, Elsewhere, Entry, Field, Going, Object, Cell, changed, held, moved, same_place}
 use Rattle.aom_semantics.specs.State.{thing_holder, thing_view, home_view, home_holder, Counters, Inside, AtRoot, Static}
 use Rattle.aom_semantics.specs.State.{Home, Frame, Need, Task, Run, Trapped, A_mark, State, field_place, frame_as, word}
-use Rattle.aom_safety.proofs.Finishing.{all_parts}
-use Rattle.aom_semantics.proofs.Maps.{held_moved}
+use Rattle.aom_machine_instructions.proofs.SafetyLemmas.{all_parts, object_for}
+use Rattle.aom_machine_instructions.proofs.SemanticsLemmas.{held_lives, held_moved}
 use Rattle.aom_frames.specs.Tasks.{given, given_here, on_top, passed_on, passing, register_here, this_here, with_register, method_here, place_here}
 use Rattle.aom_frames.specs.declared.frame.Frame.{Frame as Machine_frame}
 use Rattle.aom_frames.specs.declared.task.Task.{Task as Machine_task}
 use Rattle.aom_frames.specs.declared.task.Task.TheVariants.{Run as Runs_frame}
 use Rattle.aom_frames.specs.declared.item.Item.TheVariants.{Mark as Is_mark}
 use Rattle.aom_frames.specs.declared.item.Item.{Item}
-use Rattle.aom_machine_state.proofs.Asking.{requests_passed}
 use Rattle.aom_machine_state.specs.declared.parts.Parts.{Parts}
 use Rattle.aom_machine_instructions.specs.Next.{counting, IsNext}
 use Rattle.aom_machine_state.specs.Places.{others, Others, value_in, register_in, going_in, with_items, with_tasks}
 use Rattle.aom_machine_state.specs.Agrees.{viewed, thing_in, word_at, Represents, SameCells, SameFrame, SameTasks, home_number, number, Agrees}
 use Rattle.aom_machine_instructions.specs.Acts.{At_hand, DoesIn}
 use Rattle.aom_machine_instructions.specs.Calls.{is_this, view_of, callee_here, body_on, target_here}
-use Rattle.aom_machine_state.proofs.Cells.{cells_moved}
-use Rattle.aom_machine_state.proofs.Entries.{entry_number, mark_shows_none}
 use Rattle.aom_machine_instructions.proofs.FieldActs.{inside_object, housed, field_shown}
 use Rattle.aom_machine_instructions.proofs.GoingActs.{fresh_with, fresh_as}
 use Rattle.aom_machine_instructions.proofs.Housing.{needs_met, at_hand, needs_say}
 use Rattle.aom_machine_instructions.proofs.ObjectActs.{shown}
-use Rattle.aom_machine_state.proofs.Overs.{held_over, higher, over_deep, over_register, over_value, over_word, over_words, tasks_over}
 use Rattle.aom_machine_instructions.proofs.ReturnActs.{none_above}
 use Rattle.aom_machine_instructions.proofs.WordActs.{plain_at}
-use Rattle.aom_machine_state.proofs.Services.{services_passed}
-use Rattle.aom_safety.proofs.Owned.{object_for}
-use Rattle.aom_semantics.proofs.Maps.{held_lives}
 use Rattle.aom_machine_instructions.proofs.FieldActs.{this_is}
 use Rattle.aom_machine_instructions.proofs.Running.{object_lives_at, object_class, null_unnamed, Aside, Top, agrees_with, aside_of}
 use Rattle.aom_machine_instructions.proofs.Running.{aside_with, by_top, begun_as, object_small, reframed, no_word}
-use Rattle.aom_machine_state.proofs.Values.{kept, moves, value_here, value_written, word_written, writes}
-use Rattle.aom_machine_state.proofs.Sessions.{natives_passed}
 
 -- what a method takes, and of which class it is
 pub arguments_here : (p : Image) (k : ℕ) (d : Method_decl) → method_at p k ≡ Some d → arguments_of p k ≡ d.arguments

@@ -18,30 +18,27 @@ use Rattle.aom_semantics.specs.Places.{Place, Register, Entry, changed, held, mo
 use Rattle.aom_semantics.specs.Effects.{Effect, Leaves, Pushed, Pushed_operation, Update, applied, sets, unless_refused, updates}
 use Rattle.aom_semantics.specs.State.{Task, Run, Item, An_object, Counters, State, Choice, raised, word, Frame, Unwind, An_operation}
 use Rattle.aom_semantics.specs.Words.{read}
-use Rattle.aom_semantics.proofs.Maps.{held_moved}
+use Rattle.aom_machine_instructions.proofs.SemanticsLemmas.{held_moved}
 use Rattle.aom_machine_state.specs.LineBuffer.{LineBuffer}
 use Rattle.aom_frames.specs.Tasks.{on_top, with_register, register_here}
 use Rattle.aom_frames.specs.declared.frame.Frame.{Frame as Machine_frame}
 use Rattle.aom_frames.specs.declared.task.Task.{Task as Machine_task}
 use Rattle.aom_frames.specs.declared.task.Task.TheVariants.{Run as Runs_frame}
-use Rattle.aom_machine_state.proofs.Asking.{requests_moved}
+use Rattle.aom_machine_instructions.proofs.MachineStateLemmas.{and_true, below_same, cells_moved, entry_past, kept, moves, natives_moved, owns_none}
+use Rattle.aom_machine_instructions.proofs.MachineStateLemmas.{requests_moved, same_items_length, services_moved, top_value, value_alike, value_here}
+use Rattle.aom_machine_instructions.proofs.MachineStateLemmas.{value_popped, value_pushed, value_written, word_written}
 use Rattle.aom_machine_state.specs.declared.parts.Parts.{Parts}
 use Rattle.aom_machine_instructions.specs.Acts.{At_hand, requested, leaving, Does}
 use Rattle.aom_machine_state.specs.Places.{others, set_register, value_in, with_items}
 use Rattle.aom_machine_state.specs.Cells.{refuses, refuses_entry, Made}
 use Rattle.aom_machine_state.specs.Places as places
 use Rattle.aom_machine_state.specs.Agrees.{Represents, SameItems, word_at, Agrees, heard_by}
-use Rattle.aom_machine_state.proofs.Cells.{cells_moved}
-use Rattle.aom_machine_state.proofs.Entries.{and_true, entry_past, owns_none, same_items_length, top_value, value_alike, value_popped, value_pushed, below_same}
 use Rattle.aom_machine_instructions.proofs.LeavingActs.{leaves, leaves_at}
-use Rattle.aom_machine_state.proofs.Services.{services_moved}
 use Rattle.aom_machine_instructions.proofs.ObjectActs.{asks_one, made_agrees, new_small, same_entry_refusal, same_refusal}
 use Rattle.aom_machine_instructions.proofs.Running.{Top, word_here, no_word, free, nothing_held, null_unnamed, unnamed, heard_fits}
 use Rattle.aom_machine_instructions.proofs.Stepping.{agrees_rest}
-use Rattle.aom_machine_state.proofs.Values.{kept, moves, value_here, value_written, word_written}
 use Rattle.aom_machine_instructions.proofs.WordActs.{plain_does, word_read}
 use Rattle.aom_machine_instructions.proofs.GoingOn.{framed, goes_on_as, goes_on_with}
-use Rattle.aom_machine_state.proofs.Sessions.{natives_moved}
 
 same_cond : {A : Type 0} (b : Bool) (x : A) → x ≡ cond b x x
 same_cond x y = grind arith

@@ -17,33 +17,27 @@ use Rattle.aom_semantics.specs.State.{Home, Static, AtRoot, Inside, next, Task, 
 use Rattle.aom_semantics.specs.Objects.{is_declared_thing}
 use Rattle.aom_safety.specs.WellTyped.{Houses, IsHoused, Now, Stack}
 use Rattle.aom_semantics.specs.Words.{loaded, stored, read}
-use Rattle.aom_safety.proofs.Housing.{houses_field}
-use Rattle.aom_safety.proofs.Storing.{held_set_word}
-use Rattle.aom_semantics.proofs.Maps.{held_moved}
-use Rattle.aom_safety.proofs.Layers.{method_layer}
+use Rattle.aom_machine_instructions.proofs.SafetyLemmas.{held_set_word, houses_field, method_layer}
+use Rattle.aom_machine_instructions.proofs.SemanticsLemmas.{held_moved}
 use Rattle.aom_frames.specs.Tasks.{on_top, with_register, register_here, this_here}
 use Rattle.aom_frames.specs.declared.frame.Frame.{Frame as Machine_frame}
 use Rattle.aom_frames.specs.declared.task.Task.{Task as Machine_task}
 use Rattle.aom_frames.specs.declared.task.Task.TheVariants.{Run as Runs_frame}
-use Rattle.aom_machine_state.proofs.Heights.{stands_here}
-use Rattle.aom_machine_state.proofs.Asking.{requests_moved, requests_stored}
+use Rattle.aom_machine_instructions.proofs.MachineStateLemmas.{cell_of, cells_moved, cells_put, cells_stored, field_written, kept, moves, natives_moved}
+use Rattle.aom_machine_instructions.proofs.MachineStateLemmas.{natives_stored, requests_moved, requests_stored, root_written, services_moved, services_stored}
+use Rattle.aom_machine_instructions.proofs.MachineStateLemmas.{stands_here, value_here, value_written, word_put_elsewhere, word_written}
 use Rattle.aom_machine_state.specs.declared.parts.Parts.{Parts}
 use Rattle.aom_machine_state.specs.Places.{others, value_in, WritesWord, set_register}
 use Rattle.aom_machine_state.specs.Agrees.{word_at, home_number, Represents, number, SameCells, Agrees}
 use Rattle.aom_machine_instructions.specs.Acts.{At_hand, Does}
 use Rattle.aom_machine_state.specs.Places as places
 use Rattle.aom_machine_state.specs.Fields.{this, ThisLives, field_here, PutsWord, PutsField, WritesField}
-use Rattle.aom_machine_state.proofs.Values.{kept, value_here, value_written, word_written, moves}
-use Rattle.aom_machine_state.proofs.Services.{services_moved, services_stored}
 use Rattle.aom_semantics.specs.Servers.{is_queue}
 use Rattle.aom_machine_instructions.proofs.Running.{Top, by_top, word_here, free, no_word, null_unnamed, object_there}
-use Rattle.aom_machine_state.proofs.CellFields.{field_written, root_written, word_put_elsewhere, cell_of, cells_put, cells_stored}
 use Rattle.aom_machine_instructions.proofs.WordActs.{word_read, word_put, plain_does}
 use Rattle.aom_machine_instructions.proofs.ObjectActs.{jumps_empty, passes_full}
-use Rattle.aom_image.proofs.Given.{some_given}
+use Rattle.aom_machine_instructions.proofs.ImageLemmas.{some_given}
 use Rattle.aom_machine_instructions.proofs.GoingOn.{OnTop, framed, goes_on_as, goes_on_with}
-use Rattle.aom_machine_state.proofs.Cells.{cells_moved}
-use Rattle.aom_machine_state.proofs.Sessions.{natives_moved, natives_stored}
 
 -- ---- the cell that a method works on
 

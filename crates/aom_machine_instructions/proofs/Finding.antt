@@ -2,7 +2,7 @@
 use Rattle.std.proofs.lemmas.Bool.Decides.{nat_tests}
 use Rattle.std.proofs.Common.{true, suc, ◌≡◌, ℕ, ℤ, ◌<◌, ◌≤◌, ◌+◌, ◌^◌, length, List, [], ◌∷◌, Option}
 use Rattle.std.proofs.Common.{Some, None, IsSome, slice_get, refl, sym, ap, ◌∙◌, subst, arith}
-use Rattle.aom_image.proofs.Given.{some_given}
+use Rattle.aom_machine_instructions.proofs.ImageLemmas.{some_given}
 use Rattle.std.specs.Prelude.{is_some, IfSome}
 use Rattle.std.proofs.lemmas.Option.{slice_get_within, slice_get-get_or}
 use Rattle.aom_image.specs.Image.{Image}
@@ -11,7 +11,7 @@ use Rattle.aom_image.specs.WellFormed.{WellFormed, MethodFits}
 use Rattle.aom_instructions.specs.declared.instr.Instr.{Instr}
 use Rattle.aom_instructions.specs.declared.instr.Instr.TheVariants.{Delete}
 use Rattle.aom_image.specs.declared.method.Method.{Method}
-use Rattle.aom_classes.proofs.Facts.{all_there, of_method}
+use Rattle.aom_machine_instructions.proofs.ClassesLemmas.{all_there, of_method}
 use Rattle.aom_cells.specs.Heap.{Lives, null, class_at}
 use Rattle.aom_rules.specs.Typing.{Typing}
 use Rattle.aom_semantics.specs.Places.{Place, Register, Going, Elsewhere, Root, Object, held}
@@ -21,8 +21,8 @@ use Rattle.aom_semantics.specs.Moves.{needs}
 use Rattle.aom_safety.specs.WellTyped.{WellTyped, Good, Keeps, Stack, Back, Now, Returns, Caught, Leaves}
 use Rattle.aom_safety.specs.Tasks.{Below}
 use Rattle.aom_safety.specs.Traps.{at_traps}
-use Rattle.aom_semantics.proofs.Maps.{held_lives}
-use Rattle.aom_safety.proofs.Layers.{going_layer, leave_layer, method_layer}
+use Rattle.aom_machine_instructions.proofs.SemanticsLemmas.{held_lives}
+use Rattle.aom_machine_instructions.proofs.SafetyLemmas.{going_layer, leave_layer, method_layer, root_cell}
 use Rattle.aom_frames.specs.Tasks.{Runs, method_here, place_here, register_here, below_first}
 use Rattle.aom_frames.specs.declared.frame.Frame.{Frame as Machine_frame}
 use Rattle.aom_frames.specs.declared.task.Task.{Task as Machine_task}
@@ -40,13 +40,12 @@ use Rattle.aom_shape.specs.Shape.{Shape}
 use Rattle.aom_rules.specs.Typing.{shape_at}
 use Rattle.aom_semantics.specs.State.{Dispatch}
 use Rattle.aom_safety.specs.WellTyped.{Gone}
-use Rattle.aom_machine_state.proofs.Alike.{Alike, alike, same_below, both_run, both_trapped, both_go, both_unwind, both_end}
+use Rattle.aom_machine_instructions.proofs.MachineStateLemmas.{Alike, alike, both_end, both_go, both_run, both_trapped, both_unwind, same_below}
 use Rattle.aom_machine_instructions.proofs.Traps.{code_register}
 use Rattle.aom_machine_instructions.proofs.Running.{by_top, no_word, an_open, object_lives_at}
 use Rattle.aom_machine_instructions.proofs.ObjectActs.{shown}
 use Rattle.aom_machine_instructions.proofs.Stepping.{met, frame_of, going_of, at_step, step_of_instr, cell_found}
 use Rattle.aom_machine_instructions.proofs.GoingActs.{by_going, going_object, number_of}
-use Rattle.aom_safety.proofs.Owned.{root_cell}
 use Rattle.aom_semantics.specs.Objects.{is_no_message}
 
 abbrev pub length_in : Option Method → ℕ

@@ -13,10 +13,8 @@ use Rattle.aom_image.specs.Image.{Image}
 use Rattle.aom_rules.specs.Typing.{Typing}
 use Rattle.aom_shape.specs.declared.kind.Age.TheVariants.{Ready}
 use Rattle.aom_shape.specs.declared.kind.Kind.TheVariants.{Own}
-use Rattle.aom_safety.proofs.Layers.{closing_layer}
-use Rattle.aom_semantics.proofs.Maps.{held_lives}
-use Rattle.aom_safety.proofs.Owned.{session_object}
-use Rattle.aom_safety.proofs.Picking.{own_held}
+use Rattle.aom_machine_instructions.proofs.SafetyLemmas.{closing_layer, own_held, session_object}
+use Rattle.aom_machine_instructions.proofs.SemanticsLemmas.{held_lives}
 use Rattle.aom_safety.specs.Claims.{Dying as Dying_layer, Ending, Layer, claim, declared, tasks_of}
 use Rattle.aom_semantics.specs.Destruction.{first_session, seat_or}
 use Rattle.aom_safety.specs.Kept.{ClientsFit}

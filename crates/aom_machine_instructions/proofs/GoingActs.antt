@@ -1,13 +1,13 @@
 -- How a destruction begins, and the going of a cell.
 use Rattle.std.proofs.lemmas.Bool.Decides.{nat_tests}
-use Rattle.aom_families.proofs.Inheriting.{families_inherit}
+use Rattle.aom_machine_instructions.proofs.FamiliesLemmas.{families_inherit}
 use Rattle.aom_image.specs.declared.method.Role.TheVariants.{Destruct}
 use Rattle.aom_image.specs.Views.{method_class, class_in}
 use Rattle.aom_frames.specs.declared.view.View.{View}
 use Rattle.aom_frames.specs.Views.{own}
 use Rattle.std.proofs.Common.{Bool, suc, ◌≡◌, ℕ, ℤ, ◌<◌, true, cond, length, List, [], ◌∷◌, Option, Some}
 use Rattle.std.proofs.Common.{None, slice_set, slice_index_or, refl, sym, ap, ◌∙◌, subst, arith, false}
-use Rattle.aom_image.proofs.Given.{some_given}
+use Rattle.aom_machine_instructions.proofs.ImageLemmas.{some_given}
 use Rattle.std.proofs.lemmas.Option.{same_Some}
 use Rattle.std.proofs.lemmas.Bool.{eqb-true, eq-eqb}
 use Rattle.std.proofs.lemmas.List.{length-set}
@@ -29,12 +29,14 @@ use Rattle.aom_semantics.specs.Objects.{is_no_message}
 use Rattle.aom_semantics.specs.Servers.{is_server}
 use Rattle.aom_image.specs.WellFormed.{WellFormed}
 use Rattle.aom_roles.specs.Things.{is_object}
-use Rattle.aom_machine_state.proofs.CellFields.{root_written}
-use Rattle.aom_safety.proofs.Owned.{root_object}
+use Rattle.aom_machine_instructions.proofs.MachineStateLemmas.{Alike, alike, at_depth, both_go, by_task, by_tasks, destroys_value, destroys_word, going_past}
+use Rattle.aom_machine_instructions.proofs.MachineStateLemmas.{kept, moves, register_past, root_written, same_length, unowned, value_here, value_kept}
+use Rattle.aom_machine_instructions.proofs.MachineStateLemmas.{value_written, word_next, word_past, word_written}
+use Rattle.aom_machine_instructions.proofs.SafetyLemmas.{root_object}
 use Rattle.aom_semantics.specs.Moves.{goes_line}
 use Rattle.aom_safety.specs.WellTyped.{WellTyped}
 use Rattle.aom_transcript.specs.declared.line.Line.TheVariants.{Gone}
-use Rattle.aom_semantics.proofs.Maps.{same_place-true, held_moved, held_lives}
+use Rattle.aom_machine_instructions.proofs.SemanticsLemmas.{held_lives, held_moved, same_place-true}
 use Rattle.aom_frames.specs.Tasks.{with_view, fresh, on_top, with_place, with_register, place_here, register_here, below_first}
 use Rattle.aom_frames.specs.declared.frame.Frame.{Frame as Machine_frame}
 use Rattle.aom_frames.specs.declared.task.Task.{Task as Machine_task}
@@ -46,15 +48,11 @@ use Rattle.aom_machine_state.specs.Places.{others, Others, value_in, going_in, w
 use Rattle.aom_machine_instructions.specs.Going.{begun, destructed, destructor_in, destructor_at, dying, is_server_class, uprooted}
 use Rattle.aom_machine_state.specs.Agrees.{word_at, Represents, SameTasks, thing_in, number, Agrees}
 use Rattle.aom_machine_instructions.specs.Acts.{requested, In_going, DoesIn}
-use Rattle.aom_machine_state.proofs.Values.{same_length, kept, moves, at_depth, register_past, going_past, word_past, value_here}
-use Rattle.aom_machine_state.proofs.Values.{value_kept, value_written, word_next, word_written, destroys_value, destroys_word}
 use Rattle.aom_machine_instructions.proofs.Running.{begun_as, Aside, agrees_with, aside_moved, object_class, object_small, object_there, Top}
 use Rattle.aom_machine_instructions.proofs.Running.{by_top, reframed, moved_on, begun_registers, word_here, no_word, nothing_held, some_held}
-use Rattle.aom_machine_state.proofs.Cells.{unowned}
 use Rattle.aom_machine_instructions.proofs.ObjectActs.{shown}
 use Rattle.aom_machine_instructions.proofs.WordActs.{plain_at}
 use Rattle.aom_frames.specs.declared.item.Item.{Item}
-use Rattle.aom_machine_state.proofs.Alike.{Alike, both_go, alike, by_task, by_tasks}
 
 -- a method at its first place shows nothing, and has no word
 pub fresh_with : (method this : ℕ) (view : View) (us : List Machine_task) (h : Heap) (es : List Item) (rest : Others) (r : Place) →

@@ -5,7 +5,7 @@ use Rattle.std.proofs.Common.{refl, subst, suc, sym, true, ℕ, ◌++◌, ◌+�
 use Rattle.std.specs.Prelude.{IsSome, flat_map, is_some, map}
 use Rattle.std.proofs.lemmas.Bool.{and_parts, eq-eqb, eqb-true, false≢true}
 use Rattle.std.proofs.lemmas.List.{append_assoc, get_or_past, length-append}
-use Rattle.aom_image.proofs.Given.{some_given}
+use Rattle.aom_machine_instructions.proofs.ImageLemmas.{some_given}
 use Rattle.aom_active.specs.Agrees.{Active}
 use Rattle.aom_cells.specs.Heap.{Changes, Heap, Lives, cell_at, class_at, count, null}
 use Rattle.aom_clients.specs.Clients as kept
@@ -22,11 +22,10 @@ use Rattle.aom_image.specs.declared.method.Thing.TheVariants.{Object as An_objec
 use Rattle.aom_machine_state.specs.LineBuffer.{LineBuffer}
 use Rattle.aom_cells.specs.Store.{Store, count as count_kept, message_at}
 use Rattle.aom_cells.specs.Sessions.{Sets, Standing}
-use Rattle.aom_semantics.proofs.Maps.{held_lives, held_without, named_without, requested_without, unnamed}
-use Rattle.aom_safety.proofs.Sifted.{cell_of, cell_of_sifted, kept as left_of, named_cell, object_in, request_in}
-use Rattle.aom_safety.proofs.Sifted.{requested_cell, service_cell, service_in, tidy_sifted, unqueued_so}
-use Rattle.aom_safety.proofs.Storing.{Alike}
-use Rattle.aom_safety.proofs.Unslotting.{each_unslotted_alike, each_unslotted_requests}
+use Rattle.aom_machine_instructions.proofs.SemanticsLemmas.{held_lives, held_without, named_without, requested_without, unnamed}
+use Rattle.aom_machine_instructions.proofs.SafetyLemmas.{Alike, cell_of, cell_of_sifted, each_unslotted_alike, each_unslotted_requests, going_layer}
+use Rattle.aom_machine_instructions.proofs.SafetyLemmas.{kept as left_of, named_cell, object_in, request_in, requested_cell, service_cell, service_in}
+use Rattle.aom_machine_instructions.proofs.SafetyLemmas.{tidy_sifted, unqueued_so}
 use Rattle.aom_semantics.specs.Clients.{each_unslotted}
 use Rattle.aom_semantics.specs.Destruction.{is_field_of, owns_nothing, vanished}
 use Rattle.aom_safety.specs.Kept.{IsKept, QueueFits}
@@ -39,22 +38,13 @@ use Rattle.aom_semantics.specs.Servers.{is_among, is_queue, is_queue_of, without
 use Rattle.aom_semantics.specs.State.{Destroy, State, Task, resumed}
 use Rattle.aom_safety.specs.WellTyped.{Good, WellTyped}
 use Rattle.aom_transcript.specs.declared.line.Line.TheVariants.{Gone}
-use Rattle.aom_machine_state.proofs.Asking.{requests_gone, requests_unslotted}
-use Rattle.aom_machine_state.proofs.Beside.{Beside, NamedBeside, cells_beside, listed_beside, natives_beside, requests_beside}
-use Rattle.aom_machine_state.proofs.Cells.{cells_without, unowned}
-use Rattle.aom_machine_state.proofs.Departing.{at_set_or}
-use Rattle.aom_machine_state.proofs.Elsewhere.{SessionsSame, shows_again}
-use Rattle.aom_machine_state.proofs.Leaving.{beside_unqueued, holds_unqueued, messages_unqueued, places_in, told_unqueued, waiting_kept, waiting_once}
-use Rattle.aom_machine_state.proofs.Listing.{listed_gone}
-use Rattle.aom_machine_state.proofs.Messages.{messages_unslotted, messages_without}
-use Rattle.aom_machine_state.proofs.Premises.{messages_wait}
-use Rattle.aom_machine_state.proofs.Servicing.{connecting_here, same_gone}
-use Rattle.aom_machine_state.proofs.Sessions.{natives_gone}
-use Rattle.aom_machine_state.proofs.Sizing.{sized_gone}
-use Rattle.aom_machine_state.proofs.Telling.{gone_lines as lines_of_entry, queue_told}
-use Rattle.aom_machine_state.proofs.Told.{tokens_beside, tokens_unslotted, tokens_without}
-use Rattle.aom_machine_state.proofs.Unslotted.{cells_unslotted, natives_unslotted}
-use Rattle.aom_machine_state.proofs.Values.{destroys_value, destroys_word, going_past, writes}
+use Rattle.aom_machine_instructions.proofs.MachineStateLemmas.{Beside, NamedBeside, SessionsSame, at_set_or, beside_unqueued, cells_beside, cells_unslotted}
+use Rattle.aom_machine_instructions.proofs.MachineStateLemmas.{cells_without, connecting_here, destroys_value, destroys_word, going_past}
+use Rattle.aom_machine_instructions.proofs.MachineStateLemmas.{gone_lines as lines_of_entry, holds_unqueued, listed_beside, listed_gone, messages_unqueued}
+use Rattle.aom_machine_instructions.proofs.MachineStateLemmas.{messages_unslotted, messages_wait, messages_without, natives_beside, natives_gone}
+use Rattle.aom_machine_instructions.proofs.MachineStateLemmas.{natives_unslotted, places_in, queue_told, requests_beside, requests_gone, requests_unslotted}
+use Rattle.aom_machine_instructions.proofs.MachineStateLemmas.{same_gone, shows_again, sized_gone, tokens_beside, tokens_unslotted, tokens_without}
+use Rattle.aom_machine_instructions.proofs.MachineStateLemmas.{told_unqueued, unowned, waiting_kept, waiting_once, writes}
 use Rattle.aom_machine_state.specs.Agrees.{Agrees, Represents, number, word_at}
 use Rattle.aom_machine_state.specs.Cells.{Delists, unlisted}
 use Rattle.aom_machine_state.specs.Listing.{SameListed, lists, order_in}
@@ -66,7 +56,6 @@ use Rattle.aom_machine_state.specs.Stands.{Stands}
 use Rattle.aom_machine_state.specs.Tokens.{SameTokens}
 use Rattle.aom_image.specs.declared.class.ClassKind.{ClassKind}
 use Rattle.aom_roles.specs.States.{last_of}
-use Rattle.aom_safety.proofs.Layers.{going_layer}
 use Rattle.aom_semantics.specs.Tokens.{awaited}
 use Rattle.std.proofs.lemmas.Option.{same_Some}
 use Rattle.aom_roles.specs.Things.{is_object}

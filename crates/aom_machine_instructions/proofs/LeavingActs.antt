@@ -23,12 +23,11 @@ use Rattle.aom_machine_instructions.specs.Acts.{At_hand, leaving, Does}
 use Rattle.aom_machine_state.specs.Places as places
 use Rattle.aom_machine_state.specs.Places.{others, Others, value_in, register_in, going_in}
 use Rattle.aom_machine_state.specs.Agrees.{word_at, Represents, SameTasks, Agrees}
-use Rattle.aom_machine_state.proofs.Alike.{A_method, Tops, method_on_top, tops}
-use Rattle.aom_machine_state.proofs.Cells.{unowned}
+use Rattle.aom_machine_instructions.proofs.MachineStateLemmas.{A_method, Tops, at_depth, going_past, method_on_top, register_past, same_length, tops, unowned}
+use Rattle.aom_machine_instructions.proofs.MachineStateLemmas.{word_past}
 use Rattle.aom_machine_instructions.proofs.ReturnActs.{beneath, cleared_none}
 use Rattle.aom_machine_instructions.proofs.Running.{retasked}
 use Rattle.aom_machine_instructions.proofs.WordActs.{plain_does, word_read, passes}
-use Rattle.aom_machine_state.proofs.Values.{at_depth, going_past, register_past, same_length, word_past}
 
 -- a leave is no place
 pub unwinds_value : (us : List Machine_task) (h : Heap) (es : List Item) (rest : Others) (code : ℤ) (r : Place) → value_in (Unwinds code ∷ us) h es rest r ≡ value_in us h es rest r

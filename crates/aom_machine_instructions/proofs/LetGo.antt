@@ -15,7 +15,7 @@ use Rattle.aom_image.specs.WellFormed.{WellFormed}
 use Rattle.aom_roles.specs.Things.{is_object}
 use Rattle.aom_machine_state.specs.LineBuffer.{LineBuffer}
 use Rattle.aom_rules.specs.Typing.{Typing}
-use Rattle.aom_semantics.proofs.Maps.{held_lives}
+use Rattle.aom_machine_instructions.proofs.SemanticsLemmas.{held_lives}
 use Rattle.aom_semantics.specs.Destruction as checked
 use Rattle.aom_semantics.specs.Destruction.{first_session, parting}
 use Rattle.aom_safety.specs.Kept.{IsKept}
@@ -24,18 +24,15 @@ use Rattle.aom_semantics.specs.Places.{Elsewhere, Going, Object, Place, Session,
 use Rattle.aom_semantics.specs.State.{Choice, Closing, Destroy, Goes, Counters, State, Task}
 use Rattle.aom_classes.specs.Roles.{destructor_of}
 use Rattle.aom_safety.specs.WellTyped.{WellTyped}
-use Rattle.aom_machine_state.proofs.Alike.{Alike, alike, both_close, both_go}
-use Rattle.aom_machine_state.proofs.Elsewhere.{session_released}
-use Rattle.aom_machine_state.proofs.Servicing.{same_released}
-use Rattle.aom_machine_state.proofs.Sizing.{sized_released}
-use Rattle.aom_machine_state.proofs.Values.{going_past, same_length}
+use Rattle.aom_machine_instructions.proofs.MachineStateLemmas.{Alike, alike, both_close, both_go, going_past, same_length, same_released, session_released}
+use Rattle.aom_machine_instructions.proofs.MachineStateLemmas.{sized_released}
 use Rattle.aom_machine_state.specs.Agrees.{Agrees, SameTasks, Represents, number, word_at}
 use Rattle.aom_machine_state.specs.Places.{IsClosing, IsDestroying, going_here, others, going_in, session_with, value_in, with_tasks}
 use Rattle.aom_machine_state.specs.Stands.{Stands}
 use Rattle.aom_machine_state.specs.declared.parts.Parts.{Parts}
 use Rattle.aom_machine_instructions.proofs.Ends.{at_close}
 use Rattle.aom_machine_instructions.proofs.Firsts.{IsSeat, closing_found, its_session, no_session, session_lives}
-use Rattle.aom_safety.proofs.Owned.{session_object}
+use Rattle.aom_machine_instructions.proofs.SafetyLemmas.{session_object}
 use Rattle.aom_machine_instructions.proofs.GoingActs.{begins, closes_value, closes_word, destructor_class, destructor_same, destructs, dying_shows, server_same}
 use Rattle.aom_machine_instructions.proofs.ReturnActs.{lives_within}
 use Rattle.aom_machine_instructions.proofs.Running.{Aside, an_open, aside_counted, aside_moved, aside_of, nothing_held, object_lives_at, object_small, object_there}

@@ -1,41 +1,52 @@
-pub mod OnTop
-pub mod Running
-pub mod GoingOn
-pub mod WordActs
-pub mod LoopActs
-pub mod ObjectActs
-pub mod MoveActs
-pub mod FieldActs
-pub mod RequestActs
-pub mod EnlistActs
-pub mod NativeActs
-pub mod CallActs
-pub mod CancelEnds
-pub mod ServeActs
-pub mod ReturnActs
-pub mod GoneActs
-pub mod GoingActs
-pub mod Stepping
-pub mod Housing
-pub mod RoomActs
-pub mod RoomMoves
-pub mod Counts
-pub mod Rooms
-pub mod Ends
-pub mod StageEnds
-pub mod Finding
-pub mod Firsts
-pub mod LetGo
-pub mod EnterActs
-pub mod Traps
-pub mod LeavingActs
-pub mod LineActs
-pub mod EntryActs
-pub mod DealActs
-pub mod Topping
-pub mod Resulting
-pub mod Silent
-pub mod UnwindActs
+mod OnTop
+mod Running
+mod GoingOn
+mod WordActs
+mod LoopActs
+mod ObjectActs
+mod MoveActs
+mod FieldActs
+mod RequestActs
+mod EnlistActs
+mod NativeActs
+mod CallActs
+mod CancelEnds
+mod ServeActs
+mod ReturnActs
+mod GoneActs
+mod GoingActs
+mod Stepping
+mod Housing
+mod RoomActs
+mod RoomMoves
+mod Counts
+mod Rooms
+mod Ends
+mod StageEnds
+mod Finding
+mod Firsts
+mod LetGo
+mod EnterActs
+mod Traps
+mod LeavingActs
+mod LineActs
+mod EntryActs
+mod DealActs
+mod Topping
+mod Resulting
+mod Silent
+mod UnwindActs
 mod Vanishing
-pub mod MessageActs
-pub mod TokenActs
+mod MessageActs
+mod TokenActs
+pub mod MachineInstructionsLemmas
+pub use Rattle.aom_active.proofs.ActiveLemmas
+pub use Rattle.aom_classes.proofs.ClassesLemmas
+pub use Rattle.aom_families.proofs.FamiliesLemmas
+pub use Rattle.aom_image.proofs.ImageLemmas
+pub use Rattle.aom_machine_state.proofs.MachineStateLemmas
+pub use Rattle.aom_progress.proofs.ProgressLemmas
+pub use Rattle.aom_roles.proofs.RolesLemmas
+pub use Rattle.aom_safety.proofs.SafetyLemmas
+pub use Rattle.aom_semantics.proofs.SemanticsLemmas
+pub use Rattle.aom_typings.proofs.TypingsLemmas

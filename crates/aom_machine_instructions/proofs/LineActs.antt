@@ -3,7 +3,7 @@ use Rattle.std.proofs.lemmas.Bool.Decides.{nat_tests}
 use Rattle.std.proofs.Common.{IsSome, List, None, Some, ap, arith, cond, length, refl, subst, sym, true, ℕ, ◌<◌, ◌∙◌, ◌∷◌, ◌≡◌}
 use Rattle.std.specs.Prelude.{is_some}
 use Rattle.std.proofs.lemmas.Bool.{eq-eqb}
-use Rattle.aom_image.proofs.Given.{some_given}
+use Rattle.aom_machine_instructions.proofs.ImageLemmas.{some_given}
 use Rattle.aom_image.specs.Image.{Image}
 use Rattle.aom_image.specs.Views.{class_in, gives_of, method_at, method_class}
 use Rattle.aom_image.specs.declared.method.Gives.TheVariants.{Nothing}
@@ -11,14 +11,12 @@ use Rattle.aom_image.specs.declared.method.Role.TheVariants.{Destruct}
 use Rattle.aom_instructions.specs.declared.instr.Instr.TheVariants.{Return}
 use Rattle.aom_roles.specs.Families.{parent_above}
 use Rattle.aom_active.specs.Agrees.{Active}
-use Rattle.aom_families.proofs.Inheriting.{families_inherit}
+use Rattle.aom_machine_instructions.proofs.FamiliesLemmas.{families_inherit}
 use Rattle.aom_frames.specs.Tasks.{below_first, method_here}
 use Rattle.aom_frames.specs.declared.frame.Frame.{Frame as Machine_frame}
 use Rattle.aom_frames.specs.declared.task.Task.{Task as Machine_task}
 use Rattle.aom_frames.specs.declared.task.Task.TheVariants.{Destroy as Destroys, Run as Runs_frame}
-use Rattle.aom_safety.proofs.Finishing.{all_parts}
-use Rattle.aom_safety.proofs.Layers.{going_layer, method_layer}
-use Rattle.aom_safety.proofs.Storing.{ended_alike}
+use Rattle.aom_machine_instructions.proofs.SafetyLemmas.{all_parts, ended_alike, going_layer, method_layer}
 use Rattle.aom_semantics.specs.Calls.{none_owns_but, result_needs, result_source, returned}
 use Rattle.aom_safety.specs.Claims.{Method}
 use Rattle.aom_semantics.specs.Destruction.{class_destructor, line_on, next_destructor}
@@ -26,7 +24,7 @@ use Rattle.aom_semantics.specs.Enlisted.{ended_cells}
 use Rattle.aom_semantics.specs.Places.{Going, Object, Place, Register, held}
 use Rattle.aom_semantics.specs.State.{Destroy, Inside, Run, State, Task}
 use Rattle.aom_safety.specs.WellTyped.{Good}
-use Rattle.aom_machine_state.proofs.Alike.{A_going, Alike, Tops, alike, both_go, going_on_top, tops}
+use Rattle.aom_machine_instructions.proofs.MachineStateLemmas.{A_going, Alike, Tops, alike, both_go, going_on_top, tops}
 use Rattle.aom_machine_state.specs.Agrees.{Agrees, SameTasks, Represents, number, word_at}
 use Rattle.aom_machine_state.specs.Places.{IsDestroying, going_here, going_in, others, value_in, with_tasks}
 use Rattle.aom_machine_state.specs.declared.parts.Parts.{Parts}

@@ -20,8 +20,8 @@ use Rattle.aom_roles.specs.Tests.{AllTrue}
 use Rattle.aom_machine_state.specs.LineBuffer.{LineBuffer}
 use Rattle.aom_cells.specs.Store.{Changes, Store, count, first_number}
 use Rattle.aom_roles.specs.Tables.{put_at}
-use Rattle.aom_semantics.proofs.Maps.{held_moved, held_without}
-use Rattle.aom_safety.proofs.Things.{stands_message}
+use Rattle.aom_machine_instructions.proofs.SemanticsLemmas.{held_moved, held_without}
+use Rattle.aom_machine_instructions.proofs.SafetyLemmas.{has_sender, stands_message}
 use Rattle.aom_semantics.specs.Lines.{message_line}
 use Rattle.aom_semantics.specs.Moves.{needs}
 use Rattle.aom_semantics.specs.Objects.{is_thing}
@@ -29,21 +29,15 @@ use Rattle.aom_semantics.specs.Places.{Elsewhere, In_service, Object, Place, Reg
 use Rattle.aom_semantics.specs.State.{Choice, Run, State, next, set_word}
 use Rattle.aom_semantics.specs.Tokens.{order_in, redeemed_by, token_of}
 use Rattle.aom_semantics.specs.Words.{read}
-use Rattle.aom_safety.proofs.Sources.{has_sender}
 use Rattle.aom_cells.specs.Tokens.{class_at}
 use Rattle.aom_machine_state.specs.declared.parts.Parts.{Parts}
 use Rattle.aom_machine_state.specs.Places as places
 use Rattle.aom_machine_state.specs.Places.{Others, others, set_register, value_in}
 use Rattle.aom_machine_state.specs.Agrees.{Agrees, number}
 use Rattle.aom_machine_state.specs.Serving.{message_name}
-use Rattle.aom_machine_state.proofs.Asking.{requests_moved}
-use Rattle.aom_machine_state.proofs.CellFields.{served_written}
-use Rattle.aom_machine_state.proofs.Cells.{cells_moved}
-use Rattle.aom_machine_state.proofs.Replying.{cells_completed, message_sent, natives_completed, requests_completed, services_completed, was_taken}
-use Rattle.aom_machine_state.proofs.Services.{services_moved}
-use Rattle.aom_machine_state.proofs.Sessions.{natives_moved}
-use Rattle.aom_machine_state.proofs.Telling.{completed_lines, message_told}
-use Rattle.aom_machine_state.proofs.Values.{moves, value_written, word_written}
+use Rattle.aom_machine_instructions.proofs.MachineStateLemmas.{cells_completed, cells_moved, completed_lines, message_sent, message_told, moves}
+use Rattle.aom_machine_instructions.proofs.MachineStateLemmas.{natives_completed, natives_moved, requests_completed, requests_moved, served_written}
+use Rattle.aom_machine_instructions.proofs.MachineStateLemmas.{services_completed, services_moved, value_written, was_taken, word_written}
 use Rattle.aom_machine_instructions.specs.Acts.{At_hand, Does, Tells}
 use Rattle.aom_machine_instructions.specs.Serving.{Completes, completion_lines}
 use Rattle.aom_machine_instructions.proofs.GoingOn.{framed, goes_on_with, written}

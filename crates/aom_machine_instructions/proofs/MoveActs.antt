@@ -4,22 +4,19 @@ use Rattle.std.proofs.lemmas.List.{length-set}
 use Rattle.aom_instructions.specs.declared.instr.Instr.TheVariants.{Move}
 use Rattle.aom_cells.specs.Heap.{null}
 use Rattle.aom_semantics.specs.Places.{Register, moved, changed, held}
-use Rattle.aom_semantics.proofs.Maps.{held_moved}
+use Rattle.aom_machine_instructions.proofs.SemanticsLemmas.{held_moved}
 use Rattle.aom_frames.specs.Tasks.{on_top, with_register, register_here}
 use Rattle.aom_frames.specs.declared.task.Task.TheVariants.{Run as Runs_frame}
-use Rattle.aom_machine_state.proofs.Asking.{requests_moved}
+use Rattle.aom_machine_instructions.proofs.MachineStateLemmas.{cells_moved, moves, natives_moved, requests_moved, services_moved, value_here, value_written}
+use Rattle.aom_machine_instructions.proofs.MachineStateLemmas.{word_written}
 use Rattle.aom_machine_state.specs.declared.parts.Parts.{Parts}
 use Rattle.aom_machine_state.specs.Places.{others, value_in, set_register}
 use Rattle.aom_machine_instructions.specs.Acts.{Does}
 use Rattle.aom_machine_state.specs.Places as places
-use Rattle.aom_machine_state.proofs.Values.{value_here, value_written, word_written, moves}
 use Rattle.aom_machine_instructions.proofs.Running.{word_here, free, no_word, reframed}
 use Rattle.aom_machine_instructions.proofs.WordActs.{plain_does}
 use Rattle.aom_machine_instructions.proofs.GoingOn.{goes_on_with}
-use Rattle.aom_machine_state.proofs.Cells.{cells_moved}
-use Rattle.aom_machine_state.proofs.Services.{services_moved}
 use Rattle.aom_roles.specs.Tables.{put_at}
-use Rattle.aom_machine_state.proofs.Sessions.{natives_moved}
 
 module _ (m : Parts) (refused : List ℕ) where
   pub move_does : (a b : ℕ) → a < 16 → b < 16 → Does refused (Move a b) m (places.next (set_register a (register_here m.stack.tasks b) (set_register b null m)))

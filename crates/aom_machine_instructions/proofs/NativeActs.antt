@@ -12,8 +12,7 @@ use Rattle.aom_semantics.specs.Effects.{Sessioned, applied, sets, updates}
 use Rattle.aom_semantics.specs.Natives.{connected, native_of, opens, replied, resessioned}
 use Rattle.aom_semantics.specs.Places.{Register, held}
 use Rattle.aom_semantics.specs.State.{Counters}
-use Rattle.aom_safety.proofs.Requesting.{active_listed}
-use Rattle.aom_safety.proofs.Storing.{resessioned_alike, resessioned_requests}
+use Rattle.aom_machine_instructions.proofs.SafetyLemmas.{active_listed, resessioned_alike, resessioned_requests}
 use Rattle.aom_frames.specs.Tasks.{on_top, with_register}
 use Rattle.aom_machine_state.specs.declared.parts.Parts.{Parts}
 use Rattle.aom_machine_instructions.specs.Acts.{At_hand, Does, DoesIn}
@@ -24,13 +23,10 @@ use Rattle.aom_machine_state.specs.Fields.{this}
 use Rattle.aom_machine_instructions.specs.Next.{IsNext, counting}
 use Rattle.aom_machine_state.specs.Stands.{Stands}
 use Rattle.aom_machine_instructions.specs.Requests.{kind_here}
-use Rattle.aom_machine_state.proofs.Asking.{requests_alike}
-use Rattle.aom_machine_state.proofs.Services.{services_resessioned}
-use Rattle.aom_machine_state.proofs.Still.{still_opened}
+use Rattle.aom_machine_instructions.proofs.MachineStateLemmas.{cells_resessioned, natives_set, requests_alike, services_resessioned, still_opened}
 use Rattle.aom_machine_instructions.proofs.GoingOn.{Beside, goes_on_as, goes_on_with, still_none, written}
 use Rattle.aom_machine_instructions.proofs.Housing.{needs_met}
 use Rattle.aom_machine_instructions.proofs.RequestActs.{OnObject, finds_cell, finds_object, heard_told, kind_told, on_object}
-use Rattle.aom_machine_state.proofs.Sessions.{cells_resessioned, natives_set}
 use Rattle.aom_machine_instructions.proofs.Running.{free}
 use Rattle.aom_machine_instructions.proofs.WordActs.{heard_at, plain_does, word_put}
 

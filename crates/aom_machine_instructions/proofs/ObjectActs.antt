@@ -23,21 +23,17 @@ use Rattle.aom_frames.specs.Tasks.{on_top, with_register, register_here}
 use Rattle.aom_frames.specs.declared.frame.Frame.{Frame as Machine_frame}
 use Rattle.aom_frames.specs.declared.task.Task.{Task as Machine_task}
 use Rattle.aom_frames.specs.declared.task.Task.TheVariants.{Run as Runs_frame}
-use Rattle.aom_machine_state.proofs.Asking.{requests_made}
+use Rattle.aom_machine_instructions.proofs.MachineStateLemmas.{all_same, cases, natives_made, requests_made, services_made, zeros_at}
 use Rattle.aom_machine_state.specs.declared.parts.Parts.{Parts}
 use Rattle.aom_machine_state.specs.Places.{Others, others, value_in, set_register}
 use Rattle.aom_machine_state.specs.Agrees.{Represents, number, SameCells, Agrees, heard_by}
 use Rattle.aom_machine_instructions.specs.Acts.{At_hand, requested, Does, DoesIn}
 use Rattle.aom_machine_state.specs.Cells.{refuses, refuses_entry, Made}
 use Rattle.aom_machine_state.specs.Places as places
-use Rattle.aom_machine_state.proofs.Values.{cases}
-use Rattle.aom_machine_state.proofs.Services.{services_made}
 use Rattle.aom_machine_instructions.proofs.Running.{Top, by_top, register_shows, free, no_word, null_unnamed, unnamed, nothing_held, some_held, heard_fits}
-use Rattle.aom_machine_state.proofs.CellWords.{all_same, zeros_at}
 use Rattle.aom_machine_instructions.proofs.GoingOn.{goes_on_with, still_none, written}
 use Rattle.aom_machine_instructions.proofs.WordActs.{jumps, passes, plain_does, plain_at}
 use Rattle.aom_frames.specs.declared.item.Item.{Item}
-use Rattle.aom_machine_state.proofs.Sessions.{natives_made}
 
 -- what a register shows that has no word
 pub shown : (p : Image) (m : Parts) (h : At_hand p m) (f : Machine_frame) (ms : List Machine_task) → Top m h.state h.frame h.below f ms →

@@ -7,7 +7,7 @@ use Rattle.std.specs.Prelude.{is_some, option_map}
 use Rattle.std.specs.Int.{w32, cast_signed}
 use Rattle.std.proofs.lemmas.Bool.{eq-eqb, false≢true}
 use Rattle.std.proofs.lemmas.Option.{none-some, same_Some}
-use Rattle.aom_image.proofs.Given.{some_given}
+use Rattle.aom_machine_instructions.proofs.ImageLemmas.{some_given}
 use Rattle.aom_image.specs.Image.{Image}
 use Rattle.aom_image.specs.Views.{class_at as declared_at}
 use Rattle.aom_image.specs.declared.class.ClassDecl.{ClassDecl}
@@ -34,10 +34,11 @@ use Rattle.aom_scheduler.specs.declared.request.State.TheVariants.{Active as Mac
 use Rattle.aom_scheduler.specs.declared.request.Request.{Request as Machine_request}
 use Rattle.aom_active.specs.Agrees.{Active, StandsFor, queued}
 use Rattle.aom_active.specs.Meanings.{Enlists, Makes, Times, asked_anew, begun_with, is_being_cancelled, is_busy, is_waited_for}
-use Rattle.aom_active.proofs.Asking.{asked_set, newest, newest_timer, queued_same}
-use Rattle.aom_active.proofs.Telling.{held_state, standing_follows, told_active, told_busy, told_cancelling, told_enlisted, told_fresh, told_state, told_status}
+use Rattle.aom_machine_instructions.proofs.ActiveLemmas.{asked_set, held_state, newest, newest_timer, queued_same, standing_follows, told_active, told_busy}
+use Rattle.aom_machine_instructions.proofs.ActiveLemmas.{told_cancelling, told_enlisted, told_fresh, told_state, told_status}
 use Rattle.aom_semantics.specs.Effects.{applied, cancels_if, jumps_if, updates, Cancels, Requested, writes as writes_word, asking_with, heard}
-use Rattle.aom_machine_state.proofs.Heights.{stands_here}
+use Rattle.aom_machine_instructions.proofs.MachineStateLemmas.{cell_of, cells_asked, natives_rerequested, services_rerequested, services_rerequested_with}
+use Rattle.aom_machine_instructions.proofs.MachineStateLemmas.{stands_here, tokens_forgotten}
 use Rattle.aom_semantics.specs.Enlisted as enlisted
 use Rattle.aom_semantics.specs.Enlisted.{aborted, begun_cells, cancel_method, cancel_of, cancelling, due_after, first_request, home_kind}
 use Rattle.aom_semantics.specs.Enlisted.{in_phase, is_cancelling, is_idle, is_issued, issued_by, issued_of, next_order, next_timer, on_request}
@@ -47,14 +48,10 @@ use Rattle.aom_semantics.specs.Places.{Place, Request, in_session, named, reques
 use Rattle.aom_semantics.specs.State.{Choice, Frame, Home, Inside, Run, State, Task, frame_as}
 use Rattle.aom_semantics.specs.Moves.{needs}
 use Rattle.aom_semantics.specs.Words.{read, word_or_zero}
-use Rattle.aom_safety.proofs.Requesting.{active_listed, issuing_active}
-use Rattle.aom_safety.proofs.Storing.{rerequested_alike}
-use Rattle.aom_safety.proofs.Services.{service_asked}
+use Rattle.aom_machine_instructions.proofs.SafetyLemmas.{active_listed, issuing_active, rerequested_alike, service_asked}
 use Rattle.aom_safety.specs.Requests.{Known, Suits}
 use Rattle.aom_semantics.specs.Tokens.{awaited}
 use Rattle.aom_clients.specs.Lists.{Table}
-use Rattle.aom_machine_state.proofs.Services.{services_rerequested, services_rerequested_with}
-use Rattle.aom_machine_state.proofs.Tokens.{tokens_forgotten}
 use Rattle.aom_machine_state.specs.Serving.{message_name}
 use Rattle.aom_cells.specs.Tokens.{Kept, Sets}
 use Rattle.aom_machine_state.specs.Services.{SameServices}
@@ -69,7 +66,6 @@ use Rattle.aom_machine_state.specs.Agrees.{SameFrame, viewed, Agrees, SameCells,
 use Rattle.aom_machine_state.specs.Fields.{this}
 use Rattle.aom_machine_instructions.specs.Next.{IsNext, counting}
 use Rattle.aom_machine_instructions.specs.Requests.{Issues, kind_here, provider_of}
-use Rattle.aom_machine_state.proofs.CellFields.{cell_of}
 use Rattle.aom_machine_instructions.proofs.FieldActs.{housed, inside_number, inside_object}
 use Rattle.aom_machine_instructions.proofs.GoingActs.{fresh_as, fresh_with, thing_is}
 use Rattle.aom_machine_instructions.proofs.GoingOn.{goes_on_as}
@@ -77,8 +73,6 @@ use Rattle.aom_machine_instructions.proofs.Housing.{at_hand, needs_met}
 use Rattle.aom_machine_instructions.proofs.Running.{begun_as, by_top, free, object_class}
 use Rattle.aom_machine_instructions.proofs.Stepping.{at_step}
 use Rattle.aom_machine_instructions.proofs.WordActs.{heard_at, jumps, passes, plain_at, plain_does, word_put, word_read}
-use Rattle.aom_machine_state.proofs.Asking.{cells_asked}
-use Rattle.aom_machine_state.proofs.Sessions.{natives_rerequested}
 
 -- ---- the cells with another request of one of them
 

@@ -16,18 +16,16 @@ use Rattle.aom_shape.specs.declared.kind.Kind.{Kind}
 use Rattle.aom_shape.specs.declared.kind.Kind.TheVariants.{Own, Maybe}
 use Rattle.aom_shape.specs.Shape.{Shape}
 use Rattle.aom_rules.specs.Typing.{Typing}
-use Rattle.aom_safety.proofs.View.{under_dispatch}
+use Rattle.aom_machine_instructions.proofs.SafetyLemmas.{all_parts, claim_register, claim_register_above, dispatch_layer, ended_alike, fit_steady}
+use Rattle.aom_machine_instructions.proofs.SafetyLemmas.{fits_unowning, mark_layer, method_layer, sits_lives, stands_object, steady_ended, tasks_steady}
+use Rattle.aom_machine_instructions.proofs.SafetyLemmas.{under_dispatch}
 use Rattle.aom_semantics.specs.Calls.{answered_by, below_top, end_needs, ended_well, result_needs, result_register, returned, told_answer}
 use Rattle.aom_safety.specs.Claims.{Layer, Method, Mark, tasks_of, claim, declared}
 use Rattle.aom_semantics.specs.Places.{Cell, named, Session, Tidy, Elsewhere, Entry, Field, Going, Object}
 use Rattle.aom_semantics.specs.Places.{Place, Register, changed, held, moved, same_place, seen}
 use Rattle.aom_semantics.specs.State.{Accepted, Accepts, Of_server, Seat, Dispatch, Dispatched, Frame, Run, State, Task, Trapped, next, set_word, word}
 use Rattle.aom_safety.specs.WellTyped.{Awaits, Fits, Good, WellTyped, WordFits}
-use Rattle.aom_safety.proofs.Claimed.{claim_register_above}
-use Rattle.aom_safety.proofs.Finishing.{all_parts}
-use Rattle.aom_semantics.proofs.Maps.{at-put_at, held_lives, held_moved}
-use Rattle.aom_safety.proofs.Straight.{claim_register, fits_unowning}
-use Rattle.aom_safety.proofs.Layers.{mark_layer, method_layer}
+use Rattle.aom_machine_instructions.proofs.SemanticsLemmas.{at-put_at, held_lives, held_moved}
 use Rattle.aom_frames.specs.Items.{Stack as Machine_items}
 use Rattle.aom_frames.specs.declared.item.Item.TheVariants.{Mark as Is_mark}
 use Rattle.aom_frames.specs.declared.item.Item.{Item}
@@ -39,7 +37,6 @@ use Rattle.aom_frames.specs.declared.dispatch.Dispatch.{Dispatch as Machine_disp
 use Rattle.aom_frames.specs.declared.dispatch.Dispatch.TheVariants.{Server as Of_one_served}
 use Rattle.aom_active.specs.Agrees.{Active}
 use Rattle.aom_semantics.specs.Enlisted.{ended_cells}
-use Rattle.aom_safety.proofs.Storing.{ended_alike}
 use Rattle.aom_machine_instructions.specs.Ends.{heard, told_by}
 use Rattle.aom_machine_instructions.specs.Going.{ending_here}
 use Rattle.aom_machine_instructions.proofs.CancelEnds.{ended_agrees, method_is}
@@ -49,19 +46,18 @@ use Rattle.aom_machine_state.specs.Places.{others, Others, value_in, register_in
 use Rattle.aom_machine_state.specs.Agrees.{subject_of, word_at, Represents, SameDispatch, SameFrame, SameTasks, Agrees, dispatch_of, seat_of}
 use Rattle.aom_machine_instructions.specs.Acts.{At_hand, resulted, DoesIn}
 use Rattle.aom_machine_state.specs.Places as places
-use Rattle.aom_machine_state.proofs.Entries.{mark_shows_none, value_alike}
-use Rattle.aom_machine_state.proofs.Overs.{held_over, higher, over_value, over_words, tasks_over}
+use Rattle.aom_machine_instructions.proofs.MachineStateLemmas.{A_catcher, A_last_trap, A_leave, A_method, Alike, An_end, Tops, alike, at_depth, both_end}
+use Rattle.aom_machine_instructions.proofs.MachineStateLemmas.{both_run, both_trapped, both_unwind, cases, catcher_on_top, cell_small, connecting_below}
+use Rattle.aom_machine_instructions.proofs.MachineStateLemmas.{end_on_top, going_past, held_over, higher, kept, last_trap_on_top, leave_on_top, mark_shows_none}
+use Rattle.aom_machine_instructions.proofs.MachineStateLemmas.{method_on_top, none_alike, over_value, over_words, register_past, tasks_over, tops, value_alike}
+use Rattle.aom_machine_instructions.proofs.MachineStateLemmas.{value_kept, value_written, word_next, word_past, word_written, writes}
 use Rattle.aom_machine_instructions.proofs.CallActs.{closing, ended, fits_null, shows_null}
 use Rattle.aom_image.specs.declared.method.Thing.{Thing}
 use Rattle.aom_cells.specs.Heap.{cell_at}
 use Rattle.aom_clients.specs.Clients as kept_clients
 use Rattle.aom_frames.specs.declared.dispatch.Stage.TheVariants as stages
 use Rattle.aom_frames.specs.declared.dispatch.Subject.{Subject}
-use Rattle.aom_image.proofs.Given.{some_given}
-use Rattle.aom_safety.proofs.ClientsMoves.{fit_steady, steady_ended, tasks_steady}
-use Rattle.aom_safety.proofs.Layers.{dispatch_layer}
-use Rattle.aom_safety.proofs.Services.{sits_lives}
-use Rattle.aom_safety.proofs.Things.{stands_object}
+use Rattle.aom_machine_instructions.proofs.ImageLemmas.{none_given, some_given}
 use Rattle.aom_safety.specs.Kept.{StageKept, TasksKept}
 use Rattle.aom_semantics.specs.Objects.{is_thing}
 use Rattle.aom_semantics.specs.Servers.{of_class, session_class}
@@ -73,20 +69,13 @@ use Rattle.aom_machine_instructions.specs.Next.{IsNext, counting}
 use Rattle.aom_machine_instructions.specs.Requests.{IsOver}
 use Rattle.aom_machine_instructions.proofs.Housing.{at_hand, needs_met}
 use Rattle.aom_machine_instructions.proofs.Stepping.{at_step}
-use Rattle.aom_machine_state.proofs.Premises.{connecting_below}
-use Rattle.aom_machine_state.proofs.Cells.{cell_small}
 use Rattle.aom_machine_instructions.proofs.Running.{Aside, Top, agrees_with, aside_moved, aside_of, aside_unmarked, by_top}
 use Rattle.aom_machine_instructions.proofs.Running.{free, moved_on, no_word, object_lives_at, register_shows, retasked}
 use Rattle.std.specs.Bool.{OnTrue}
 use Rattle.std.specs.Prelude.{IsSome, is_some}
 use Rattle.std.proofs.lemmas.Option.{none-some}
-use Rattle.aom_image.proofs.Given.{none_given}
 use Rattle.aom_roles.specs.Things.{is_object}
 use Rattle.aom_roles.specs.Tests.{AllTrue}
-use Rattle.aom_machine_state.proofs.Alike.{A_catcher, A_last_trap, A_leave, A_method, An_end, Alike, Tops, alike, both_end, both_run, both_trapped}
-use Rattle.aom_machine_state.proofs.Alike.{both_unwind, catcher_on_top, end_on_top, last_trap_on_top, leave_on_top, method_on_top, tops}
-use Rattle.aom_machine_state.proofs.Values.{at_depth, cases, going_past, kept, none_alike, register_past, value_kept}
-use Rattle.aom_machine_state.proofs.Values.{value_written, word_next, word_past, word_written, writes}
 use Rattle.aom_machine_instructions.proofs.WordActs.{plain_at, word_read}
 
 -- what a method gives back

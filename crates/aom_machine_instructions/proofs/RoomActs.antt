@@ -2,7 +2,7 @@
 use Rattle.std.proofs.lemmas.Bool.Decides.{nat_tests}
 use Rattle.std.proofs.Common.{Bool, List, None, Option, Some, [], ap, arith, cond, false, inl, length, refl, subst}
 use Rattle.std.proofs.Common.{suc, sym, true, ℕ, ℤ, pos, ◌&&◌, ◌==◌, ◌+◌, ◌-◌, ◌<◌, ◌∙◌, ◌∷◌, ◌≡◌, ◌≤◌}
-use Rattle.aom_image.proofs.Given.{false_given, some_given}
+use Rattle.aom_machine_instructions.proofs.ImageLemmas.{false_given, some_given}
 use Rattle.std.proofs.lemmas.Bool.{ne_eqb}
 use Rattle.std.specs.Prelude.{is_some, not, ◌||◌}
 use Rattle.aom_image.specs.Image.{Image}
@@ -18,7 +18,7 @@ use Rattle.aom_image.specs.declared.method.Thing.{Thing}
 use Rattle.aom_image.specs.declared.method.Thing.TheVariants.{Object as An_object_of, Message}
 use Rattle.aom_roles.specs.Tests.{AllTrue}
 use Rattle.aom_roles.specs.Roles.{is_construct}
-use Rattle.aom_classes.proofs.Facts.{of_method}
+use Rattle.aom_machine_instructions.proofs.ClassesLemmas.{of_method}
 use Rattle.aom_rules.specs.Calls.{each_argument, rule_target}
 use Rattle.aom_rules.specs.Cleanup.{entry_of}
 use Rattle.aom_shape.specs.Entries.{with_entry}
@@ -34,15 +34,12 @@ use Rattle.aom_shape.specs.declared.kind.Kind.TheVariants.{Maybe, Null, Own}
 use Rattle.aom_typings.specs.Strongest.{IsStrongest}
 use Rattle.aom_typings.specs.Calls.{Among, MayCall, callees, cancels, destructors, object_class, thing_class}
 use Rattle.aom_typings.specs.Heights.{CallsOver, Enters, StandsWith}
-use Rattle.aom_safety.proofs.Claimed.{length_objects}
-use Rattle.aom_safety.proofs.Destroying.{destroys}
-use Rattle.aom_safety.proofs.Finishing.{all_parts, none_left, returnable}
-use Rattle.aom_safety.proofs.Items.{length_forms}
-use Rattle.aom_semantics.proofs.Maps.{held_without, held_moved, same_place_refl}
-use Rattle.aom_safety.proofs.Redeeming.{redeemed_by_alike}
-use Rattle.aom_safety.proofs.Storing.{ended_alike, held_set_word, rerequested_alike, resessioned_alike}
-use Rattle.aom_typings.proofs.Listed.{run_among, cancel_among, kept_in_line, runs_among, stands_among}
-use Rattle.aom_roles.proofs.Descending.{itself}
+use Rattle.aom_machine_instructions.proofs.SafetyLemmas.{all_parts, body_leaves, body_quiet, cancel_family, cancel_quiet, destroys, ended_alike, held_served}
+use Rattle.aom_machine_instructions.proofs.SafetyLemmas.{held_set_word, length_forms, length_objects, none_left, only_then, redeemed_by_alike}
+use Rattle.aom_machine_instructions.proofs.SafetyLemmas.{rerequested_alike, resessioned_alike, returnable}
+use Rattle.aom_machine_instructions.proofs.SemanticsLemmas.{held_moved, held_without, same_place_refl}
+use Rattle.aom_machine_instructions.proofs.TypingsLemmas.{cancel_among, kept_in_line, run_among, runs_among, stands_among}
+use Rattle.aom_machine_instructions.proofs.RolesLemmas.{itself}
 use Rattle.aom_semantics.specs.Calls.{ended_well, accepted_cells, below_top, entered, given_cells, over_caller, over_trap, passed_cells}
 use Rattle.aom_semantics.specs.Calls.{received, result_cells, result_register, returned, run_by, target_view}
 use Rattle.aom_safety.specs.Claims.{objects}
@@ -60,15 +57,12 @@ use Rattle.aom_semantics.specs.State.{Home, Inside, Item, Run, State, Task, Trap
 use Rattle.aom_safety.specs.WellTyped.{AllUndo, Fits, IsUndo}
 use Rattle.aom_semantics.specs.Words.{here, stored}
 use Rattle.aom_machine_state.specs.Room.{Destructs, IsUnder, NoClosing, below_height, entries_in, may_push}
-use Rattle.aom_machine_state.proofs.Depths.{AllLow, Roomy, SameBelow, begins, closing_begins, dropped, going_begins, held_apart}
-use Rattle.aom_machine_state.proofs.Depths.{item_pushed, lower, off_to_trap, popped, popped_top, recelled, top_under}
-use Rattle.aom_machine_state.proofs.Heights.{LowUnder, Stands_here, own_entries}
+use Rattle.aom_machine_instructions.proofs.MachineStateLemmas.{AllLow, LowUnder, Roomy, SameBelow, Stands_here, begins, closing_begins, dropped, going_begins}
+use Rattle.aom_machine_instructions.proofs.MachineStateLemmas.{held_apart, item_pushed, lower, off_to_trap, own_entries, popped, popped_top, recelled}
+use Rattle.aom_machine_instructions.proofs.MachineStateLemmas.{top_under}
 use Rattle.aom_semantics.specs.Enlisted.{begun_cells, cancel_method, cancelling, ended_cells, on_request, own_request}
 use Rattle.aom_semantics.specs.Tokens.{redeemed_by, token_of}
-use Rattle.aom_families.proofs.Running.{body_runs}
-use Rattle.aom_safety.proofs.Callees.{cancel_family, cancel_quiet, only_then}
-use Rattle.aom_safety.proofs.Overriders.{body_leaves, body_quiet}
-use Rattle.aom_safety.proofs.Services.{held_served}
+use Rattle.aom_machine_instructions.proofs.FamiliesLemmas.{body_runs}
 use Rattle.aom_semantics.specs.Servers.{is_server}
 
 -- what runs as an object goes may run as one of the class does that its register's kind tells

@@ -6,7 +6,7 @@ use Rattle.std.proofs.lemmas.Bool.{eq-eqb, true≢false}
 use Rattle.std.proofs.lemmas.List.{append-nil}
 use Rattle.std.specs.Prelude.{is_some}
 use Rattle.aom_image.specs.Image.{Image}
-use Rattle.aom_image.proofs.Given.{some_given}
+use Rattle.aom_machine_instructions.proofs.ImageLemmas.{some_given}
 use Rattle.aom_image.specs.Views.{gives_of, instr_at}
 use Rattle.aom_instructions.specs.declared.instr.Instr.{Instr}
 use Rattle.aom_image.specs.declared.method.Gives.{Gives}
@@ -19,10 +19,11 @@ use Rattle.aom_typings.specs.Strongest.{IsStrongest}
 use Rattle.aom_typings.specs.Depths.{HasDepths}
 use Rattle.aom_typings.specs.Heights.{HasHeights}
 use Rattle.aom_typings.specs.Calls.{Among, destructors, lines_of, thing_class}
-use Rattle.aom_typings.proofs.Listed.{among_right, below_from, below_lists, gone_with, kept_in_line, runs_among}
-use Rattle.aom_roles.proofs.Descending.{child, itself, through}
+use Rattle.aom_machine_instructions.proofs.TypingsLemmas.{among_right, below_from, below_lists, gone_with, kept_in_line, runs_among}
+use Rattle.aom_machine_instructions.proofs.RolesLemmas.{child, itself, through}
 use Rattle.aom_roles.specs.Families.{parent_of, parent_above, parent_by}
-use Rattle.aom_safety.proofs.Moving.{steps_are_moves}
+use Rattle.aom_machine_instructions.proofs.SafetyLemmas.{claim_going_above, closing_layer, destroys_by, dispatch_layer, dropped, each_unslotted_alike}
+use Rattle.aom_machine_instructions.proofs.SafetyLemmas.{fits_unowning, held_dropped, method_layer, queue_dropped, stands_session_of, steps_are_moves}
 use Rattle.aom_semantics.specs.Effects.{Effect, applied}
 use Rattle.aom_roles.specs.Classes.{sessions_at, sessions_in}
 use Rattle.aom_roles.specs.Shapes.{kind_of}
@@ -32,17 +33,12 @@ use Rattle.aom_roles.specs.Tests.{AllTrue}
 use Rattle.aom_shape.specs.Kinds.{filled}
 use Rattle.aom_shape.specs.declared.kind.Filling.TheVariants.{Full}
 use Rattle.aom_shape.specs.declared.kind.Kind.TheVariants.{Null}
-use Rattle.aom_safety.proofs.Claimed.{claim_going_above}
-use Rattle.aom_safety.proofs.Housing.{stands_session_of}
-use Rattle.aom_safety.proofs.Straight.{fits_unowning}
 use Rattle.aom_semantics.specs.Destruction.{class_destructor, first_session, parting, seat_or}
 use Rattle.aom_safety.specs.Steps.{Empties, Acts, Arrives, Clears, Comes_out, Ends, Fits, Move, Rests, Undoes, Vanishes}
-use Rattle.aom_semantics.proofs.Maps.{held_without}
+use Rattle.aom_machine_instructions.proofs.SemanticsLemmas.{held_without}
 use Rattle.aom_semantics.specs.Calls.{called, result_register}
 use Rattle.aom_semantics.specs.Cleanup.{code_told}
 use Rattle.aom_safety.specs.Laws.{IsWired}
-use Rattle.aom_safety.proofs.Destroying.{destroys_by}
-use Rattle.aom_safety.proofs.Layers.{closing_layer, dispatch_layer, method_layer}
 use Rattle.aom_safety.specs.Claims.{Dispatching, Dying, Ending, Layer, Method, claim, declared, forms, items_of, tasks_of}
 use Rattle.aom_semantics.specs.Moves.{answered, asking, counted, dispatch_ends, main_ends, step}
 use Rattle.aom_semantics.specs.Places.{service_of, Entry, Cell, Elsewhere, Going, Object, Place, Root, Session, held, moved, same_place, seen, without}
@@ -51,13 +47,11 @@ use Rattle.aom_semantics.specs.State.{Goes, Home, Item, Counters, Run, Seat, Sta
 use Rattle.aom_safety.specs.WellTyped.{AllUndo, Fits as Fits_kind, Good, IsOfFamily, IsOverDying, WellTyped}
 use Rattle.aom_semantics.specs.World.{boot_state}
 use Rattle.aom_machine_state.specs.Room.{Destructs, HasRoom, entries_in}
-use Rattle.aom_machine_state.proofs.Depths.{Roomy, going_ends, held_apart, on_again, popped, recelled}
-use Rattle.aom_machine_state.proofs.Heights.{Stands_here, low_unwinding, stands_here}
+use Rattle.aom_machine_instructions.proofs.MachineStateLemmas.{Roomy, Stands_here, going_ends, held_apart, low_unwinding, on_again, popped, recelled}
+use Rattle.aom_machine_instructions.proofs.MachineStateLemmas.{stands_here}
 use Rattle.aom_machine_instructions.proofs.RoomActs.{IsDealt, LineGoes, NextGoes, Tables, acts_room, begins_over, clears}
 use Rattle.aom_machine_instructions.proofs.RoomActs.{destructed_over, goes_there_now, going_apart, session_apart, undoes}
 use Rattle.aom_clients.specs.declared.client.Client.{Client}
-use Rattle.aom_safety.proofs.Dropping.{dropped, queue_dropped, held_dropped}
-use Rattle.aom_safety.proofs.Unslotting.{each_unslotted_alike}
 use Rattle.aom_semantics.specs.Clients.{each_unslotted}
 use Rattle.aom_semantics.specs.Servers.{is_among, is_queue_of, is_server, of_class, session_class, without_queue}
 

@@ -26,8 +26,7 @@ use Rattle.aom_safety.specs.Traps.{marks}
 use Rattle.aom_machine_instructions.proofs.Counts.{marks_at_hand, push_at_hand, push_operation_at_hand, tasks_at_hand}
 use Rattle.aom_machine_instructions.proofs.RoomMoves.{boots_with_room, keeps_room}
 use Rattle.aom_machine_instructions.proofs.Stepping.{frame_of}
-use Rattle.aom_machine_state.proofs.Values.{same_length}
-use Rattle.aom_machine_state.proofs.Alike.{by_item, by_items}
+use Rattle.aom_machine_instructions.proofs.MachineStateLemmas.{by_item, by_items, same_length}
 
 -- each move keeps the room
 pub room_kept : (p : Image) (t : Typing) (s u : State) (sound : Sound p t) → WellTyped p t s → IsCalm p s.tasks → (c : Choice) → HasRoom p

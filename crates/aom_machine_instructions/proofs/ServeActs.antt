@@ -12,8 +12,8 @@ use Rattle.aom_frames.specs.declared.dispatch.Stage.TheVariants as stages
 use Rattle.aom_frames.specs.declared.dispatch.Subject.{Subject}
 use Rattle.aom_frames.specs.declared.task.Task.{Task as Machine_task}
 use Rattle.aom_frames.specs.declared.task.Task.TheVariants.{Dispatched as Ends}
-use Rattle.aom_semantics.proofs.Maps.{cond_same, held_moved}
-use Rattle.aom_safety.proofs.Services.{held_served}
+use Rattle.aom_machine_instructions.proofs.SemanticsLemmas.{cond_same, held_moved}
+use Rattle.aom_machine_instructions.proofs.SafetyLemmas.{held_served}
 use Rattle.aom_semantics.specs.Calls.{accepted_cells, accepted_clients, below_top}
 use Rattle.aom_semantics.specs.Clients.{at_opening, client_at, with_client}
 use Rattle.aom_safety.specs.Kept.{ClientsFit, StageKept}
@@ -21,20 +21,10 @@ use Rattle.aom_semantics.specs.Places.{Cell, Elsewhere, Entry, Field, Going, In_
 use Rattle.aom_semantics.specs.Places.{Root, Session, Tidy, held, moved, named, same_place, service_of}
 use Rattle.aom_semantics.specs.Servers.{opened, reserved}
 use Rattle.aom_semantics.specs.State.{Accepts, Accepted, Dispatched, Of_server, State, Task}
-use Rattle.aom_machine_state.proofs.Asking.{requests_kept, requests_moved}
-use Rattle.aom_machine_state.proofs.Beside.{beside_served, cells_beside, listed_beside, natives_beside}
-use Rattle.aom_machine_state.proofs.Cells.{cells_moved}
-use Rattle.aom_machine_state.proofs.Elsewhere.{session_opened}
-use Rattle.aom_machine_state.proofs.Entries.{mark_shows_none, unmarked}
-use Rattle.aom_machine_state.proofs.Messages.{messages_moved, messages_served}
-use Rattle.aom_machine_state.proofs.Premises.{connecting_below, connects_nowhere}
-use Rattle.aom_machine_state.proofs.Services.{services_moved}
-use Rattle.aom_machine_state.proofs.Told.{told_served, tokens_beside}
-use Rattle.aom_machine_state.proofs.Serving.{same_opened}
-use Rattle.aom_machine_state.proofs.Servicing.{connecting_here, reserved_moved}
-use Rattle.aom_machine_state.proofs.Sessions.{natives_moved}
-use Rattle.aom_machine_state.proofs.Sizing.{sized_connected}
-use Rattle.aom_machine_state.proofs.Still.{same_still, still_moved}
+use Rattle.aom_machine_instructions.proofs.MachineStateLemmas.{beside_served, cells_beside, cells_moved, connecting_below, connecting_here, connects_nowhere}
+use Rattle.aom_machine_instructions.proofs.MachineStateLemmas.{listed_beside, mark_shows_none, messages_moved, messages_served, natives_beside, natives_moved}
+use Rattle.aom_machine_instructions.proofs.MachineStateLemmas.{requests_kept, requests_moved, reserved_moved, same_opened, same_still, services_moved}
+use Rattle.aom_machine_instructions.proofs.MachineStateLemmas.{session_opened, sized_connected, still_moved, tokens_beside, told_served, unmarked}
 use Rattle.aom_machine_state.specs.Agrees.{Agrees, Represents, seat_of, subject_of, word_at}
 use Rattle.aom_machine_state.specs.Places.{others, value_in}
 use Rattle.aom_machine_state.specs.Serving.{SameClients}

@@ -19,11 +19,8 @@ use Rattle.aom_image.specs.declared.method.Thing.TheVariants.{Message}
 use Rattle.aom_machine_state.specs.LineBuffer.{LineBuffer}
 use Rattle.aom_cells.specs.Store.{Store}
 use Rattle.aom_rules.specs.Typing.{Typing}
-use Rattle.aom_safety.proofs.Layers.{dispatch_layer}
-use Rattle.aom_semantics.proofs.Maps.{held_without}
-use Rattle.aom_safety.proofs.Picking.{own_held}
-use Rattle.aom_safety.proofs.Services.{held_served}
-use Rattle.aom_safety.proofs.Things.{stands_message}
+use Rattle.aom_machine_instructions.proofs.SafetyLemmas.{dispatch_layer, has_sender, held_served, own_held, stands_message}
+use Rattle.aom_machine_instructions.proofs.SemanticsLemmas.{held_without}
 use Rattle.aom_semantics.specs.Clients.{at_parting, client_at, with_client}
 use Rattle.aom_clients.specs.declared.client.Client.{Client}
 use Rattle.aom_clients.specs.declared.client.Client.TheVariants.{Unconnected}
@@ -38,20 +35,13 @@ use Rattle.aom_semantics.specs.State.{Accept_left, Accepted, Accepts, Dispatched
 use Rattle.aom_semantics.specs.State as checked
 use Rattle.aom_safety.specs.WellTyped.{Fits, Good, WellTyped}
 use Rattle.aom_safety.specs.Claims.{claim, declared}
-use Rattle.aom_safety.proofs.Sources.{has_sender}
 use Rattle.aom_shape.specs.declared.kind.Kind.TheVariants.{Null}
-use Rattle.aom_machine_state.proofs.Asking.{requests_kept}
-use Rattle.aom_machine_state.proofs.Beside.{beside_served, cells_beside, listed_beside, natives_beside}
-use Rattle.aom_machine_state.proofs.CellFields.{served_written}
-use Rattle.aom_machine_state.proofs.Elsewhere.{connect_left, session_closed}
-use Rattle.aom_machine_state.proofs.Messages.{messages_served}
-use Rattle.aom_machine_state.proofs.Premises.{connecting_below, leaving_below}
-use Rattle.aom_machine_state.proofs.Told.{told_served, tokens_beside}
-use Rattle.aom_machine_state.proofs.Replying.{cells_completed, completion_told, message_kept, natives_completed, place_below, place_of, requests_completed, services_completed, was_taken}
-use Rattle.aom_machine_state.proofs.Servicing.{connecting_here, same_closed, same_unaccepted}
-use Rattle.aom_machine_state.proofs.Sizing.{sized_closed, sized_connected}
-use Rattle.aom_machine_state.proofs.Telling.{completed_lines, message_told}
-use Rattle.aom_machine_state.proofs.Values.{kept as stays, writes}
+use Rattle.aom_machine_instructions.proofs.MachineStateLemmas.{beside_served, cells_beside, cells_completed, completed_lines, completion_told, connect_left}
+use Rattle.aom_machine_instructions.proofs.MachineStateLemmas.{connecting_below, connecting_here, kept as stays, leaving_below, listed_beside, message_kept}
+use Rattle.aom_machine_instructions.proofs.MachineStateLemmas.{message_told, messages_served, natives_beside, natives_completed, place_below, place_of}
+use Rattle.aom_machine_instructions.proofs.MachineStateLemmas.{requests_completed, requests_kept, same_closed, same_unaccepted, served_written}
+use Rattle.aom_machine_instructions.proofs.MachineStateLemmas.{services_completed, session_closed, sized_closed, sized_connected, tokens_beside, told_served}
+use Rattle.aom_machine_instructions.proofs.MachineStateLemmas.{was_taken, writes}
 use Rattle.aom_machine_state.specs.Agrees.{Agrees, SameCells, SameNatives, SameRequests, Represents, dispatch_of, number, seat_of, stage_of, subject_of, word_at}
 use Rattle.aom_machine_state.specs.Places.{others, session_with, value_in, with_tasks}
 use Rattle.aom_machine_state.specs.Serving.{message_name}

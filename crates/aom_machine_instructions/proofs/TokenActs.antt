@@ -8,7 +8,7 @@ use Rattle.std.proofs.lemmas.Option.{none-some}
 use Rattle.std.specs.Int.{w32, cast_signed}
 use Rattle.aom_active.specs.Agrees.{Active, StandsFor, queued}
 use Rattle.aom_active.specs.Meanings.{asked_anew}
-use Rattle.aom_active.proofs.Telling.{held_state}
+use Rattle.aom_machine_instructions.proofs.ActiveLemmas.{held_state}
 use Rattle.aom_cells.specs.Heap.{Lives, cell_at, class_at as class_of_cell, null}
 use Rattle.aom_frames.specs.Tasks.{on_top, register_here, with_register}
 use Rattle.aom_image.specs.Image.{Image}
@@ -20,12 +20,9 @@ use Rattle.aom_machine_state.specs.LineBuffer.{LineBuffer}
 use Rattle.aom_cells.specs.Store.{Changes, Store, count, first_number, message_at}
 use Rattle.aom_scheduler.specs.Requests.{is_pending, request_at, state_at}
 use Rattle.aom_roles.specs.Tables.{put_at}
-use Rattle.aom_safety.proofs.Handing.{token_active}
+use Rattle.aom_machine_instructions.proofs.SafetyLemmas.{active_listed, awaits_owed, redeemed_alike, rerequested_alike, token_active}
 use Rattle.aom_rules.specs.Typing.{Typing}
-use Rattle.aom_semantics.proofs.Maps.{held_without, named_name, requested_unnamed}
-use Rattle.aom_safety.proofs.Redeeming.{awaits_owed, redeemed_alike}
-use Rattle.aom_safety.proofs.Requesting.{active_listed}
-use Rattle.aom_safety.proofs.Storing.{rerequested_alike}
+use Rattle.aom_machine_instructions.proofs.SemanticsLemmas.{held_without, named_name, requested_unnamed}
 use Rattle.aom_semantics.specs.Clients.{count_messages}
 use Rattle.aom_semantics.specs.Effects.{applied, hands_unless, sets}
 use Rattle.aom_semantics.specs.Enlisted.{completed_at_once, home_kind, is_idle, is_unanswered, on_request, own_request, rerequested}
@@ -40,12 +37,10 @@ use Rattle.aom_semantics.specs.Tokens.{is_order, needs_hand, next_token, order_i
 use Rattle.aom_safety.specs.WellTyped.{WellTyped}
 use Rattle.aom_semantics.specs.Words.{read}
 use Rattle.aom_semantics.specs.Lines.{message_line, told_line}
-use Rattle.aom_machine_state.proofs.Handing.{cells_handed, natives_handed, requests_handed, services_handed, with_its_token}
-use Rattle.aom_machine_state.proofs.Owed.{pending_told}
-use Rattle.aom_machine_state.proofs.Sessions.{natives_rerequested}
-use Rattle.aom_machine_state.proofs.Redeeming.{cells_answered, its_order, its_token, natives_answered, redeemed_left}
-use Rattle.aom_machine_state.proofs.Redeeming.{requests_answered, services_answered, waits_here}
-use Rattle.aom_machine_state.proofs.Replying.{completion_told, message_kept, place_below, place_of, told_no_sender}
+use Rattle.aom_machine_instructions.proofs.MachineStateLemmas.{cells_answered, cells_handed, completion_told, its_order, its_token, message_kept}
+use Rattle.aom_machine_instructions.proofs.MachineStateLemmas.{natives_answered, natives_handed, natives_rerequested, pending_told, place_below, place_of}
+use Rattle.aom_machine_instructions.proofs.MachineStateLemmas.{redeemed_left, requests_answered, requests_handed, services_answered, services_handed}
+use Rattle.aom_machine_instructions.proofs.MachineStateLemmas.{told_no_sender, waits_here, with_its_token}
 use Rattle.aom_machine_state.specs.Agrees.{Agrees, SameRequests, heard_by}
 use Rattle.aom_machine_state.specs.Fields.{this}
 use Rattle.aom_machine_state.specs.Places as places

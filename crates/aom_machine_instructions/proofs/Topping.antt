@@ -18,8 +18,7 @@ use Rattle.aom_semantics.specs.Cleanup.{tops_entry, tops_object, top_is_whole}
 use Rattle.aom_semantics.specs.Places.{Entry, held}
 use Rattle.aom_semantics.specs.State.{Frame, Task, Run, Trapped, Item, State}
 use Rattle.aom_safety.specs.WellTyped.{Good, LeavesNone, WellTyped}
-use Rattle.aom_safety.proofs.Finishing.{all_parts}
-use Rattle.aom_safety.proofs.Layers.{mark_layer, method_layer}
+use Rattle.aom_machine_instructions.proofs.SafetyLemmas.{all_parts, entry_object, mark_layer, method_layer}
 use Rattle.aom_frames.specs.Tasks.{Runs, method_here, place_here, below_first}
 use Rattle.aom_frames.specs.declared.task.Task.{Task as Machine_task}
 use Rattle.aom_frames.specs.declared.task.Task.TheVariants.{Run as Runs_frame, Trapped as Is_trap}
@@ -32,11 +31,10 @@ use Rattle.aom_machine_state.specs.Places.{others, value_in, IsEnding, IsTrapped
 use Rattle.aom_machine_state.specs.Room.{ReturnsTo}
 use Rattle.std.specs.Bool.{OnFalse}
 use Rattle.std.proofs.lemmas.Bool.{false≢true}
-use Rattle.aom_image.proofs.Given.{some_given}
-use Rattle.aom_machine_state.proofs.Alike.{A_catcher, A_method, A_trap, Alike, Alike_items, Tops, alike, both_objects, both_trapped, by_item}
-use Rattle.aom_machine_state.proofs.Alike.{by_items, catcher_on_top, items_alike, method_on_top, same_below, tops, trap_on_top}
-use Rattle.aom_machine_state.proofs.Entries.{same_items_length, top_value}
-use Rattle.aom_safety.proofs.Owned.{entry_object}
+use Rattle.aom_machine_instructions.proofs.ImageLemmas.{some_given}
+use Rattle.aom_machine_instructions.proofs.MachineStateLemmas.{A_catcher, A_method, A_trap, Alike, Alike_items, Tops, alike, both_objects, both_trapped}
+use Rattle.aom_machine_instructions.proofs.MachineStateLemmas.{by_item, by_items, catcher_on_top, items_alike, method_on_top, same_below, same_items_length}
+use Rattle.aom_machine_instructions.proofs.MachineStateLemmas.{top_value, tops, trap_on_top}
 use Rattle.aom_machine_instructions.proofs.Finding.{class_fits, object_lives}
 use Rattle.aom_machine_instructions.proofs.Housing.{at_hand, needs_met}
 use Rattle.aom_machine_instructions.proofs.Stepping.{at_step}

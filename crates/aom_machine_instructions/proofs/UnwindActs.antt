@@ -17,7 +17,7 @@ use Rattle.aom_frames.specs.declared.item.Item.{Item as Machine_item}
 use Rattle.aom_frames.specs.declared.item.Item.TheVariants.{Mark as Is_mark}
 use Rattle.aom_roles.specs.Tables.{at, put_at}
 use Rattle.aom_rules.specs.Typing.{Typing}
-use Rattle.aom_safety.proofs.View.{under_dispatch}
+use Rattle.aom_machine_instructions.proofs.SafetyLemmas.{claim_register, goes_same, guarded_goes, guarded_met, leave_layer, under_dispatch}
 use Rattle.aom_semantics.specs.Calls.{below_top, called, result_register}
 use Rattle.aom_safety.specs.Claims.{Unwinding, tasks_of, declared}
 use Rattle.aom_semantics.specs.Cleanup.{arrival, code_told, dealt_with as deals_with, ended_by, top_is_whole, tops_entry, unwound}
@@ -27,11 +27,8 @@ use Rattle.aom_semantics.specs.State.{Frame, Task, Run, Trapped, Unwind, Dispatc
 use Rattle.aom_semantics.specs.State.{A_mark, State, Goes, IsStuck, NullOrDead, next, set_word, word}
 use Rattle.aom_safety.specs.WellTyped.{Good, Keeps, WellTyped}
 use Rattle.aom_transcript.specs.declared.line.Line.TheVariants.{Leave}
-use Rattle.aom_safety.proofs.Guarded.{goes_same, guarded_goes, guarded_met}
 use Rattle.aom_safety.specs.Traps.{AllAtTraps}
-use Rattle.aom_safety.proofs.Straight.{claim_register}
-use Rattle.aom_semantics.proofs.Maps.{at-put_at}
-use Rattle.aom_safety.proofs.Layers.{leave_layer}
+use Rattle.aom_machine_instructions.proofs.SemanticsLemmas.{at-put_at}
 use Rattle.aom_machine_state.specs.LineBuffer.{LineBuffer}
 use Rattle.aom_frames.specs.Tasks.{Runs, method_here, place_here, below_first}
 use Rattle.aom_frames.specs.declared.frame.Frame.{Frame as Machine_frame}
@@ -48,18 +45,16 @@ use Rattle.aom_machine_state.specs.Room.{CalleeThere, CallsThere, ReturnsTo}
 use Rattle.aom_machine_state.specs.Stands.{Stands}
 use Rattle.aom_machine_instructions.proofs.CallActs.{closing, ended}
 use Rattle.aom_machine_instructions.proofs.DealActs.{deals}
-use Rattle.aom_machine_state.proofs.Entries.{mark_shows_none, value_alike}
+use Rattle.aom_machine_instructions.proofs.MachineStateLemmas.{A_caught_leave, A_last_leave, Alike, Alike_items, Entries_alike, Tops, alike, both_end}
+use Rattle.aom_machine_instructions.proofs.MachineStateLemmas.{both_marks, both_run, both_trapped, both_unwind, caught_leave_on_top, entries_alike, entries_own}
+use Rattle.aom_machine_instructions.proofs.MachineStateLemmas.{entries_run, items_alike, kept, last_leave_on_top, mark_shows_none, none_alike, over_value}
+use Rattle.aom_machine_instructions.proofs.MachineStateLemmas.{over_words, same_below, same_length, tops, value_alike, value_written, word_written, writes}
 use Rattle.aom_machine_instructions.proofs.Finding.{held_beneath, unwinds_over, IsTrapOnTop}
 use Rattle.aom_machine_instructions.proofs.LeavingActs.{unwinds_value, unwinds_word}
-use Rattle.aom_machine_state.proofs.Overs.{over_value, over_words}
-use Rattle.aom_machine_state.proofs.Alike.{A_caught_leave, A_last_leave, Alike, Alike_items, Entries_alike, Tops, alike, both_end}
-use Rattle.aom_machine_state.proofs.Alike.{both_marks, both_run, both_trapped, both_unwind, caught_leave_on_top, entries_alike}
-use Rattle.aom_machine_state.proofs.Alike.{entries_own, entries_run, items_alike, last_leave_on_top, same_below, tops}
 use Rattle.aom_machine_instructions.proofs.ReturnActs.{awaiting, awaits_none, bears, caught_layer, word_alone}
 use Rattle.aom_machine_instructions.proofs.Running.{agrees_with, an_open, aside_of, aside_unmarked, moved_on}
 use Rattle.aom_machine_instructions.proofs.Stepping.{at_rest, goes_somewhere, step_of_unwinding, unwinding_of}
 use Rattle.aom_machine_instructions.proofs.Topping.{top_lives}
-use Rattle.aom_machine_state.proofs.Values.{kept, none_alike, same_length, value_written, word_written, writes}
 
 -- ---- what is pushed is dealt with
 

@@ -14,7 +14,7 @@ use Rattle.aom_cells.specs.Store.{Store, message_at}
 use Rattle.aom_machine_state.specs.LineBuffer.{LineBuffer}
 use Rattle.aom_machine_state.specs.declared.parts.Parts.{Parts}
 use Rattle.aom_machine_instructions.specs.Serving.{AllKept, Drops, EntryKept, IsOnce, answers, count_messages, gone_line, gone_lines, has_message, is_message}
-use Rattle.aom_machine_state.proofs.Serving.{front_false}
+use Rattle.aom_machine_instructions.proofs.MachineStateLemmas.{front_false}
 
 -- ---- messages that are kept no more
 

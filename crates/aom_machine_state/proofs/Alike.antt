@@ -2,7 +2,7 @@
 use Rattle.std.proofs.lemmas.Bool.Decides.{nat_tests}
 use Rattle.std.proofs.Common.{List, [], ◌∷◌, ◌≡◌, ◌<◌, ℕ, ℤ, length, ap, arith}
 use Rattle.std.specs.Int.{w32, cast_signed}
-use Rattle.aom_image.proofs.Given.{cons_given}
+use Rattle.aom_machine_state.proofs.ImageLemmas.{cons_given}
 use Rattle.aom_frames.specs.Items.{IsAboveMark}
 use Rattle.aom_frames.specs.Tasks.{Runs, below_first}
 use Rattle.aom_machine_state.specs.Places.{IsClosing, IsDestroying, IsEnding, IsTrapped, IsUnwinding}

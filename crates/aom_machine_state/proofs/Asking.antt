@@ -7,7 +7,8 @@ use Rattle.aom_image.specs.Image.{Image}
 use Rattle.aom_image.specs.declared.method.Argument.{Argument}
 use Rattle.aom_image.specs.declared.method.Argument.TheVariants.{Own as Takes_own, Word as Takes_word}
 use Rattle.aom_image.specs.declared.method.Thing.{Thing}
-use Rattle.aom_safety.proofs.Counts.{count_asked}
+use Rattle.aom_machine_state.proofs.SafetyLemmas.{count_asked, each_unslotted_alike, each_unslotted_requests, named_served, named_set_word, requested_served}
+use Rattle.aom_machine_state.proofs.SafetyLemmas.{rerequested_alike, service_here, service_moved, service_stored, service_there}
 use Rattle.aom_semantics.specs.Calls.{passed_cells}
 use Rattle.aom_semantics.specs.Places.{Cell, Object, Place, Register, Request, Service, Tidy, held, moved, named, requested, service_of}
 use Rattle.aom_semantics.specs.Places.{set_service, set_word_field, with_new, without, Elsewhere, Root, set_request, word_field}
@@ -15,20 +16,16 @@ use Rattle.aom_semantics.specs.Clients.{each_unslotted}
 use Rattle.aom_semantics.specs.State.{Frame, Home, Inside, State, Task}
 use Rattle.aom_semantics.specs.Words.{here, stored}
 use Rattle.aom_scheduler.specs.Requests.{request_at}
-use Rattle.aom_semantics.proofs.Maps.{named_moved, requested_moved, requested_without, unrequested}
-use Rattle.aom_safety.proofs.Services.{named_served, requested_served, service_here, service_moved, service_stored, service_there}
-use Rattle.aom_safety.proofs.Unslotting.{each_unslotted_alike, each_unslotted_requests}
+use Rattle.aom_machine_state.proofs.SemanticsLemmas.{named_moved, requested_moved, requested_without, unrequested}
 use Rattle.aom_active.specs.Agrees.{Active, Tells, queued}
 use Rattle.aom_active.specs.Meanings.{Removes, asked_anew}
-use Rattle.aom_active.proofs.Asking.{asked_gone, asked_new, asked_written, queued_gone, queued_same}
-use Rattle.aom_active.proofs.Telling.{standing_follows}
+use Rattle.aom_machine_state.proofs.ActiveLemmas.{asked_gone, asked_new, asked_written, queued_gone, queued_same, standing_follows}
 use Rattle.aom_machine_state.specs.Agrees.{SameRequests, SameCells, thing_of}
 use Rattle.aom_machine_state.specs.Cells.{Delists}
 use Rattle.aom_machine_state.proofs.Cells.{cells_as}
 use Rattle.aom_machine_state.proofs.Serving.{absent_served}
 use Rattle.aom_roles.specs.Tables.{at}
 use Rattle.aom_cells.specs.Heap.{Heap}
-use Rattle.aom_safety.proofs.Storing.{named_set_word, rerequested_alike}
 use Rattle.aom_image.specs.declared.method.Thing.TheVariants.{Message}
 
 module _ (p : Image) (a : Active) where

@@ -13,10 +13,8 @@ use Rattle.aom_roles.specs.Things.{is_object}
 use Rattle.aom_clients.specs.Lists.{Table}
 use Rattle.aom_cells.specs.Sessions.{Standing, is_open}
 use Rattle.aom_roles.specs.Tables.{at}
-use Rattle.aom_safety.proofs.Dropping.{requested_unnamed}
-use Rattle.aom_safety.proofs.Services.{named_served, requested_served}
-use Rattle.aom_safety.proofs.Sifted.{cell_in, cell_in_sifted, cell_lives, cell_of, cell_of_sifted, cell_owner, held_cell}
-use Rattle.aom_safety.proofs.Sifted.{kept as left_cell, named_cell, object_in, request_in, requested_cell, sifted}
+use Rattle.aom_machine_state.proofs.SafetyLemmas.{cell_in, cell_in_sifted, cell_lives, cell_of, cell_of_sifted, cell_owner, held_cell, kept as left_cell}
+use Rattle.aom_machine_state.proofs.SafetyLemmas.{named_cell, named_served, object_in, request_in, requested_cell, requested_served, requested_unnamed, sifted}
 use Rattle.aom_semantics.specs.Places.{Cell, Place, Service, Tidy, count_cells, held, in_session, named, requested, service_of, set_service, word_field}
 use Rattle.aom_semantics.specs.Servers.{is_queue}
 use Rattle.aom_machine_state.proofs.Asking.{requests_as}

@@ -2,7 +2,7 @@
 use Rattle.std.proofs.lemmas.Bool.Decides.{nat_tests}
 use Rattle.std.proofs.lemmas.Option.{none-some}
 use Rattle.std.proofs.Common.{◌≡◌, ℕ, ℤ, ◌<◌, true, false, cond, ◌==◌, ◌&&◌, length, List, Option, Some, sym, ap, ◌∙◌, subst, arith}
-use Rattle.aom_image.proofs.Given.{some_given}
+use Rattle.aom_machine_state.proofs.ImageLemmas.{some_given}
 use Rattle.std.proofs.lemmas.Bool.{eq-eqb, eqb-true, false≢true}
 use Rattle.std.proofs.lemmas.List.{get_or-set_other, length-set}
 use Rattle.aom_image.specs.Image.{Image}
@@ -10,9 +10,8 @@ use Rattle.aom_roles.specs.Things.{is_object}
 use Rattle.aom_cells.specs.Heap.{Heap, null, cell_at, field_of, field_at, with_word, with_field, count, Changes}
 use Rattle.aom_cells.specs.Heap.{word_at as cell_word}
 use Rattle.aom_cells.specs.declared.cell.Cell.{Cell as Machine_cell}
-use Rattle.aom_safety.proofs.Counts.{count_stored}
+use Rattle.aom_machine_state.proofs.SafetyLemmas.{count_stored, named_set_word}
 use Rattle.aom_semantics.specs.Places.{Place, Field, Elsewhere, Other, Root, Object, Cell, named, changed, word_field, set_word_field, count_cells, In_service}
-use Rattle.aom_safety.proofs.Storing.{named_set_word}
 use Rattle.aom_frames.specs.declared.task.Task.{Task as Machine_task}
 use Rattle.aom_machine_state.specs.Places.{Others, other_in, value_in}
 use Rattle.aom_machine_state.specs.Agrees.{SameCells, thing_in, thing_of}

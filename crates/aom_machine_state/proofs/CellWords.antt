@@ -10,7 +10,7 @@ use Rattle.aom_cells.specs.Heap.{word_at as cell_word}
 use Rattle.aom_cells.specs.declared.cell.Cell.{Cell as Machine_cell}
 use Rattle.aom_roles.specs.Tables.{at}
 use Rattle.aom_semantics.specs.Places.{Place, Object, Cell, named, moved, word_field, set_word_field}
-use Rattle.aom_semantics.proofs.Maps.{at-put_at, front_free}
+use Rattle.aom_machine_state.proofs.SemanticsLemmas.{at-put_at, front_free}
 
 -- a list of equal elements has that element everywhere, if it also stands for those past the end
 pub all_same : {A : Type 0} (n i : ℕ) (x : A) → slice_index_or (replicate n x) i x ≡ x

@@ -8,8 +8,8 @@ use Rattle.aom_roles.specs.Things.{is_object}
 use Rattle.aom_cells.specs.declared.cell.Cell.{Cell as Machine_cell}
 use Rattle.aom_cells.specs.Heap.{Heap, cell_at, word_of, count, Changes}
 use Rattle.aom_semantics.specs.Places.{Place, Object, Cell, count_cells, held, named, moved, without, Tidy, word_field}
-use Rattle.aom_safety.proofs.Counts.{count_moved, count_without, counted_in}
-use Rattle.aom_semantics.proofs.Maps.{same_place-true, named_moved, named_without, unnamed, without_none}
+use Rattle.aom_machine_state.proofs.SafetyLemmas.{count_moved, count_without, counted_in}
+use Rattle.aom_machine_state.proofs.SemanticsLemmas.{named_moved, named_without, same_place-true, unnamed, without_none}
 use Rattle.aom_machine_state.specs.Agrees.{SameCells, thing_in, thing_of}
 use Rattle.aom_machine_state.proofs.Values.{cases}
 use Rattle.aom_machine_state.proofs.CellWords.{words_moved, words_unnamed}

@@ -20,10 +20,8 @@ use Rattle.aom_image.specs.declared.method.Thing.{Thing}
 use Rattle.aom_image.specs.declared.method.Thing.TheVariants.{Object as An_object_of}
 use Rattle.aom_roles.specs.Shapes.{kind_of}
 use Rattle.aom_rules.specs.Typing.{Typing}
-use Rattle.aom_safety.proofs.ClientsAsk.{asked_there}
-use Rattle.aom_safety.proofs.ClientsCommand.{server_there}
-use Rattle.aom_safety.proofs.ClientsFacts.{waiting_well}
-use Rattle.aom_safety.proofs.Sifted.{a_cell_of, cell_of, cell_placed, held_cell, named_cell, named_sifted, object_in, tidy_sifted, withdrawn_so}
+use Rattle.aom_machine_state.proofs.SafetyLemmas.{a_cell_of, asked_there, cell_of, cell_placed, held_cell, named_cell, named_sifted, object_in, server_there}
+use Rattle.aom_machine_state.proofs.SafetyLemmas.{tidy_sifted, waiting_well, withdrawn_so}
 use Rattle.aom_semantics.specs.Clients.{Listed, asked_server, client_at, commanded, connecting, count_messages, is_of_class}
 use Rattle.aom_semantics.specs.Clients.{leaving, most_of, refusal, room, sending, slots_of, told, with_client}
 use Rattle.aom_safety.specs.Kept.{ClientsFit}

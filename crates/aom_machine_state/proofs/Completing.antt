@@ -12,9 +12,8 @@ use Rattle.aom_clients.specs.declared.client.Client.{Client}
 use Rattle.aom_clients.specs.declared.place.MessagePlace.{MessagePlace}
 use Rattle.aom_clients.specs.declared.place.MessagePlace.TheVariants.{Free, Queued}
 use Rattle.aom_clients.specs.Table.{is_out_of, is_queued}
-use Rattle.aom_semantics.proofs.Maps.{read_unnamed, read_without, unnamed}
-use Rattle.aom_safety.proofs.Parting.{among_others, among_parted}
-use Rattle.aom_safety.proofs.Services.{service_unnamed, service_without}
+use Rattle.aom_machine_state.proofs.SemanticsLemmas.{read_unnamed, read_without, unnamed}
+use Rattle.aom_machine_state.proofs.SafetyLemmas.{among_others, among_parted, service_unnamed, service_without}
 use Rattle.aom_semantics.specs.Places.{Cell, Object, Place as Owner, Service, Tidy, held, named, service_of, unserved, without}
 use Rattle.aom_semantics.specs.Servers.{holds_slot, is_among, is_message, is_other, slots_taken}
 use Rattle.aom_machine_state.proofs.Serving.{asked_apart, at_set, names_apart, owners, slots_of}

@@ -3,7 +3,7 @@ use Rattle.std.proofs.lemmas.Bool.Decides.{nat_tests}
 use Rattle.std.proofs.Common.{List, [], ap, arith, cond, false, length, refl, subst, suc, sym, true, ℕ, ◌+◌, ◌<◌, ◌∷◌, ◌≡◌, ◌≤◌}
 use Rattle.std.proofs.lemmas.Bool.{le-ltb, lt-ltb}
 use Rattle.aom_image.specs.Image.{Image}
-use Rattle.aom_semantics.proofs.Maps.{same_place-true}
+use Rattle.aom_machine_state.proofs.SemanticsLemmas.{same_place-true}
 use Rattle.aom_semantics.specs.Cleanup.{to_trap}
 use Rattle.aom_semantics.specs.Calls.{below_top}
 use Rattle.aom_semantics.specs.Places.{Cell, Entry, Going, Place, held, moved, same_place}

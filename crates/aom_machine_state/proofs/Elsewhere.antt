@@ -22,11 +22,8 @@ use Rattle.aom_rules.specs.Typing.{Typing}
 use Rattle.aom_shape.specs.declared.kind.Age.TheVariants.{Ready}
 use Rattle.aom_shape.specs.declared.kind.Kind.{Kind}
 use Rattle.aom_shape.specs.declared.kind.Kind.TheVariants.{Null, Own}
-use Rattle.aom_safety.proofs.Dropping.{queued_claim}
-use Rattle.aom_semantics.proofs.Maps.{named_name}
-use Rattle.aom_safety.proofs.Picking.{own_held}
-use Rattle.aom_safety.proofs.Services.{service_unnamed}
-use Rattle.aom_safety.proofs.Straight.{fits_unowning}
+use Rattle.aom_machine_state.proofs.SafetyLemmas.{fits_unowning, own_held, queued_claim, service_unnamed}
+use Rattle.aom_machine_state.proofs.SemanticsLemmas.{named_name}
 use Rattle.aom_safety.specs.Claims.{declared}
 use Rattle.aom_safety.specs.Kept.{ClientsFit}
 use Rattle.aom_semantics.specs.Places.{Cell, Elsewhere, Object, Other, Place, Queued, Session, changed, held, seen, service_of}

@@ -14,7 +14,7 @@ use Rattle.aom_frames.specs.declared.task.Task.{Task as Machine_task}
 use Rattle.aom_machine_state.specs.Places.{Others, number_in, value_in}
 use Rattle.aom_machine_state.specs.Agrees.{SameItems}
 use Rattle.aom_machine_state.proofs.Values.{at_depth}
-use Rattle.aom_image.proofs.Given.{cons_given}
+use Rattle.aom_machine_state.proofs.ImageLemmas.{cons_given}
 use Rattle.aom_machine_state.proofs.Alike.{by_items, some_members}
 
 pub same_items_length : (is : List Machine_item) (js : List Item) → SameItems is js → length is ≡ length js

@@ -8,9 +8,9 @@ use Rattle.aom_image.specs.Image.{Image}
 use Rattle.aom_roles.specs.Things.{is_object}
 use Rattle.aom_cells.specs.Store.{Store, count, message_at, word_at}
 use Rattle.aom_roles.specs.Tables.{at}
-use Rattle.aom_semantics.proofs.Maps.{same_place-true, same_place_refl, tidy_without, without_none}
-use Rattle.aom_safety.proofs.ClientsReturn.{without_so}
-use Rattle.aom_safety.proofs.Sifted.{cell_in, cell_name, cell_of, cell_of_sifted, cell_placed, kept as left_cell, named_cell, object_in, sifted}
+use Rattle.aom_machine_state.proofs.SemanticsLemmas.{same_place-true, same_place_refl, tidy_without, without_none}
+use Rattle.aom_machine_state.proofs.SafetyLemmas.{cell_in, cell_name, cell_of, cell_of_sifted, cell_placed, kept as left_cell, named_cell, object_in, sifted}
+use Rattle.aom_machine_state.proofs.SafetyLemmas.{without_so}
 use Rattle.aom_semantics.specs.Clients.{count_messages}
 use Rattle.aom_semantics.specs.Places.{Cell, Place as Owner, Service, Tidy, held, named, same_place, without, word_field}
 use Rattle.aom_semantics.specs.Servers.{is_among}

@@ -3,7 +3,7 @@ use Rattle.std.proofs.lemmas.Bool.Decides.{nat_tests}
 use Rattle.std.proofs.Common.{List, None, Option, Some, [], ap, arith, cond, false, refl, sym, ℕ, pos, ◌+◌, ◌<◌, ◌==◌, ◌≤◌, ◌∙◌, ◌≡◌}
 use Rattle.std.specs.Prelude.{is_some, option_map}
 use Rattle.std.proofs.lemmas.Bool.{eq-eqb, eqb-true}
-use Rattle.aom_active.proofs.Asking.{asked_set}
+use Rattle.aom_machine_state.proofs.ActiveLemmas.{asked_set}
 use Rattle.aom_active.specs.Agrees.{Active}
 use Rattle.aom_cells.specs.Heap.{Heap}
 use Rattle.aom_clients.specs.Clients.{State as Kept_state}
@@ -13,8 +13,7 @@ use Rattle.aom_image.specs.declared.method.Thing.TheVariants.{Message}
 use Rattle.aom_cells.specs.Store.{Changes, Store, count}
 use Rattle.aom_clients.specs.Lists.{Table}
 use Rattle.aom_cells.specs.Sessions.{Standing}
-use Rattle.aom_safety.proofs.Services.{service_asked, service_unnamed}
-use Rattle.aom_safety.proofs.Storing.{rerequested_alike}
+use Rattle.aom_machine_state.proofs.SafetyLemmas.{rerequested_alike, service_asked, service_unnamed}
 use Rattle.aom_semantics.specs.Places.{Cell, Elsewhere, Object, Place, Request, Root, Service, Token, named, requested, service_of, set_request, unserved}
 use Rattle.aom_semantics.specs.Servers.{is_queue}
 use Rattle.aom_semantics.specs.State.{Inside}

@@ -8,14 +8,11 @@ use Rattle.aom_rules.specs.Typing.{Typing, shape_at}
 use Rattle.aom_shape.specs.declared.kind.CleanupEntry.{CleanupEntry}
 use Rattle.aom_shape.specs.declared.kind.CleanupEntry.TheVariants.{Object as Pushed_object, Operation as Pushed_operation}
 use Rattle.aom_shape.specs.declared.kind.Kind.TheVariants.{Null}
-use Rattle.aom_safety.proofs.Claimed.{claim_entry_above, length_objects}
-use Rattle.aom_safety.proofs.Items.{length_forms}
-use Rattle.aom_safety.proofs.Straight.{fits_unowning, register_fits}
+use Rattle.aom_machine_state.proofs.SafetyLemmas.{claim_entry_above, fits_unowning, leave_layer, length_forms, length_objects, method_layer, register_fits}
 use Rattle.aom_safety.specs.Claims.{Dispatching, Dying, Ending, Form, Layer, Mark, Method, Unwinding, forms, items_of, objects, tasks_of}
 use Rattle.aom_semantics.specs.Places.{Cell, Entry, Register, held, seen}
 use Rattle.aom_semantics.specs.State.{An_object, An_operation, Frame, Item, Run, State, Task, Trapped, Unwind, home_holder}
 use Rattle.aom_safety.specs.WellTyped.{Houses, Back, Caught, Fits, Gone, Good, CountsAs, Leaves, Now, Returns, Stack, WellTyped}
-use Rattle.aom_safety.proofs.Layers.{leave_layer, method_layer}
 use Rattle.aom_machine_state.specs.Room.{below_height, entries_in}
 use Rattle.aom_machine_state.proofs.Depths.{AllLow, below_all, below_pushed}
 use Rattle.aom_roles.specs.Things.{holder_of}

@@ -5,7 +5,7 @@ use Rattle.std.proofs.Common.{refl, subst, sym, true, ℕ, ◌&&◌, ◌+◌, �
 use Rattle.std.specs.List.{list_any}
 use Rattle.std.specs.Prelude.{filter, is_some, not, ◌-◌, ◌||◌}
 use Rattle.std.proofs.lemmas.Bool.{and_parts, cases_lt, eq-eqb, eqb-true, false≢true}
-use Rattle.aom_clients.proofs.Steps.{queued-of}
+use Rattle.aom_machine_state.proofs.ClientsLemmas.{queued-of}
 use Rattle.aom_clients.specs.Clients as kept
 use Rattle.aom_clients.specs.Table.{is_queued}
 use Rattle.aom_clients.specs.declared.client.Client.{Client}
@@ -18,10 +18,9 @@ use Rattle.aom_roles.specs.Things.{is_object}
 use Rattle.aom_cells.specs.Store.{Store, count, message_at}
 use Rattle.aom_roles.specs.Shapes.{kind_of}
 use Rattle.aom_rules.specs.Typing.{Typing}
-use Rattle.aom_safety.proofs.ClientsFacts.{waiting_message as queued_message}
-use Rattle.aom_safety.proofs.Sifted.{a_cell_of, cell_in, cell_lives, cell_name, cell_of, cell_owner, cell_placed, held_cell, named_cell}
-use Rattle.aom_safety.proofs.Sifted.{object_in, request_in, requested_cell, service_cell, service_in, unqueued_so, withdrawn_so}
-use Rattle.aom_safety.proofs.Sources.{from_some}
+use Rattle.aom_machine_state.proofs.SafetyLemmas.{a_cell_of, cell_in, cell_lives, cell_name, cell_of, cell_owner, cell_placed, from_some, held_cell, named_cell}
+use Rattle.aom_machine_state.proofs.SafetyLemmas.{object_in, request_in, requested_cell, service_cell, service_in, unqueued_so}
+use Rattle.aom_machine_state.proofs.SafetyLemmas.{waiting_message as queued_message, withdrawn_so}
 use Rattle.aom_safety.specs.Kept.{ClientsFit, QueueFits}
 use Rattle.aom_safety.specs.Laws.{IsWired}
 use Rattle.aom_semantics.specs.Places.{Cell, Elsewhere, Object, Place as Owner, Queued as Waits_at, Sender, Service, held, service_of}

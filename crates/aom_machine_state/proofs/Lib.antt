@@ -1,38 +1,45 @@
-pub mod Found
-pub mod Values
-pub mod Entries
-pub mod Overs
-pub mod CellWords
-pub mod Asking
-pub mod Sessions
-pub mod Cells
-pub mod CellFields
-pub mod Depths
-pub mod Heights
-pub mod Alike
-pub mod Unslotted
-pub mod Messages
-pub mod Serving
-pub mod Completing
-pub mod Withdrawing
-pub mod Listing
-pub mod Departing
-pub mod Vanishing
-pub mod Elsewhere
-pub mod Still
-pub mod Premises
-pub mod Tokens
-pub mod Services
-pub mod Servicing
-pub mod Sizing
-pub mod Commanding
-pub mod Forgetting
-pub mod Leaving
-pub mod Telling
-pub mod Beside
-pub mod Told
-pub mod Replying
-pub mod Redeeming
-pub mod Handing
-pub mod Beginning
-pub mod Owed
+mod Found
+mod Values
+mod Entries
+mod Overs
+mod CellWords
+mod Asking
+mod Sessions
+mod Cells
+mod CellFields
+mod Depths
+mod Heights
+mod Alike
+mod Unslotted
+mod Messages
+mod Serving
+mod Completing
+mod Withdrawing
+mod Listing
+mod Departing
+mod Vanishing
+mod Elsewhere
+mod Still
+mod Premises
+mod Tokens
+mod Services
+mod Servicing
+mod Sizing
+mod Commanding
+mod Forgetting
+mod Leaving
+mod Telling
+mod Beside
+mod Told
+mod Replying
+mod Redeeming
+mod Handing
+mod Beginning
+mod Owed
+pub mod MachineStateLemmas
+pub use Rattle.aom_active.proofs.ActiveLemmas
+pub use Rattle.aom_classes.proofs.ClassesLemmas
+pub use Rattle.aom_clients.proofs.ClientsLemmas
+pub use Rattle.aom_image.proofs.ImageLemmas
+pub use Rattle.aom_safety.proofs.SafetyLemmas
+pub use Rattle.aom_semantics.proofs.SemanticsLemmas

@@ -15,7 +15,7 @@ use Rattle.aom_image.specs.Image.{Image}
 use Rattle.aom_image.specs.declared.method.Thing.{Thing}
 use Rattle.aom_image.specs.declared.method.Thing.TheVariants.{Object as An_object_of}
 use Rattle.aom_clients.specs.Lists.{Table, first_of, list_at, with_list, without as without_node}
-use Rattle.aom_safety.proofs.ClientsAsk.{listed_there}
+use Rattle.aom_machine_state.proofs.SafetyLemmas.{listed_there}
 use Rattle.aom_semantics.specs.Clients.{Listed, among_listed, asked_server, earlier, first_listed, is_of_class}
 use Rattle.aom_semantics.specs.Places.{Cell, Object, Request, Tidy, named, requested}
 use Rattle.aom_semantics.specs.Servers.{is_among, is_server}

@@ -10,11 +10,9 @@ use Rattle.aom_image.specs.declared.method.Thing.TheVariants.{Message}
 use Rattle.aom_roles.specs.Things.{is_object}
 use Rattle.aom_cells.specs.Store.{Changes, Store, count, message_at, word_at, word_of}
 use Rattle.aom_roles.specs.Tables.{at}
-use Rattle.aom_safety.proofs.Counts.{counted_by, counted_without}
-use Rattle.aom_semantics.proofs.Maps.{named_moved, named_without, unnamed}
-use Rattle.aom_safety.proofs.Services.{named_served}
-use Rattle.aom_safety.proofs.Storing.{named_set_word, rerequested_alike, resessioned_alike}
-use Rattle.aom_safety.proofs.Unslotting.{each_unslotted_alike}
+use Rattle.aom_machine_state.proofs.SafetyLemmas.{counted_by, counted_without, each_unslotted_alike, named_served, named_set_word, rerequested_alike}
+use Rattle.aom_machine_state.proofs.SafetyLemmas.{resessioned_alike}
+use Rattle.aom_machine_state.proofs.SemanticsLemmas.{named_moved, named_without, unnamed}
 use Rattle.aom_semantics.specs.Clients.{count_messages, each_unslotted}
 use Rattle.aom_semantics.specs.Places.{Cell, Object, Place, Request, Service, Tidy, held, moved, named, Register, set_request}
 use Rattle.aom_semantics.specs.Places.{set_service, set_session, set_word_field, with_new, without, word_field}

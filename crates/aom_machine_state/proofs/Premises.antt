@@ -16,16 +16,10 @@ use Rattle.aom_clients.specs.declared.place.MessagePlace.{MessagePlace}
 use Rattle.aom_clients.specs.declared.place.MessagePlace.TheVariants.{Free, Queued}
 use Rattle.aom_image.specs.Image.{Image}
 use Rattle.aom_rules.specs.Typing.{Typing}
-use Rattle.aom_safety.proofs.ClientsCommand.{nobody, none_named}
-use Rattle.aom_safety.proofs.ClientsFacts.{queued_well, waiting_well}
-use Rattle.aom_safety.proofs.ClientsFit.{leaving_only}
-use Rattle.aom_safety.proofs.ClientsGone.{open_server}
-use Rattle.aom_semantics.proofs.Maps.{one_place, same_place-true}
-use Rattle.aom_safety.proofs.Owners.{in_queue}
-use Rattle.aom_safety.proofs.Queues.{none_passes}
-use Rattle.aom_safety.proofs.Sifted.{a_cell_of, cell_in, cell_lives, cell_name, cell_of, cell_owner, cell_placed}
-use Rattle.aom_safety.proofs.Sifted.{held_cell, named_cell, object_in, service_cell, service_in}
-use Rattle.aom_safety.proofs.Sources.{has_sender}
+use Rattle.aom_machine_state.proofs.SafetyLemmas.{a_cell_of, cell_in, cell_lives, cell_name, cell_of, cell_owner, cell_placed, has_sender, held_cell, in_queue}
+use Rattle.aom_machine_state.proofs.SafetyLemmas.{leaving_only, named_cell, nobody, none_named, none_passes, object_in, open_server, queued_well, service_cell}
+use Rattle.aom_machine_state.proofs.SafetyLemmas.{service_in, waiting_well}
+use Rattle.aom_machine_state.proofs.SemanticsLemmas.{one_place, same_place-true}
 use Rattle.aom_semantics.specs.Clients.{client_at}
 use Rattle.aom_safety.specs.Kept.{ClientsFit, EntryFits, QueueFits, is_close_of, is_connect_of, is_message_of}
 use Rattle.aom_safety.specs.Laws.{IsWired}

@@ -5,8 +5,7 @@ use Rattle.std.proofs.Common.{refl, subst, suc, sym, true, ℕ, ℤ, ◌+◌, �
 use Rattle.std.specs.Prelude.{is_some, option_map}
 use Rattle.std.proofs.lemmas.Bool.{eq-eqb, eqb-true, false≢true, ne_eqb}
 use Rattle.std.proofs.lemmas.Option.{same_Some}
-use Rattle.aom_active.proofs.Asking.{queued_same}
-use Rattle.aom_active.proofs.Telling.{standing_follows}
+use Rattle.aom_machine_state.proofs.ActiveLemmas.{queued_same, standing_follows}
 use Rattle.aom_active.specs.Agrees.{Active, queued}
 use Rattle.aom_active.specs.Meanings.{Makes, asked_anew}
 use Rattle.aom_cells.specs.Heap.{Heap}
@@ -19,12 +18,9 @@ use Rattle.aom_cells.specs.Store.{Changes, Store, count}
 use Rattle.aom_clients.specs.Lists.{Table}
 use Rattle.aom_rules.specs.Typing.{Typing}
 use Rattle.aom_cells.specs.Sessions.{Standing}
-use Rattle.aom_safety.proofs.Apart.{living_waits, redeems_none, redeems_one, void_waits_none}
-use Rattle.aom_semantics.proofs.Maps.{held_lives, unnamed}
-use Rattle.aom_safety.proofs.Redeeming.{redeemed_alike, redeeming, requested_redeemed}
-use Rattle.aom_semantics.proofs.Altering.{count_kept, read_kept, sessions}
-use Rattle.aom_safety.proofs.Services.{service_unnamed, service_without}
-use Rattle.aom_safety.proofs.Things.{message_plain}
+use Rattle.aom_machine_state.proofs.SafetyLemmas.{living_waits, message_plain, redeemed_alike, redeeming, redeems_none, redeems_one, requested_redeemed}
+use Rattle.aom_machine_state.proofs.SafetyLemmas.{service_unnamed, service_without, void_waits_none}
+use Rattle.aom_machine_state.proofs.SemanticsLemmas.{count_kept, held_lives, read_kept, sessions, unnamed}
 use Rattle.aom_semantics.specs.Clients.{count_messages}
 use Rattle.aom_semantics.specs.Enlisted.{on_request}
 use Rattle.aom_safety.specs.Kept.{IsKept}

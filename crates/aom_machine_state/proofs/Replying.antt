@@ -15,11 +15,9 @@ use Rattle.aom_clients.specs.Lists.{Table}
 use Rattle.aom_roles.specs.Shapes.{kind_of}
 use Rattle.aom_rules.specs.Typing.{Typing}
 use Rattle.aom_cells.specs.Sessions.{Standing}
-use Rattle.aom_semantics.proofs.Maps.{held_lives, same_place-true, unnamed}
-use Rattle.aom_safety.proofs.Services.{service_unnamed, service_without}
-use Rattle.aom_safety.proofs.Sifted.{cell_name, cell_of, cell_placed, held_cell, object_in, request_in, requested_cell}
-use Rattle.aom_safety.proofs.Sources.{has_sender}
-use Rattle.aom_safety.proofs.Things.{message_plain}
+use Rattle.aom_machine_state.proofs.SemanticsLemmas.{held_lives, same_place-true, unnamed}
+use Rattle.aom_machine_state.proofs.SafetyLemmas.{cell_name, cell_of, cell_placed, has_sender, held_cell, message_plain, object_in, request_in, requested_cell}
+use Rattle.aom_machine_state.proofs.SafetyLemmas.{service_unnamed, service_without, without_so}
 use Rattle.aom_semantics.specs.Enlisted.{thing_kind}
 use Rattle.aom_safety.specs.Kept.{HasSources, IsKept, sources_of}
 use Rattle.aom_safety.specs.Laws.{IsWired}
@@ -29,7 +27,6 @@ use Rattle.aom_semantics.specs.Servers.{is_queue}
 use Rattle.aom_semantics.specs.State.{State}
 use Rattle.aom_safety.specs.WellTyped.{WellTyped}
 use Rattle.aom_machine_state.proofs.Beside.{Beside, beside_sifted, cells_beside, listed_beside, natives_beside, requests_beside}
-use Rattle.aom_safety.proofs.ClientsReturn.{without_so}
 use Rattle.aom_machine_state.proofs.Messages.{message_gone}
 use Rattle.aom_machine_state.proofs.Premises.{completes_at, owner_held}
 use Rattle.aom_machine_state.proofs.Servicing.{same_replied}

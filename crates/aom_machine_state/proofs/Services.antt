@@ -3,7 +3,7 @@ use Rattle.std.proofs.lemmas.Bool.Decides.{nat_tests}
 use Rattle.std.proofs.Common.{arith, Bool, List, None, Option, Some, [], ap, cond, false, refl, suc, sym, true, ℕ, ℤ, ◌<◌, ◌==◌, ◌∙◌, ◌∷◌, ◌≡◌}
 use Rattle.std.specs.Prelude.{option_map}
 use Rattle.std.proofs.lemmas.Bool.{eqb-true}
-use Rattle.aom_active.proofs.Asking.{asked_new, asked_set, asked_written}
+use Rattle.aom_machine_state.proofs.ActiveLemmas.{asked_new, asked_set, asked_written}
 use Rattle.aom_clients.specs.Clients.{State as Kept_state}
 use Rattle.aom_clients.specs.declared.client.Client.{Client}
 use Rattle.aom_image.specs.Image.{Image}
@@ -12,8 +12,8 @@ use Rattle.aom_image.specs.declared.method.Argument.TheVariants.{Own as Takes_ow
 use Rattle.aom_image.specs.declared.method.Thing.TheVariants.{Object as An_object_of}
 use Rattle.aom_cells.specs.Store.{Store}
 use Rattle.aom_clients.specs.Lists.{Table}
-use Rattle.aom_semantics.proofs.Maps.{named_moved, requested_moved}
-use Rattle.aom_safety.proofs.Storing.{named_set_word, rerequested_alike, resessioned_alike, resessioned_requests}
+use Rattle.aom_machine_state.proofs.SemanticsLemmas.{named_moved, requested_moved}
+use Rattle.aom_machine_state.proofs.SafetyLemmas.{named_set_word, rerequested_alike, resessioned_alike, resessioned_requests}
 use Rattle.aom_semantics.specs.Calls.{passed_cells}
 use Rattle.aom_semantics.specs.Enlisted.{ended_cells, own_request, rerequested}
 use Rattle.aom_semantics.specs.Natives.{resessioned}

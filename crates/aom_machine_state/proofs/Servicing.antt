@@ -16,8 +16,8 @@ use Rattle.aom_clients.specs.declared.place.MessagePlace.{MessagePlace}
 use Rattle.aom_clients.specs.declared.place.MessagePlace.TheVariants.{Queued}
 use Rattle.aom_image.specs.Image.{Image}
 use Rattle.aom_rules.specs.Typing.{Typing}
-use Rattle.aom_semantics.proofs.Maps.{held_lives}
-use Rattle.aom_safety.proofs.Services.{service_moved}
+use Rattle.aom_machine_state.proofs.SemanticsLemmas.{held_lives}
+use Rattle.aom_machine_state.proofs.SafetyLemmas.{service_moved}
 use Rattle.aom_semantics.specs.Clients.{at_parting, client_at, each_unslotted, queue_ended, sessions_ended, with_client}
 use Rattle.aom_safety.specs.Kept.{ClientsFit, StageKept}
 use Rattle.aom_safety.specs.Laws.{IsWired}

@@ -17,10 +17,8 @@ use Rattle.aom_clients.specs.declared.entry.QueueEntry.TheVariants.{Connect, Mes
 use Rattle.aom_clients.specs.declared.place.MessagePlace.{MessagePlace}
 use Rattle.aom_clients.specs.declared.place.MessagePlace.TheVariants.{Free, Held, Queued}
 use Rattle.aom_clients.specs.Table.{held_place, is_out_of, is_queued, sender}
-use Rattle.aom_safety.proofs.ClientsFit.{by_server}
-use Rattle.aom_semantics.proofs.Altering.{Reads, moving, read_kept, read_so, serving}
-use Rattle.aom_semantics.proofs.Maps.{at-put_at, front_free, same_place_refl}
-use Rattle.aom_safety.proofs.Services.{named_served, service_moved, service_unnamed}
+use Rattle.aom_machine_state.proofs.SafetyLemmas.{by_server, named_served, service_moved, service_unnamed}
+use Rattle.aom_machine_state.proofs.SemanticsLemmas.{Reads, at-put_at, front_free, moving, read_kept, read_so, same_place_refl, serving}
 use Rattle.aom_semantics.specs.Clients.{at_opening, client_at, with_client}
 use Rattle.aom_safety.specs.Kept.{is_close_of, is_connect_of}
 use Rattle.aom_semantics.specs.Places.{Cell, Close_of, Connect_of, Elsewhere, In_service, Message_of, Object, Place as Owner, Queued as Waits_at}

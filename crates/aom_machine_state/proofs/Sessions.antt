@@ -7,20 +7,19 @@ use Rattle.aom_image.specs.declared.method.Argument.{Argument}
 use Rattle.aom_image.specs.declared.method.Argument.TheVariants.{Own as Takes_own, Word as Takes_word}
 use Rattle.aom_image.specs.declared.method.Thing.{Thing}
 use Rattle.aom_cells.specs.Sessions.{Sets, Standing, is_open}
-use Rattle.aom_safety.proofs.Counts.{count_opened}
-use Rattle.aom_safety.proofs.Sessions.{session_asked, session_moved, session_new, session_set_word, session_unnamed, session_without}
+use Rattle.aom_machine_state.proofs.SafetyLemmas.{count_opened, resessioned_alike, session_asked, session_moved, session_new, session_set_word, session_unnamed}
+use Rattle.aom_machine_state.proofs.SafetyLemmas.{session_without}
 use Rattle.aom_semantics.specs.Calls.{passed_cells}
 use Rattle.aom_semantics.specs.Enlisted.{rerequested}
 use Rattle.aom_semantics.specs.Places.{Cell, Object, Place, Register, Request, Tidy, held, in_session, moved}
 use Rattle.aom_semantics.specs.Places.{named, set_request, set_session, with_new, without, word_field}
 use Rattle.aom_semantics.specs.State.{Frame, Home, Inside, State, Task}
 use Rattle.aom_semantics.specs.Words.{here, stored}
-use Rattle.aom_semantics.proofs.Maps.{unnamed}
+use Rattle.aom_machine_state.proofs.SemanticsLemmas.{unnamed}
 use Rattle.aom_machine_state.specs.Agrees.{SameCells, SameNatives}
 use Rattle.aom_cells.specs.Heap.{Heap}
 use Rattle.aom_roles.specs.Tables.{at}
 use Rattle.aom_semantics.specs.Natives.{resessioned}
-use Rattle.aom_safety.proofs.Storing.{resessioned_alike}
 
 -- ---- the machine's flags
 

@@ -6,9 +6,8 @@ use Rattle.aom_clients.specs.Clients as kept
 use Rattle.aom_clients.specs.declared.client.Client.{Client}
 use Rattle.aom_image.specs.Image.{Image}
 use Rattle.aom_image.specs.declared.method.Thing.{Thing}
-use Rattle.aom_semantics.proofs.Altering.{Alters, asking, bereaving, opening, read_kept, services, storing}
-use Rattle.aom_semantics.proofs.Maps.{same_place-true}
-use Rattle.aom_safety.proofs.Services.{service_moved, service_unnamed}
+use Rattle.aom_machine_state.proofs.SemanticsLemmas.{Alters, asking, bereaving, opening, read_kept, same_place-true, services, storing}
+use Rattle.aom_machine_state.proofs.SafetyLemmas.{service_moved, service_unnamed}
 use Rattle.aom_semantics.specs.Natives.{all_bereaved, resessioned}
 use Rattle.aom_semantics.specs.Places.{Cell, Place as Owner, Request, Service, moved, named, service_of}
 use Rattle.aom_semantics.specs.Places.{set_request, set_session, set_word_field, unserved, with_new}

@@ -8,10 +8,9 @@ use Rattle.aom_image.specs.Image.{Image}
 use Rattle.aom_machine_state.proofs.Serving.{names_apart}
 use Rattle.aom_machine_state.specs.Serving.{message_name}
 use Rattle.aom_machine_state.specs.Tokens.{Living, SameTokens, class_in, class_told, told_at}
-use Rattle.aom_safety.proofs.Apart.{awaited_redeemed, told_as_before, waits_for}
-use Rattle.aom_semantics.proofs.Maps.{requested_unnamed, requested_without, unnamed}
-use Rattle.aom_safety.proofs.Redeeming.{redeemed_alike, requested_redeemed}
-use Rattle.aom_safety.proofs.Services.{service_unnamed, service_without}
+use Rattle.aom_machine_state.proofs.SafetyLemmas.{awaited_redeemed, redeemed_alike, requested_redeemed, service_unnamed, service_without, told_as_before}
+use Rattle.aom_machine_state.proofs.SafetyLemmas.{waits_for}
+use Rattle.aom_machine_state.proofs.SemanticsLemmas.{requested_unnamed, requested_without, unnamed}
 use Rattle.aom_semantics.specs.Places.{Cell, Object, Place, Service, Tidy, Token, held, named, requested, service_of, unserved, without}
 use Rattle.aom_semantics.specs.Tokens.{TokensApart, all_redeemed, awaited, order_in, redeemed_request, with_token}
 use Rattle.aom_cells.specs.Tokens.{Kept, Sets, class_at, class_kept, live_at, object_at, object_kept}

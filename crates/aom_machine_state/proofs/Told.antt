@@ -4,10 +4,9 @@ use Rattle.std.proofs.Common.{Bool, List, None, Option, Some, ap, arith, cond, f
 use Rattle.std.specs.Prelude.{is_some}
 use Rattle.std.proofs.lemmas.Bool.{eqb-true, ne_eqb}
 use Rattle.aom_image.specs.Image.{Image}
-use Rattle.aom_semantics.proofs.Maps.{requested_unnamed, requested_without, unnamed}
-use Rattle.aom_safety.proofs.Services.{service_here, service_there, service_without}
-use Rattle.aom_safety.proofs.Sifted.{cell_of, cell_of_sifted, kept as left_cell, service_cell, service_in, sifted}
-use Rattle.aom_safety.proofs.Unslotting.{each_unslotted_requests}
+use Rattle.aom_machine_state.proofs.SemanticsLemmas.{requested_unnamed, requested_without, unnamed}
+use Rattle.aom_machine_state.proofs.SafetyLemmas.{cell_of, cell_of_sifted, each_unslotted_requests, kept as left_cell, service_cell, service_here, service_in}
+use Rattle.aom_machine_state.proofs.SafetyLemmas.{service_there, service_without, sifted}
 use Rattle.aom_semantics.specs.Clients.{each_unslotted}
 use Rattle.aom_safety.specs.Kept.{sources_of}
 use Rattle.aom_semantics.specs.Places.{Cell, Object, Place, Service, Tidy, Token, held, named, requested, service_of, set_service, without}

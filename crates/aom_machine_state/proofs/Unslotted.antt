@@ -5,8 +5,8 @@ use Rattle.aom_image.specs.Image.{Image}
 use Rattle.aom_machine_state.specs.Agrees.{SameCells, SameNatives, thing_of}
 use Rattle.aom_cells.specs.Sessions.{Standing}
 use Rattle.aom_roles.specs.Tables.{at}
-use Rattle.aom_safety.proofs.Unslotting.{each_unslotted_alike}
-use Rattle.aom_semantics.proofs.Altering.{Reads, count_kept, read_kept, sessions, unslotting}
+use Rattle.aom_machine_state.proofs.SafetyLemmas.{each_unslotted_alike}
+use Rattle.aom_machine_state.proofs.SemanticsLemmas.{Reads, count_kept, read_kept, sessions, unslotting}
 use Rattle.aom_semantics.specs.Clients.{each_unslotted}
 use Rattle.aom_semantics.specs.Places.{Cell, count_cells, in_session, word_field}
 use Rattle.aom_semantics.specs.Servers.{all_unslotted}

@@ -8,7 +8,7 @@ use Rattle.aom_cells.specs.Heap.{Heap, null}
 use Rattle.aom_roles.specs.Tables.{put_at}
 use Rattle.aom_semantics.specs.Places.{Place, Register, Going, same_place, Object, changed}
 use Rattle.aom_semantics.specs.State.{Frame, Task, Run, Destroy}
-use Rattle.aom_semantics.proofs.Maps.{at-put_at, same_place-true, transfer}
+use Rattle.aom_machine_state.proofs.SemanticsLemmas.{at-put_at, same_place-true, transfer}
 use Rattle.aom_frames.specs.declared.frame.Frame.{Frame as Machine_frame}
 use Rattle.aom_frames.specs.declared.task.Task.{Task as Machine_task}
 use Rattle.aom_frames.specs.declared.task.Task.TheVariants.{Run as Runs_frame, Destroy as Destroys}

@@ -13,13 +13,10 @@ use Rattle.aom_clients.specs.declared.entry.QueueEntry.{QueueEntry}
 use Rattle.aom_clients.specs.declared.entry.QueueEntry.TheVariants.{Close, Connect, Message}
 use Rattle.aom_clients.specs.declared.place.MessagePlace.{MessagePlace}
 use Rattle.aom_clients.specs.declared.place.MessagePlace.TheVariants.{Free, Queued}
-use Rattle.aom_safety.proofs.ClientsGone.{gone_so, goes_with, queue_ended_at, sessions_ended_at}
-use Rattle.aom_safety.proofs.Unslotting.{service_unslotted}
-use Rattle.aom_semantics.proofs.Altering.{read_kept, unslotting}
-use Rattle.aom_semantics.proofs.Maps.{one_place, same_place-true}
-use Rattle.aom_safety.proofs.Parting.{among_others, among_parted}
-use Rattle.aom_safety.proofs.Sifted.{a_cell_of, cell_in, cell_lives, cell_name, cell_of, cell_of_sifted, cell_owner, cell_placed}
-use Rattle.aom_safety.proofs.Sifted.{held_cell, kept as left_cell, named_cell, object_in, service_cell, service_in, sifted}
+use Rattle.aom_machine_state.proofs.SafetyLemmas.{a_cell_of, among_others, among_parted, cell_in, cell_lives, cell_name, cell_of, cell_of_sifted, cell_owner}
+use Rattle.aom_machine_state.proofs.SafetyLemmas.{cell_placed, eqb_comm, goes_with, gone_so, held_cell, kept as left_cell, named_cell, object_in}
+use Rattle.aom_machine_state.proofs.SafetyLemmas.{queue_ended_at, service_cell, service_in, service_unslotted, sessions_ended_at, sifted}
+use Rattle.aom_machine_state.proofs.SemanticsLemmas.{one_place, read_kept, same_place-true, unslotting}
 use Rattle.aom_semantics.specs.Clients.{client_at, each_unslotted, queue_ended, sessions_ended}
 use Rattle.aom_safety.specs.Kept.{is_connect_of}
 use Rattle.aom_semantics.specs.Places.{Cell, Close_of, Connect_of, Elsewhere, Object, Place as Owner, Queued as Waits_at}
@@ -32,7 +29,6 @@ use Rattle.aom_machine_state.proofs.Departing.{sent_after_queue, sent_after_sess
 use Rattle.aom_machine_state.proofs.Serving.{names_apart, owners}
 use Rattle.aom_machine_state.proofs.Withdrawing.{owner_cell, owner_in, queue_of_owner, queue_of_queue}
 use Rattle.aom_machine_state.specs.Serving.{Once, SameClients, asked_by, holds, message_name, owner_of, sent_by, sessionless, waits_in}
-use Rattle.aom_safety.proofs.Destroying.{eqb_comm}
 
 either_true : (a b : Bool) → (a || b) ≡ true → (a ≡ true) ⊎ (b ≡ true)
 either_true x b h = grind arith

@@ -15,7 +15,7 @@ use Rattle.aom_clients.specs.declared.entry.QueueEntry.TheVariants.{Connect, Mes
 use Rattle.aom_clients.specs.declared.place.MessagePlace.{MessagePlace}
 use Rattle.aom_clients.specs.declared.place.MessagePlace.TheVariants.{Free, Queued}
 use Rattle.aom_clients.specs.Table.{is_out_of, is_queued, is_waiting_of, sender}
-use Rattle.aom_safety.proofs.Sifted.{cell_of, cell_of_sifted, kept as left_cell, service_cell, service_in, withdrawn_so}
+use Rattle.aom_machine_state.proofs.SafetyLemmas.{cell_of, cell_of_sifted, kept as left_cell, service_cell, service_in, withdrawn_so}
 use Rattle.aom_semantics.specs.Places.{Asked, Cell, Close_of, Connect_of, Elsewhere, Object, Place as Owner}
 use Rattle.aom_semantics.specs.Places.{Queued as Waits_at, named, Sender, Service, Tidy, service_of}
 use Rattle.aom_semantics.specs.Servers.{asked_last, discarded, holds_slot, is_among, is_from, is_queue, is_queue_of, left_by, reserved, stays, withdrawn}

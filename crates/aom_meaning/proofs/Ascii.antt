@@ -1,7 +1,7 @@
 -- A word that spells a number, a set or a list is of ASCII.
 use Rattle.std.proofs.lemmas.Bool.Decides.{nat_tests}
 use Rattle.std.proofs.Common.{◌≡◌, ℕ, ◌==◌, Bool, true, not, List, [], ◌∷◌, length, Some, None, Ok, refl, codes, eqb-true, arith}
-use Rattle.aom_image.proofs.Given.{some_given, true_given}
+use Rattle.aom_meaning.proofs.ImageLemmas.{some_given, true_given}
 use Rattle.std.specs.Prelude.{if◌then◌else◌}
 use Rattle.std.specs.List.{join_with_byte, list_all}
 use Rattle.std.specs.Str.{bytes_eq}
@@ -15,7 +15,7 @@ use Rattle.aom_text.specs.declared.number.Number.{Number}
 use Rattle.aom_image.specs.declared.method.States.{States}
 use Rattle.aom_syntax.specs.Methods.{cut_letter, letters_of, states_of}
 use Rattle.aom_syntax.specs.Reading.{number_in}
-use Rattle.aom_syntax.proofs.Within.{passed}
+use Rattle.aom_meaning.proofs.SyntaxLemmas.{passed}
 use Rattle.aom_meaning.proofs.Names.{all_of, digit_is_plain}
 use Rattle.aom_meaning.specs.Meaning.{Elements}
 use Rattle.aom_meaning.proofs.Pairs.{Pairs, pairs, no_pair, a_pair}

@@ -5,7 +5,7 @@ use Rattle.std.proofs.lemmas.Bool.{le-leb}
 use Rattle.aom_image.specs.Image.{Image}
 use Rattle.aom_image.specs.WellFormed.{WellFormed}
 use Rattle.aom_listing.specs.Listing.{listing_text}
-use Rattle.aom_listing.proofs.Split.{listing_splits, words_placed}
+use Rattle.aom_meaning.proofs.ListingLemmas.{listing_splits, words_placed}
 use Rattle.aom_asm.specs.Denoted.{denoted}
 use Rattle.aom_meaning.specs.Texts.{AllSayQuiet}
 use Rattle.aom_meaning.proofs.WholesBack.{statements_denote}

@@ -20,7 +20,7 @@ use Rattle.aom_syntax.specs.Operands.{class}
 use Rattle.aom_syntax.specs.Reading.{Reading, any_keyword, failing, giving, keyword, next, nothing_more, number, number_in, optional_number}
 use Rattle.aom_syntax.specs.declared.keyword.Keyword.{Keyword}
 use Rattle.aom_syntax.specs.declared.scope.Scope.{Scope}
-use Rattle.aom_asm.proofs.Counting.{begins_with}
+use Rattle.aom_meaning.proofs.AsmLemmas.{begins_with}
 use Rattle.aom_meaning.proofs.Readings.{Takes, Whole, done, first, first_two, gives, in_turn, last, made, takes_any_keyword, takes_keyword, takes_flag}
 use Rattle.aom_meaning.proofs.Readings.{took_same}
 use Rattle.aom_meaning.specs.Meaning.{BudgetMeans, ClassMeans, IsBudget, IsList, IsNumber, IsThing, KindMeans, Names, ParentMeans, ProviderMeans, SaidOr}
@@ -31,12 +31,12 @@ use Rattle.aom_meaning.proofs.Declared.{reads_mark, saw_declared, saw_mark, take
 use Rattle.aom_meaning.proofs.Headers.{number_reads}
 use Rattle.aom_meaning.proofs.Sound.{Sound, giving_sound, next_sound}
 use Rattle.aom_meaning.proofs.Words.{LooksUp, list_means, list_reads, takes_class, thing_means, thing_reads, told}
-use Rattle.aom_syntax.proofs.Within.{ok_is}
+use Rattle.aom_meaning.proofs.SyntaxLemmas.{ok_is}
 use Rattle.aom_image.specs.declared.class.ClassKind.TheVariants as kinds
 use Rattle.aom_image.specs.declared.class.Provider.TheVariants as providers
 use Rattle.aom_syntax.specs.declared.keyword.Keyword.TheVariants as k
 use Rattle.aom_meaning.specs.Source as source
-use Rattle.aom_image.proofs.Given.{true_given}
+use Rattle.aom_meaning.proofs.ImageLemmas.{true_given}
 
 abbrev provided : ℕ → List (List ℕ) → Provider × List (List ℕ)
 provided n ws = (providers.Native n, ws)

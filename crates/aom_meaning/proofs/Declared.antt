@@ -9,8 +9,7 @@ use Rattle.aom_syntax.specs.Classes.{declared, declared_at, flag, is_at}
 use Rattle.aom_syntax.specs.Names.{place_of}
 use Rattle.aom_syntax.specs.Reading.{◌>>=◌, as_name, name}
 use Rattle.aom_syntax.specs.declared.keyword.Keyword.{Keyword}
-use Rattle.aom_syntax.proofs.RangedNames.{at_place}
-use Rattle.aom_syntax.proofs.Within.{ok_is, passed, steps}
+use Rattle.aom_meaning.proofs.SyntaxLemmas.{at_place, ok_is, passed, steps}
 use Rattle.aom_meaning.proofs.Readings.{Takes, sees, took_same}
 use Rattle.aom_meaning.specs.Source.{mark}
 use Rattle.aom_meaning.proofs.Pieces.{Leaves, NotNext, Took, is_not, is_there, named, pair, saw, take_it}

@@ -16,13 +16,11 @@ use Rattle.aom_instructions.specs.declared.version.Version.{Version}
 use Rattle.aom_image.specs.declared.method.Method.{Method}
 use Rattle.aom_asm.specs.Body.{Program}
 use Rattle.aom_asm.specs.Denoted.{and_then, denoted, image_of, last_line_of, read_program, read_rest, read_statements, scope_of}
-use Rattle.aom_asm.proofs.Images.{reads_well}
-use Rattle.aom_asm.proofs.Steps.{steps_then}
+use Rattle.aom_meaning.proofs.AsmLemmas.{class_bytes, class_sizes, reads_well, spelled, steps_then}
 use Rattle.aom_meaning.specs.Naming.{heading_of}
 use Rattle.aom_meaning.specs.Texts.{all_words}
-use Rattle.aom_syntax.proofs.Within.{ok_is, passed}
+use Rattle.aom_meaning.proofs.SyntaxLemmas.{ok_is, passed}
 use Rattle.aom_meaning.proofs.Following.{Goes}
-use Rattle.aom_asm.proofs.WellRead.{class_bytes, class_sizes, spelled}
 use Rattle.aom_meaning.proofs.Parts.{read_so_far}
 use Rattle.aom_meaning.proofs.WholesBack.{none_left}
 use Rattle.aom_meaning.specs.Denotes.{Denotes, bytes_of, names_of}

@@ -12,8 +12,7 @@ use Rattle.aom_syntax.specs.Operands.{class}
 use Rattle.aom_syntax.specs.Reading.{Reading, giving, keyword, next, nothing_more, number, number_in, optional_number}
 use Rattle.aom_syntax.specs.declared.keyword.Keyword.TheVariants as k
 use Rattle.aom_syntax.specs.declared.scope.Scope.{Scope}
-use Rattle.aom_syntax.proofs.Numbers.{number_between}
-use Rattle.aom_syntax.proofs.Within.{ok_is, steps}
+use Rattle.aom_meaning.proofs.SyntaxLemmas.{number_between, ok_is, steps}
 use Rattle.aom_meaning.proofs.Readings.{Whole, done, ends, first, last, reads_on, takes_keyword, took_same}
 use Rattle.aom_meaning.specs.Meaning.{HeaderMeans, IsNumber, IsNumbered, Names, SaidOrNone, VersionMeans}
 use Rattle.aom_meaning.specs.Source.{HeaderText, header_words, part}

@@ -28,9 +28,8 @@ use Rattle.aom_syntax.specs.declared.keyword.Keyword.{Keyword}
 use Rattle.aom_syntax.specs.declared.keyword.Keyword.TheVariants as k
 use Rattle.aom_syntax.specs.declared.method.Heading.{Heading}
 use Rattle.aom_syntax.specs.declared.scope.Scope.{Scope}
-use Rattle.aom_asm.proofs.Counting.{begins_with}
-use Rattle.aom_syntax.proofs.RangedHeadings.{stands_for}
-use Rattle.aom_syntax.proofs.Within.{ok_is, steps}
+use Rattle.aom_meaning.proofs.AsmLemmas.{begins_with}
+use Rattle.aom_meaning.proofs.SyntaxLemmas.{ok_is, stands_for, steps}
 use Rattle.aom_meaning.proofs.Readings.{Takes, Whole, done, first, gives as gives_it, in_turn, last, only_two, sees, settle, takes_any_keyword, took_same}
 use Rattle.aom_meaning.specs.Meaning.{AreStates, GivesMeans, HeadingMeans, IsArgument, IsList, IsNumbered, IsThing, Names, OverMeans, SaidOr, SaidOrNone}
 use Rattle.aom_meaning.specs.Meaning.{states}

@@ -4,7 +4,7 @@ use Rattle.std.proofs.lemmas.Option.{same_Some}
 use Rattle.std.proofs.Common.{◌≡◌, ℕ, suc, Bool, true, false, List, [], ◌∷◌, ◌++◌, length, take, get_or, Option, Some, None, Ok, Err, refl, sym, ap, subst}
 use Rattle.std.proofs.Common.{◌∙◌, arith}
 use Rattle.aom_instructions.specs.declared.version.Version.{Version}
-use Rattle.aom_image.proofs.Given.{true_given, some_given}
+use Rattle.aom_meaning.proofs.ImageLemmas.{some_given, true_given}
 use Rattle.std.specs.Prelude.{IfSome, if◌then◌else◌}
 use Rattle.std.specs.List.{list_all}
 use Rattle.std.specs.Str.{bytes_eq}
@@ -26,9 +26,8 @@ use Rattle.aom_syntax.specs.Names.{place_of}
 use Rattle.aom_syntax.specs.Reading.{◌>>=◌, as_name, giving, next, nothing_more, seen, word}
 use Rattle.aom_syntax.specs.Words.{words_operands}
 use Rattle.aom_instructions.specs.declared.mnemonic.Mnemonic.{Mnemonic}
-use Rattle.aom_asm.proofs.Counting.{found_passes}
-use Rattle.aom_syntax.proofs.RangedNames.{at_place}
-use Rattle.aom_syntax.proofs.Within.{ok_is, passed, steps, saw_word}
+use Rattle.aom_meaning.proofs.AsmLemmas.{found_passes}
+use Rattle.aom_meaning.proofs.SyntaxLemmas.{at_place, ok_is, passed, saw_word, steps}
 use Rattle.aom_meaning.proofs.Readings.{Takes, Whole, first, in_turn, last, regroup, sees, takes_word}
 use Rattle.aom_meaning.proofs.Statements.{label_cut}
 use Rattle.aom_meaning.proofs.Tables.{mnemonic_is_no_label, mnemonic_is_plain, mnemonic_reads}

@@ -2,7 +2,7 @@
 use Rattle.std.proofs.lemmas.Bool.Decides.{nat_tests}
 use Rattle.std.proofs.Common.{◌≡◌, ℕ, ◌<◌, List, ◌∷◌, refl, ap, ◌∙◌, arith, Some, Ok, true}
 use Rattle.aom_instructions.specs.declared.version.Version.{Version}
-use Rattle.aom_instructions.proofs.Again.{parts_make_again}
+use Rattle.aom_meaning.proofs.InstructionsLemmas.{parts_make_again}
 use Rattle.aom_instructions.specs.Mnemonics.{is_in, mnemonic_text}
 use Rattle.aom_instructions.specs.Operands.{LargeFits, OperandsFit, SmallFits}
 use Rattle.aom_instructions.specs.Parts.{make, mnemonic, operands}

@@ -1,35 +1,41 @@
-pub mod Numbers
-pub mod Names
-pub mod Tables
-pub mod Readings
-pub mod OperandsBack
-pub mod InstructionsBack
-pub mod Labels
-pub mod Statements
-pub mod HeadersBack
-pub mod Lists
-pub mod ClassesBack
-pub mod Methods
-pub mod Following
-pub mod Parts
-pub mod TextNames
-pub mod WholesBack
-pub mod Assembling
-pub mod Quiet
-pub mod Ascii
-pub mod Pieces
-pub mod Words
-pub mod Sound
-pub mod Headers
-pub mod Declared
-pub mod Classes
-pub mod Headings
-pub mod Operands
-pub mod Places
-pub mod Instructions
-pub mod Texts
-pub mod Wholes
-pub mod Parsed
-pub mod Denoting
-pub mod Pairs
-pub mod Examples
+mod Numbers
+mod Names
+mod Tables
+mod Readings
+mod OperandsBack
+mod InstructionsBack
+mod Labels
+mod Statements
+mod HeadersBack
+mod Lists
+mod ClassesBack
+mod Methods
+mod Following
+mod Parts
+mod TextNames
+mod WholesBack
+mod Assembling
+mod Quiet
+mod Ascii
+mod Pieces
+mod Words
+mod Sound
+mod Headers
+mod Declared
+mod Classes
+mod Headings
+mod Operands
+mod Places
+mod Instructions
+mod Texts
+mod Wholes
+mod Parsed
+mod Denoting
+mod Pairs
+mod Examples
+pub mod MeaningLemmas
+pub use Rattle.aom_asm.proofs.AsmLemmas
+pub use Rattle.aom_image.proofs.ImageLemmas
+pub use Rattle.aom_instructions.proofs.InstructionsLemmas
+pub use Rattle.aom_listing.proofs.ListingLemmas
+pub use Rattle.aom_syntax.proofs.SyntaxLemmas

@@ -12,7 +12,7 @@ use Rattle.aom_syntax.specs.Operands.{class, label, method, used}
 use Rattle.aom_syntax.specs.Reading.{◌>>=◌, Reading, name, next}
 use Rattle.aom_syntax.specs.Words.{in_order, large_operand, words_operands}
 use Rattle.aom_syntax.specs.declared.scope.Scope.{Scope}
-use Rattle.aom_syntax.proofs.Within.{steps}
+use Rattle.aom_meaning.proofs.SyntaxLemmas.{steps}
 
 -- whatever one reading gives, another gives too
 pub record Follows {X : Type 0} (r t : Reading X) : Type 0 where

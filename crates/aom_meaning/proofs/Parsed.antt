@@ -28,9 +28,8 @@ use Rattle.aom_asm.specs.Body.{Body, Program}
 use Rattle.aom_asm.specs.Denoted.{at_line, closed, declaration, grown, method_of, read_program, read_rest, step, with_class, with_heading, with_instruction}
 use Rattle.aom_asm.specs.Denoted.{with_method}
 use Rattle.aom_asm.specs.TextNames.{labels_of as labels_until}
-use Rattle.aom_asm.proofs.Counting.{begins_with}
-use Rattle.aom_asm.proofs.Steps.{Started, no_ok, program_starts, said, started, steps_then}
-use Rattle.aom_syntax.proofs.Within.{kept, ok_is, passed, steps}
+use Rattle.aom_meaning.proofs.AsmLemmas.{Started, begins_with, no_ok, program_starts, said, started, steps_then}
+use Rattle.aom_meaning.proofs.SyntaxLemmas.{kept, ok_is, passed, steps}
 use Rattle.aom_meaning.specs.Texts.{all_words}
 use Rattle.aom_meaning.proofs.Parts.{read_so_far}
 use Rattle.aom_meaning.specs.Meaning.{ClassMeans, HeaderMeans, InstructionMeans, MethodMeans, Names, Pairwise, labels_of}

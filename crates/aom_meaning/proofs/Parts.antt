@@ -31,7 +31,7 @@ use Rattle.aom_listing.specs.Operands.{label_name}
 use Rattle.aom_listing.specs.Words.{words_statement}
 use Rattle.aom_asm.specs.Body.{Body, Program}
 use Rattle.aom_asm.specs.Denoted.{declaration, grown, step}
-use Rattle.aom_asm.proofs.WellRead.{class_bytes, spelled}
+use Rattle.aom_meaning.proofs.AsmLemmas.{class_bytes, spelled}
 use Rattle.aom_asm.specs.TextNames.{is_end, label_in, labels_of, label_or_none as label_or_empty}
 use Rattle.aom_meaning.specs.Naming.{HasNames, code_labels, heading_of, label_or_none, labels_from}
 use Rattle.aom_meaning.specs.Texts.{SaysQuiet, all_words}

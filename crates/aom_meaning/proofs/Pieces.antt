@@ -17,12 +17,12 @@ use Rattle.aom_syntax.specs.Names.{place_of, referred}
 use Rattle.aom_syntax.specs.Operands.{used}
 use Rattle.aom_syntax.specs.Reading.{◌>>=◌, Reading, as_name, keyword, name, next, nothing_more, seen, took, word}
 use Rattle.aom_syntax.specs.declared.keyword.Keyword.{Keyword}
-use Rattle.aom_syntax.proofs.Within.{ok_is, passed, saw_word, steps}
+use Rattle.aom_meaning.proofs.SyntaxLemmas.{ok_is, passed, saw_word, steps}
 use Rattle.aom_meaning.proofs.Readings.{Takes, Whole, reads_on, sees, takes_word}
 use Rattle.aom_meaning.specs.Meaning.{IsNumbered, SaidOr}
 use Rattle.aom_meaning.specs.Source.{part, mark}
-use Rattle.aom_image.proofs.Given.{some_given}
-use Rattle.aom_asm.proofs.Steps.{no_ok}
+use Rattle.aom_meaning.proofs.ImageLemmas.{some_given}
+use Rattle.aom_meaning.proofs.AsmLemmas.{no_ok}
 
 -- ---- one word
 

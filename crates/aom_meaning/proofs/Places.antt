@@ -13,7 +13,7 @@ use Rattle.aom_syntax.specs.declared.scope.Scope.{Scope}
 use Rattle.aom_meaning.specs.Meaning.{DeclaredOnce, IsNumbered, Names}
 use Rattle.aom_meaning.proofs.Operands.{FindsMore}
 use Rattle.aom_meaning.proofs.Words.{LooksUp}
-use Rattle.aom_image.proofs.Given.{some_given, true_given}
+use Rattle.aom_meaning.proofs.ImageLemmas.{some_given, true_given}
 
 -- ---- one place for each name
 

@@ -1,7 +1,7 @@
 -- What holds of whatever a reading gives of certain words, reading by reading.
 use Rattle.std.proofs.Common.{◌≡◌, ℕ, List, Ok, subst}
 use Rattle.aom_syntax.specs.Reading.{Reading, giving, next}
-use Rattle.aom_syntax.proofs.Within.{ok_is, steps}
+use Rattle.aom_meaning.proofs.SyntaxLemmas.{ok_is, steps}
 
 pub record Sound {X : Type 0} (r : Reading X) (ws : List (List ℕ)) (Q : X → List (List ℕ) → Type 0) : Type 0 where
   pub each : (x : X) (rest : List (List ℕ)) → r ws ≡ Ok (x, rest) → Q x rest

@@ -29,7 +29,7 @@ use Rattle.aom_meaning.specs.Source.{instruction_words, label_words, methods_of,
 use Rattle.aom_meaning.proofs.Pieces.{NotNext, not_word}
 use Rattle.aom_meaning.proofs.Places.{once_found}
 use Rattle.aom_meaning.proofs.Following.{first_of}
-use Rattle.aom_image.proofs.Given.{some_given}
+use Rattle.aom_meaning.proofs.ImageLemmas.{some_given}
 
 -- ---- what an instruction does not begin with
 

@@ -31,7 +31,7 @@ use Rattle.aom_asm.specs.TextNames.{labels_of as labels_until, label_or_none}
 use Rattle.aom_meaning.specs.Naming.{heading_of}
 use Rattle.aom_meaning.specs.Texts.{all_words}
 use Rattle.aom_meaning.proofs.Following.{Goes, arrives, at_seam, goes_on, room, stays, steps}
-use Rattle.aom_asm.proofs.WellRead.{class_bytes, spelled}
+use Rattle.aom_meaning.proofs.AsmLemmas.{class_bytes, spelled}
 use Rattle.aom_meaning.proofs.Parts.{few_before, read_so_far}
 use Rattle.aom_meaning.proofs.Readings.{takes_any_keyword}
 use Rattle.aom_meaning.specs.Meaning.{ClassMeans, DeclaredOnce, HeadingMeans, InstructionMeans, MethodMeans, Names, labels_of}

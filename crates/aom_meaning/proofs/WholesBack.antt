@@ -15,7 +15,7 @@ use Rattle.aom_meaning.specs.Naming.{HasNames}
 use Rattle.aom_meaning.specs.Texts.{AllSayQuiet, all_words}
 use Rattle.aom_meaning.proofs.Following.{Goes, goes_on, first_of}
 use Rattle.aom_meaning.proofs.HeadersBack.{header_reads}
-use Rattle.aom_asm.proofs.WellRead.{class_bytes, class_sizes, spelled}
+use Rattle.aom_meaning.proofs.AsmLemmas.{class_bytes, class_sizes, spelled}
 use Rattle.aom_meaning.proofs.Parts.{classes_go, methods_go, read_so_far}
 use Rattle.aom_meaning.proofs.TextNames.{has_names}
 

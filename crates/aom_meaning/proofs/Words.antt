@@ -22,8 +22,7 @@ use Rattle.aom_syntax.specs.Names.{place_of, referred}
 use Rattle.aom_syntax.specs.Operands.{class, method}
 use Rattle.aom_syntax.specs.Reading.{◌>>=◌, as_name, name}
 use Rattle.aom_syntax.specs.declared.scope.Scope.{Scope}
-use Rattle.aom_syntax.proofs.RangedLists.{listed_fits}
-use Rattle.aom_syntax.proofs.Within.{marked_or, ok_is, passed, steps}
+use Rattle.aom_meaning.proofs.SyntaxLemmas.{listed_fits, marked_or, ok_is, passed, steps}
 use Rattle.aom_meaning.proofs.Lists.{plain_form}
 use Rattle.aom_meaning.proofs.Readings.{Takes, sees}
 use Rattle.aom_meaning.specs.Meaning.{Elements, IsArgument, IsList, IsNumbered, IsThing, Names, Pairwise}

@@ -1,5 +1,6 @@
-pub mod Adopting
-pub mod Delays
-pub mod Ids
-pub mod Lines
-pub mod Slots
+mod Adopting
+mod Delays
+mod Ids
+mod Lines
+mod Slots
+pub mod NativesLemmas

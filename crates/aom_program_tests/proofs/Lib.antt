@@ -1,0 +1,1 @@
+pub use Rattle.aom_natives.proofs.NativesLemmas

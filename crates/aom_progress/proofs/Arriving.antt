@@ -7,9 +7,7 @@ use Rattle.aom_progress.proofs.Ranking.{moves_lower_ranks}
 use Rattle.aom_progress.specs.Leaves.{Comes, LeavesCome, goes, stays}
 use Rattle.aom_progress.specs.Ranks.{rank}
 use Rattle.aom_rules.specs.Typing.{IsTyped, Typing}
-use Rattle.aom_safety.proofs.Caught.{arrives, deals}
-use Rattle.aom_safety.proofs.Clearing.{works_kept}
-use Rattle.aom_safety.proofs.Steps.{step_keeps}
+use Rattle.aom_progress.proofs.SafetyLemmas.{arrives, deals, step_keeps, works_kept}
 use Rattle.aom_safety.specs.Laws.{IsWired}
 use Rattle.aom_safety.specs.Leaves.{IsLeaving, IsOver, Unwinds, deals as dealt_with, leaves, works}
 use Rattle.aom_semantics.specs.Moves.{step}

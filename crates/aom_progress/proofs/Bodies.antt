@@ -10,11 +10,8 @@ use Rattle.aom_instructions.specs.declared.instr.Instr.{Instr}
 use Rattle.aom_instructions.specs.declared.instr.Instr.TheVariants.{Loop}
 use Rattle.aom_classes.specs.Loops.{loop_in, loop_at, Ending, next_in, next_at, Closes, LoopsNest}
 use Rattle.aom_classes.specs.Scanning.{Enters}
-use Rattle.aom_classes.proofs.Nested.{scanned_at}
-use Rattle.aom_classes.proofs.Nesting.{ClosedBefore, must_pass}
-use Rattle.aom_classes.proofs.Each.{both as both_true}
+use Rattle.aom_progress.proofs.ClassesLemmas.{ClosedBefore, both as both_true, must_pass, next_there, scanned_at}
 use Rattle.aom_progress.specs.Within.{is_end_of, is_in_body}
-use Rattle.aom_classes.proofs.LoopPlaces.{next_there}
 
 -- ---- searching from a place on
 

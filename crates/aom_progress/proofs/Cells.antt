@@ -12,7 +12,7 @@ use Rattle.aom_semantics.specs.Clients.{each_unslotted}
 use Rattle.aom_semantics.specs.Servers.{all_unslotted, opened, reserved, without_queue}
 use Rattle.aom_semantics.specs.Tokens.{all_redeemed, redeemed_by}
 use Rattle.aom_semantics.specs.Words.{stored}
-use Rattle.aom_semantics.proofs.Maps.{same_place-true}
+use Rattle.aom_progress.proofs.SemanticsLemmas.{same_place-true}
 use Rattle.aom_progress.specs.Ranks.{is_going, standing, operations}
 use Rattle.aom_semantics.specs.Natives.{resessioned}
 

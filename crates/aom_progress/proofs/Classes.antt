@@ -11,15 +11,14 @@ use Rattle.aom_image.specs.declared.method.Method.{Method as Method_declared}
 use Rattle.aom_image.specs.declared.method.Role.{Role}
 use Rattle.aom_image.specs.declared.method.Role.TheVariants.{Accept, Error, Run as Handles, Service}
 use Rattle.aom_image.specs.declared.method.Thing.TheVariants.{Object as An_object_of}
-use Rattle.aom_classes.proofs.Facts.{all_there}
-use Rattle.aom_classes.proofs.Playing.{role_inherits}
+use Rattle.aom_progress.proofs.ClassesLemmas.{all_there, role_inherits}
 use Rattle.aom_classes.specs.Linked.{IsLinked}
 use Rattle.aom_classes.specs.Roles.{role_of}
 use Rattle.aom_roles.specs.Classes.{sessions_in, sessions_of, is_session_in, is_session_kind, kind_in}
 use Rattle.aom_roles.specs.Shapes.{HasShape, IsShaped, is_active_in, kind_of}
 use Rattle.aom_typings.specs.Prices.{Prices, perhaps_price, price}
 use Rattle.aom_progress.specs.Payers.{dispatch_price, object_price}
-use Rattle.aom_safety.proofs.Families.{family_kinds}
+use Rattle.aom_progress.proofs.SafetyLemmas.{family_kinds}
 use Rattle.aom_semantics.specs.Servers.{is_server}
 
 module _ (p : Image) (linked : IsLinked p) (x : ℕ) where

@@ -1,7 +1,7 @@
 -- The steps that are counted after a move: at most those before it and those that it is, or none as the dispatch of an object ends.
 use Rattle.std.proofs.Common.{◌≡◌, ◌≤◌, ◌+◌, ◌∙◌, ℕ, true, false, cond, List, ap, arith}
 use Rattle.aom_image.specs.Image.{Image}
-use Rattle.aom_safety.proofs.Counting.{move_steps}
+use Rattle.aom_progress.proofs.SafetyLemmas.{move_steps}
 use Rattle.aom_safety.specs.Counting.{restarts, steps_of}
 use Rattle.aom_semantics.specs.Moves.{counted, is_counted, step}
 use Rattle.aom_semantics.specs.State.{Choice, Goes, State, Task, raised}

@@ -14,10 +14,9 @@ use Rattle.aom_roles.specs.Tests.{AllTrue}
 use Rattle.aom_classes.specs.Loops.{loop_in, next_in}
 use Rattle.aom_roles.specs.Things.{field_thing, holder_of}
 use Rattle.aom_shape.specs.Kinds.{field, filled, is_object_or_null, register}
-use Rattle.aom_typings.proofs.Mosts.{run_has}
-use Rattle.aom_typings.proofs.Paid.{call_paid, cancel_paid}
+use Rattle.aom_progress.proofs.TypingsLemmas.{call_paid, cancel_paid, run_has}
 use Rattle.aom_classes.specs.Overriding.{body_of}
-use Rattle.aom_families.proofs.Running.{body_runs, overrides_there}
+use Rattle.aom_progress.proofs.FamiliesLemmas.{body_runs, overrides_there}
 use Rattle.aom_roles.specs.Kinds.{is_active_kind, is_listed_kind}
 use Rattle.aom_roles.specs.States.{unlisted}
 use Rattle.aom_shape.specs.Needs.{Flow}
@@ -28,9 +27,8 @@ use Rattle.aom_shape.specs.Shape.{Shape}
 use Rattle.aom_rules.specs.Typing.{Typing}
 use Rattle.aom_shape.specs.declared.kind.Filling.{Filling}
 use Rattle.aom_shape.specs.declared.kind.Kind.{Kind}
-use Rattle.aom_safety.proofs.Jumps.{not_empty, not_full}
-use Rattle.aom_safety.proofs.Requesting.{active_listed, busy_in, free_in, listed_in, some_left, unlisted_in}
-use Rattle.aom_safety.proofs.Straight.{At, field_fits, kind_fits}
+use Rattle.aom_progress.proofs.SafetyLemmas.{At, active_listed, busy_in, cancel_family, field_fits, free_in, houses_field, kind_fits, listed_in, not_empty}
+use Rattle.aom_progress.proofs.SafetyLemmas.{not_full, some_left, unlisted_in}
 use Rattle.aom_safety.specs.Claims.{Layer, tasks_of}
 use Rattle.aom_semantics.specs.Effects.{Calls, Cancels, Destroys, Destroys_last, Effect, Goes_on, Jumps, Leaves, Operates, Pushed, Pushed_operation}
 use Rattle.aom_semantics.specs.Effects.{Returns, Sets_trap, Update, cancels_if, deals, deletes, effect, jumps_if, jumps_unless, round}
@@ -40,8 +38,6 @@ use Rattle.aom_semantics.specs.State.{Choice, Frame, Item, State, Task, counter,
 use Rattle.aom_safety.specs.WellTyped.{Fits}
 use Rattle.aom_semantics.specs.Words.{here}
 use Rattle.aom_typings.specs.Prices.{AllPaid, IsPriced, Prices, Stands, call_price, cancel_price, kind_price, own, price}
-use Rattle.aom_safety.proofs.Callees.{cancel_family}
-use Rattle.aom_safety.proofs.Housing.{houses_field}
 
 -- what a call runs costs no more than the call pays
 pub body_paid : (p : Image) (c : Prices) (m : ℕ) (view : Option ℕ) → price c (body_of p m view) ≤ call_price p c m

@@ -3,7 +3,7 @@ use Rattle.std.proofs.lemmas.Bool.Decides.{nat_tests}
 use Rattle.std.proofs.Common.{◌≡◌, ◌+◌, ◌∙◌, ℕ, true, false, cond, List, [], ◌∷◌, None, refl, sym, arith}
 use Rattle.aom_image.specs.Image.{Image}
 use Rattle.aom_rules.specs.Typing.{Typing}
-use Rattle.aom_semantics.proofs.Maps.{same_place_refl}
+use Rattle.aom_progress.proofs.SemanticsLemmas.{same_place_refl}
 use Rattle.aom_safety.specs.Claims.{Dispatching, forms, items_of}
 use Rattle.aom_semantics.specs.Places.{Cell, Entry, Place, held, seen}
 use Rattle.aom_semantics.specs.State.{Dispatch, Item, Seat}

@@ -21,7 +21,7 @@ use Rattle.aom_roles.specs.Roles.{role_number}
 use Rattle.aom_classes.specs.Loops.{loop_in, next_in}
 use Rattle.aom_roles.specs.Families.{parent_in}
 use Rattle.aom_classes.specs.Roles.{destructor_of, keeper_in, main_of, own_role, plays, role_of}
-use Rattle.aom_classes.proofs.Playing.{role_inherits}
+use Rattle.aom_progress.proofs.ClassesLemmas.{destroyed, role_inherits}
 use Rattle.aom_shape.specs.Order.{SaysNoMore, Weaker, WeakerFilling, alike, alike_filling, perhaps_empty, unset_null}
 use Rattle.aom_rules.specs.Rules.{flows}
 use Rattle.aom_shape.specs.Shape.{Shape}
@@ -44,9 +44,8 @@ use Rattle.aom_typings.specs.Most.{line}
 use Rattle.std.proofs.lemmas.List.Elements.{All-nil, All-cons}
 use Rattle.aom_image.specs.declared.class.ClassDecl.{ClassDecl}
 use Rattle.aom_roles.specs.Families.{HasNoParents}
-use Rattle.aom_typings.proofs.Alone.{line_alone}
+use Rattle.aom_progress.proofs.TypingsLemmas.{line_alone}
 use Rattle.aom_typings.specs.Dispatches.{IsAffordable, main_price}
-use Rattle.aom_classes.proofs.Playing.{destroyed}
 
 -- ---- the image: main makes an object and deletes it, in three rounds
 

@@ -1,6 +1,6 @@
 -- The effect of each instruction leads to a lower rank.
 use Rattle.std.proofs.lemmas.Bool.Decides.{nat_tests}
-use Rattle.aom_safety.proofs.Overriders.{body_quiet}
+use Rattle.aom_progress.proofs.SafetyLemmas.{all_parts, body_quiet, straight_by}
 use Rattle.std.proofs.Common.{◌≡◌, ◌<◌, ◌≤◌, ◌+◌, ◌*◌, ◌∙◌, ℕ, ℤ, suc, Bool, true, false, List}
 use Rattle.std.proofs.Common.{◌∷◌, length, Option, Some, None, slice_get, refl, sym, ap, arith, subst}
 use Rattle.std.specs.Prelude.{not}
@@ -14,11 +14,9 @@ use Rattle.aom_image.specs.declared.method.Method.{Method as Method_declared}
 use Rattle.aom_classes.specs.Jumps.{jump_of}
 use Rattle.aom_classes.specs.Linked.{IsLinked}
 use Rattle.aom_classes.specs.Loops.{LoopsNest, loop_in}
-use Rattle.aom_classes.proofs.Facts.{at_place}
+use Rattle.aom_progress.proofs.ClassesLemmas.{at_place}
 use Rattle.aom_rules.specs.Rules.{rule_needs}
 use Rattle.aom_shape.specs.Shape.{Shape}
-use Rattle.aom_safety.proofs.Finishing.{all_parts}
-use Rattle.aom_safety.proofs.Fitting.{straight_by}
 use Rattle.aom_semantics.specs.Calls.{run_by, target_view, below_top, passed_cells, returned}
 use Rattle.aom_semantics.specs.Cleanup.{to_trap, top_place}
 use Rattle.aom_semantics.specs.Effects.{Calls, Cancels, Carried, Counts, Destroys, Destroys_last, Effect, Goes_on, Handed, Replied, Jumps, Leaves}
@@ -41,7 +39,7 @@ use Rattle.aom_progress.proofs.Cells.{field_stands, operations_below, standing_a
 use Rattle.aom_progress.proofs.Cells.{standing_passes, standing_stored, standing_opened, standing_redeemed, standing_without}
 use Rattle.aom_progress.proofs.Worths.{passed_less, to_trap_less}
 use Rattle.aom_progress.proofs.Sums.{one_less, one_more, scaled, scaled_le}
-use Rattle.aom_image.proofs.Given.{false_given}
+use Rattle.aom_progress.proofs.ImageLemmas.{false_given}
 use Rattle.std.proofs.lemmas.Bool.{true≢false}
 use Rattle.aom_roles.specs.Things.{is_object}
 use Rattle.aom_roles.specs.Tests.{AllTrue, only_if}

@@ -1,14 +1,14 @@
 -- The cells that go are as many as the destructions at hand.
 use Rattle.std.proofs.lemmas.Bool.Decides.{nat_tests}
 use Rattle.std.proofs.Common.{◌≡◌, ◌≤◌, ◌+◌, ◌∙◌, ℕ, suc, Bool, true, false, cond, List, [], ◌∷◌, length, Option, Some, None, refl, sym, ap, arith}
-use Rattle.aom_image.proofs.Given.{false_given, none_given}
+use Rattle.aom_progress.proofs.ImageLemmas.{false_given, none_given}
 use Rattle.std.specs.Prelude.{◌==◌, ◌&&◌, ◌||◌}
 use Rattle.std.proofs.lemmas.Bool.{eqb-true, false≢true, ne_eqb}
 use Rattle.aom_image.specs.Image.{Image}
 use Rattle.aom_roles.specs.Things.{is_object}
 use Rattle.aom_rules.specs.Typing.{Typing}
 use Rattle.aom_shape.specs.declared.kind.Kind.TheVariants.{Null}
-use Rattle.aom_semantics.proofs.Maps.{held_without, same_place-true, same_place_refl, tidy_without}
+use Rattle.aom_progress.proofs.SemanticsLemmas.{held_without, same_place-true, same_place_refl, tidy_without}
 use Rattle.aom_semantics.specs.Clients.{count_messages}
 use Rattle.aom_safety.specs.Claims.{Dispatching, Dying, Ending, Layer, Mark, Unwinding, Method, claim, declared, tasks_of}
 use Rattle.aom_semantics.specs.Places.{Cell, Going, Object, Place, Sight, Tidy, count_cells, held, same_place, without}

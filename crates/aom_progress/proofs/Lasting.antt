@@ -7,12 +7,10 @@ use Rattle.aom_image.specs.Image.{Image}
 use Rattle.aom_image.specs.declared.method.Argument.{Argument}
 use Rattle.aom_image.specs.declared.method.Argument.TheVariants.{Own as Takes_own, Word as Takes_word}
 use Rattle.aom_image.specs.declared.method.Gives.{Gives}
-use Rattle.aom_safety.proofs.ClientsMoves.{held_elsewhere}
-use Rattle.aom_safety.proofs.Dropping.{held_dropped, queue_dropped}
-use Rattle.aom_semantics.proofs.Maps.{held_without}
-use Rattle.aom_safety.proofs.Redeeming.{redeemed_by_alike}
+use Rattle.aom_progress.proofs.SafetyLemmas.{held_dropped, held_elsewhere, held_set_word, queue_dropped, redeemed_by_alike, rerequested_alike}
+use Rattle.aom_progress.proofs.SafetyLemmas.{resessioned_alike}
+use Rattle.aom_progress.proofs.SemanticsLemmas.{held_without}
 use Rattle.aom_semantics.specs.Tokens.{next_token, promised, redeemed_by}
-use Rattle.aom_safety.proofs.Storing.{held_set_word, rerequested_alike, resessioned_alike}
 use Rattle.aom_semantics.specs.Calls.{passed_cells, result_cells}
 use Rattle.aom_semantics.specs.Cleanup.{to_trap, top_place}
 use Rattle.aom_semantics.specs.Clients.{each_unslotted}

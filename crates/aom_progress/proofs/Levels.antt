@@ -1,6 +1,6 @@
 -- What a run of a method costs those that begin it.
 use Rattle.std.proofs.lemmas.Bool.Decides.{nat_tests}
-use Rattle.aom_families.proofs.Running.{overrides_there, body_runs}
+use Rattle.aom_progress.proofs.FamiliesLemmas.{body_runs, overrides_there}
 use Rattle.aom_classes.specs.Overriding.{body_of}
 use Rattle.std.proofs.Common.{Bool, List, None, Option, Some, [], ap, arith, cond, false, length, refl}
 use Rattle.std.proofs.Common.{slice_get, subst, suc, true, ℕ, ◌*◌, ◌+◌, ◌<◌, ◌^◌, ◌∙◌, ◌≡◌, ◌≤◌}
@@ -19,23 +19,20 @@ use Rattle.aom_classes.specs.Calls.{CallsBelow, CallsOrdered, RunsBelow}
 use Rattle.aom_classes.specs.Linked.{IsLinked}
 use Rattle.aom_classes.specs.Roles.{main_of, own_role, role_of}
 use Rattle.aom_roles.specs.Shapes.{FlagsFit, HasShape, IsShaped, kind_of, may_leave, is_quiet as quiet_bit}
-use Rattle.aom_classes.proofs.Facts.{all_there, at_place}
-use Rattle.aom_classes.proofs.Mentioning.{cancels_own}
-use Rattle.aom_roles.proofs.Descending.{through}
+use Rattle.aom_progress.proofs.ClassesLemmas.{all_there, at_place, cancels_own, child_there, keeper_own, role_inherits}
+use Rattle.aom_progress.proofs.RolesLemmas.{through}
 use Rattle.aom_roles.specs.Families.{descends, parent_of}
 use Rattle.aom_semantics.specs.Destruction.{begun, destructed}
 use Rattle.aom_semantics.specs.Places.{Object}
 use Rattle.aom_semantics.specs.State.{Task}
 use Rattle.aom_safety.specs.WellTyped.{IsUndo}
 use Rattle.aom_progress.specs.Ranks.{all_left, base, cell_rank, closing_rank, left_in, level, price, run_rank, spare, tasks_rank, waiting_rank}
-use Rattle.aom_typings.proofs.Lines.{line_first, line_step}
+use Rattle.aom_progress.proofs.TypingsLemmas.{line_first, line_step}
 use Rattle.aom_typings.specs.Most.{line, line_from, line_in}
-use Rattle.aom_classes.proofs.Keeping.{child_there, keeper_own}
 use Rattle.aom_image.specs.declared.method.Thing.TheVariants.{Message, Object as Object_of}
 use Rattle.aom_progress.specs.Within.{left}
 use Rattle.aom_progress.proofs.Sums.{double_le, one_beside, one_of, pow_less, pow_more, pow_some, pow_step, pow_twice, scaled_le, whole_run}
-use Rattle.aom_image.proofs.Given.{cons_given, some_given}
-use Rattle.aom_classes.proofs.Playing.{role_inherits}
+use Rattle.aom_progress.proofs.ImageLemmas.{cons_given, some_given}
 use Rattle.aom_progress.proofs.Sums.{one_of_all}
 
 left_below : (ms : List Method) (k : ℕ) (m : Method) → slice_get ms k ≡ Some m → left m.code [] 0 ≤ all_left ms

@@ -1,24 +1,32 @@
-pub mod Sums
-pub mod Bodies
-pub mod Rounds
-pub mod Places
-pub mod Cells
-pub mod Worths
-pub mod Levels
-pub mod Falling
-pub mod Ranking
-pub mod Goings
-pub mod Arriving
-pub mod Runs
-pub mod Pushed
-pub mod Lasting
-pub mod Sessions
-pub mod Classes
-pub mod Covering
-pub mod Paying
-pub mod Counted
-pub mod Emptied
-pub mod Turns
-pub mod Payers
-pub mod Within
-pub mod Examples
+mod Sums
+mod Bodies
+mod Rounds
+mod Places
+mod Cells
+mod Worths
+mod Levels
+mod Falling
+mod Ranking
+mod Goings
+mod Arriving
+mod Runs
+mod Pushed
+mod Lasting
+mod Sessions
+mod Classes
+mod Covering
+mod Paying
+mod Counted
+mod Emptied
+mod Turns
+mod Payers
+mod Within
+mod Examples
+pub mod ProgressLemmas
+pub use Rattle.aom_classes.proofs.ClassesLemmas
+pub use Rattle.aom_families.proofs.FamiliesLemmas
+pub use Rattle.aom_image.proofs.ImageLemmas
+pub use Rattle.aom_roles.proofs.RolesLemmas
+pub use Rattle.aom_safety.proofs.SafetyLemmas
+pub use Rattle.aom_semantics.proofs.SemanticsLemmas
+pub use Rattle.aom_typings.proofs.TypingsLemmas

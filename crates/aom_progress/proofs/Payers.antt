@@ -2,7 +2,7 @@
 use Rattle.std.proofs.lemmas.Bool.Decides.{nat_tests}
 use Rattle.std.proofs.Common.{arith, ◌≡◌, ℕ, cond, List, ◌∷◌, None, refl, arith}
 use Rattle.aom_image.specs.Image.{Image}
-use Rattle.aom_safety.proofs.Moving.{steps_are_moves}
+use Rattle.aom_progress.proofs.SafetyLemmas.{steps_are_moves}
 use Rattle.aom_semantics.specs.Cleanup.{to_trap}
 use Rattle.aom_safety.specs.Counting.{restarts}
 use Rattle.aom_semantics.specs.Destruction.{begun}

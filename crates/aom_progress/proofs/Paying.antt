@@ -13,17 +13,16 @@ use Rattle.aom_image.specs.declared.method.Method.{Method as Method_declared}
 use Rattle.aom_classes.specs.Jumps.{JumpsWell, jump_of}
 use Rattle.aom_classes.specs.Linked.{IsLinked}
 use Rattle.aom_classes.specs.Loops.{LoopsNest, loop_in}
-use Rattle.aom_classes.proofs.Facts.{at_place}
+use Rattle.aom_progress.proofs.ClassesLemmas.{at_place}
 use Rattle.aom_shape.specs.Kinds.{register}
 use Rattle.aom_shape.specs.Shape.{Shape}
 use Rattle.aom_roles.specs.Tables.{at, put_at}
 use Rattle.aom_rules.specs.Typing.{Typing}
 use Rattle.aom_shape.specs.declared.kind.Kind.{Kind}
-use Rattle.aom_safety.proofs.Straight.{At, kind_fits}
-use Rattle.aom_safety.proofs.Fitting.{straight_by}
-use Rattle.aom_image.proofs.Given.{some_given}
+use Rattle.aom_progress.proofs.SafetyLemmas.{At, kind_fits, straight_by}
+use Rattle.aom_progress.proofs.ImageLemmas.{some_given}
 use Rattle.aom_roles.specs.Families.{parent_above}
-use Rattle.aom_typings.proofs.Lines.{line_first, line_next}
+use Rattle.aom_progress.proofs.TypingsLemmas.{line_first, line_next}
 use Rattle.aom_typings.specs.Most.{line, line_after}
 use Rattle.aom_semantics.specs.Calls.{run_by, target_view, below_top, ended_well, passed_cells, result_cells, returned}
 use Rattle.aom_safety.specs.Claims.{Layer, tasks_of, Method}

@@ -5,7 +5,7 @@ use Rattle.aom_instructions.specs.declared.instr.Instr.{Instr}
 use Rattle.aom_instructions.specs.declared.instr.Instr.TheVariants.{Loop, Next}
 use Rattle.aom_classes.specs.Jumps.{JumpsWell, KeepsWithin, jump_of}
 use Rattle.aom_classes.specs.Loops.{LoopsNest, loop_in}
-use Rattle.aom_classes.proofs.Facts.{at_place}
+use Rattle.aom_progress.proofs.ClassesLemmas.{at_place}
 use Rattle.aom_roles.specs.Tables.{at, put_at}
 use Rattle.aom_progress.specs.Within.{all_rounds, left, rounds_of, rounds_weight, weight}
 use Rattle.aom_progress.proofs.Rounds as rounds

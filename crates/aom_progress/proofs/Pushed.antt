@@ -9,11 +9,11 @@ use Rattle.aom_semantics.specs.Servers.{all_unslotted, is_queue, withdrawn, with
 use Rattle.aom_semantics.specs.State.{Home, Item, field_place}
 use Rattle.aom_semantics.specs.Calls.{below_top}
 use Rattle.aom_semantics.specs.Words.{stored}
-use Rattle.aom_semantics.proofs.Maps.{same_place-true}
+use Rattle.aom_progress.proofs.SemanticsLemmas.{same_place-true}
 use Rattle.aom_typings.specs.Prices.{Prices}
 use Rattle.aom_progress.specs.Left.{due, is_entry, is_session_with, operations_left, owned_left}
 use Rattle.aom_semantics.specs.Natives.{resessioned}
-use Rattle.aom_safety.proofs.Storing.{reset}
+use Rattle.aom_progress.proofs.SafetyLemmas.{reset}
 use Rattle.std.specs.Prelude.{map}
 
 pub field_no_entry : (h : Home) (f : ℕ) → is_entry (field_place h f) ≡ false

@@ -3,8 +3,8 @@ use Rattle.std.proofs.lemmas.Bool.Decides.{nat_tests}
 use Rattle.std.proofs.lemmas.Option.{same_Some}
 use Rattle.std.proofs.Common.{◌≡◌, ◌<◌, ◌≤◌, ◌+◌, ◌*◌, ◌∙◌, ℕ, ℤ, Bool, true, List, [], ◌∷◌}
 use Rattle.std.proofs.Common.{length, Option, Some, None, slice_get, refl, sym, ap, arith, subst}
-use Rattle.aom_image.proofs.Given.{some_given}
-use Rattle.aom_typings.proofs.Lines.{line_next}
+use Rattle.aom_progress.proofs.ImageLemmas.{some_given}
+use Rattle.aom_progress.proofs.TypingsLemmas.{line_next}
 use Rattle.aom_image.specs.Image.{Image}
 use Rattle.aom_image.specs.Views.{class_in, instr_at, is_quiet, method_at}
 use Rattle.aom_instructions.specs.declared.instr.Instr.{Instr}
@@ -13,20 +13,17 @@ use Rattle.aom_image.specs.declared.method.Gives.{Gives}
 use Rattle.aom_image.specs.declared.method.Method.{Method as Method_declared}
 use Rattle.aom_classes.specs.Linked.{IsLinked}
 use Rattle.aom_classes.specs.Loops.{loop_in}
-use Rattle.aom_classes.proofs.Facts.{of_method}
+use Rattle.aom_progress.proofs.ClassesLemmas.{of_method}
 use Rattle.aom_shape.specs.Shape.{Shape}
 use Rattle.aom_rules.specs.Typing.{IsTyped, Typing}
 use Rattle.aom_semantics.specs.Calls.{returned}
 use Rattle.aom_semantics.specs.Effects.{Effect, applied, needs}
-use Rattle.aom_safety.proofs.Owned.{entry_object, root_object, session_object}
+use Rattle.aom_progress.proofs.SafetyLemmas.{cancel_family, entry_object, found_first, method_layer, root_object, session_object, step_keeps, steps_are_moves}
 use Rattle.aom_semantics.specs.Objects.{is_no_message}
 use Rattle.aom_semantics.specs.Words.{here}
 use Rattle.aom_safety.specs.Steps.{Acts, Arrives, Clears, Comes_out, Empties, Ends, Fits, Move, Rests, Undoes, Vanishes}
-use Rattle.aom_safety.proofs.Moving.{steps_are_moves}
 use Rattle.aom_safety.specs.Claims.{Layer, Method, tasks_of}
-use Rattle.aom_safety.proofs.Emptying.{found_first}
 use Rattle.aom_semantics.specs.Destruction.{begun, first_session, parting}
-use Rattle.aom_safety.proofs.Steps.{step_keeps}
 use Rattle.aom_safety.specs.Laws.{IsWired}
 use Rattle.aom_progress.specs.RankLaws.{Moves, no_move, one_move}
 use Rattle.aom_safety.specs.WellTyped.{CountsAs, Keeps}
@@ -46,11 +43,9 @@ use Rattle.aom_progress.proofs.Cells.{operations_below, standing_accepted, stand
 use Rattle.aom_progress.proofs.Cells.{standing_passes, standing_reserved, standing_without}
 use Rattle.aom_progress.proofs.Sums.{one_less, scaled_le}
 use Rattle.aom_progress.proofs.Worths.{resumed_alike, returned_less, told_alike}
-use Rattle.aom_safety.proofs.Layers.{method_layer}
 use Rattle.aom_semantics.specs.Enlisted.{cancel_method, ended_cells}
 use Rattle.aom_roles.specs.Things.{holder_of, is_object}
 use Rattle.aom_roles.specs.Tests.{AllTrue}
-use Rattle.aom_safety.proofs.Callees.{cancel_family}
 
 -- ---- a return
 

@@ -9,14 +9,12 @@ use Rattle.aom_instructions.specs.declared.instr.Instr.{Instr}
 use Rattle.aom_instructions.specs.declared.instr.Instr.TheVariants.{Loop, Next}
 use Rattle.aom_classes.specs.Jumps.{Body, JumpsWell, back_of, begins_loop, jump_of}
 use Rattle.aom_classes.specs.Loops.{Closes, Ending, LoopsNest, loop_at, loop_in, next_at, next_in}
-use Rattle.aom_classes.proofs.Facts.{at_place}
-use Rattle.aom_classes.proofs.Nesting.{next_within}
+use Rattle.aom_progress.proofs.ClassesLemmas.{at_place, loop_there, next_there, next_within}
 use Rattle.aom_roles.specs.Tables.{at, put_at}
-use Rattle.aom_semantics.proofs.Maps.{at-put_at}
+use Rattle.aom_progress.proofs.SemanticsLemmas.{at-put_at}
 use Rattle.aom_progress.specs.Within.{loops_worth, total, worth_at}
 use Rattle.aom_progress.proofs.Sums.{total_but, total_le}
 use Rattle.aom_progress.proofs.Bodies.{IsIn, body_in, in_body, other_number}
-use Rattle.aom_classes.proofs.LoopPlaces.{loop_there, next_there}
 
 -- ---- the bodies round a place
 

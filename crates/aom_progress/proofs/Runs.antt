@@ -5,15 +5,8 @@ use Rattle.aom_image.specs.Image.{Image}
 use Rattle.aom_image.specs.WellFormed.{WellFormed}
 use Rattle.aom_classes.specs.Linked.{IsLinked}
 use Rattle.aom_rules.specs.Typing.{IsTyped, Typing}
-use Rattle.aom_safety.proofs.Booting.{boot_keeps}
-use Rattle.aom_safety.proofs.ClientsKeep.{clients_keep}
-use Rattle.aom_safety.proofs.Course.{leaves_arrive, leaves_move, well_on}
-use Rattle.aom_safety.proofs.Looping.{loops_keep}
-use Rattle.aom_safety.proofs.Quiet.{calm_keeps}
-use Rattle.aom_safety.proofs.Soundness.{typed_is_sound}
-use Rattle.aom_safety.proofs.Steps.{step_keeps}
-use Rattle.aom_safety.proofs.Trapping.{traps_keep}
-use Rattle.aom_safety.proofs.Wiring.{linked_is_wired}
+use Rattle.aom_progress.proofs.SafetyLemmas.{boot_keeps, calm_keeps, clients_keep, leaves_arrive, leaves_move, linked_is_wired, loops_keep, step_keeps}
+use Rattle.aom_progress.proofs.SafetyLemmas.{traps_keep, typed_is_sound, well_on}
 use Rattle.aom_safety.specs.Laws.{IsWired}
 use Rattle.aom_safety.specs.Loops.{RoundsLeft}
 use Rattle.aom_semantics.specs.Moves.{step}

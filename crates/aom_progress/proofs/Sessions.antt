@@ -14,10 +14,8 @@ use Rattle.aom_shape.specs.Kinds.{filled}
 use Rattle.aom_shape.specs.declared.kind.Filling.TheVariants.{Full}
 use Rattle.aom_shape.specs.declared.kind.Kind.{Kind}
 use Rattle.aom_shape.specs.declared.kind.Kind.TheVariants.{Null}
-use Rattle.aom_safety.proofs.Claimed.{claim_going_above}
-use Rattle.aom_semantics.proofs.Maps.{held_lives, held_moved, same_place_refl, same_place-true}
-use Rattle.aom_safety.proofs.Parting.{among_others}
-use Rattle.aom_safety.proofs.Straight.{fits_unowning}
+use Rattle.aom_progress.proofs.SafetyLemmas.{among_others, claim_going_above, fits_unowning}
+use Rattle.aom_progress.proofs.SemanticsLemmas.{held_lives, held_moved, same_place-true, same_place_refl}
 use Rattle.aom_safety.specs.Claims.{Dispatching, Dying, Ending, Layer, Mark, Method, Unwinding, claim, declared, tasks_of}
 use Rattle.aom_semantics.specs.Clients.{most_of}
 use Rattle.aom_semantics.specs.Enlisted.{thing_kind}

@@ -7,11 +7,9 @@ use Rattle.aom_image.specs.declared.method.Role.TheVariants.{Accept as Accepts_r
 use Rattle.aom_image.specs.declared.method.Thing.{Thing}
 use Rattle.aom_image.specs.declared.method.Thing.TheVariants.{Message, Object as An_object_of}
 use Rattle.aom_rules.specs.Typing.{Typing}
-use Rattle.aom_safety.proofs.Families.{linked_is_family}
+use Rattle.aom_progress.proofs.SafetyLemmas.{Picked, Polled, accepts, answers, at_rest, attends, found, goes_same, handles, linked_is_family, nothing, parts}
+use Rattle.aom_progress.proofs.SafetyLemmas.{picked_so, polled_so, stands_session_of}
 use Rattle.aom_safety.specs.Laws.{IsFamily}
-use Rattle.aom_safety.proofs.Guarded.{goes_same}
-use Rattle.aom_safety.proofs.Housing.{stands_session_of}
-use Rattle.aom_safety.proofs.Turned.{accepts, attends, handles, parts, Polled, answers, nothing, polled_so, Picked, picked_so}
 use Rattle.aom_safety.specs.Counting.{starts}
 use Rattle.aom_semantics.specs.Enlisted.{completed_with, on_request, part_of, recorded, taken_up, timed_out}
 use Rattle.aom_semantics.specs.Natives.{bereaved}
@@ -35,10 +33,8 @@ use Rattle.aom_progress.proofs.Sessions.{of_claim}
 use Rattle.aom_roles.specs.Shapes.{kind_of}
 use Rattle.std.specs.Prelude.{is_some}
 use Rattle.aom_semantics.specs.Servers.{asked_last, is_queue, session_class, withdrawn}
-use Rattle.aom_safety.proofs.Turning.{found}
 use Rattle.aom_progress.proofs.Payers.{begun_payer}
 use Rattle.aom_semantics.specs.Destruction.{begun}
-use Rattle.aom_safety.proofs.Signals.{at_rest}
 use Rattle.aom_clients.specs.declared.refusal.CommandRefusal.{CommandRefusal}
 use Rattle.aom_clients.specs.declared.client.Client.TheVariants.{Open}
 use Rattle.aom_classes.specs.Linked.{IsLinked}

@@ -11,22 +11,16 @@ use Rattle.aom_image.specs.declared.class.ClassDecl.{ClassDecl}
 use Rattle.aom_image.specs.declared.method.Role.{Role}
 use Rattle.aom_image.specs.Views.{class_at}
 use Rattle.aom_classes.specs.Roles.{role_of}
-use Rattle.aom_classes.proofs.Facts.{all_there}
-use Rattle.aom_classes.proofs.Playing.{role_inherits}
+use Rattle.aom_progress.proofs.ClassesLemmas.{all_there, of_method, role_inherits}
 use Rattle.aom_classes.specs.Linked.{IsLinked}
 use Rattle.aom_classes.specs.Roles.{main_of}
-use Rattle.aom_classes.proofs.Facts.{of_method}
 use Rattle.aom_shape.specs.Kinds.{filled}
 use Rattle.aom_shape.specs.Shape.{Shape}
 use Rattle.aom_roles.specs.Things.{root_thing}
 use Rattle.aom_rules.specs.Typing.{IsTyped, Typing}
 use Rattle.aom_shape.specs.declared.kind.Filling.TheVariants.{Perhaps}
-use Rattle.aom_safety.proofs.Booting.{boot_keeps}
-use Rattle.aom_safety.proofs.Counting.{steps_are_counted}
-use Rattle.aom_safety.proofs.Moving.{acted, steps_are_moves}
-use Rattle.aom_safety.proofs.Course.{well_on, WellKept}
-use Rattle.aom_safety.proofs.Straight.{At}
-use Rattle.aom_safety.proofs.Wiring.{linked_is_wired}
+use Rattle.aom_progress.proofs.SafetyLemmas.{At, WellKept, acted, boot_keeps, clients_keep, dispatch_layer, found_first, linked_is_wired, linked_main_of_none}
+use Rattle.aom_progress.proofs.SafetyLemmas.{method_layer, steps_are_counted, steps_are_moves, well_on}
 use Rattle.aom_safety.specs.Claims.{Dispatching, Layer, Method, forms, items_of, tasks_of, declared}
 use Rattle.aom_safety.specs.Counting.{ends_object, restarts, starts, steps_of, taken}
 use Rattle.aom_semantics.specs.Destruction.{begun, first_session, parting, vanished}
@@ -55,16 +49,11 @@ use Rattle.aom_progress.proofs.Counted.{none_counted, steps_counted}
 use Rattle.aom_progress.proofs.Emptied.{none_at_end}
 use Rattle.aom_progress.proofs.Payers.{payers}
 use Rattle.aom_progress.proofs.Turns.{turns_pay}
-use Rattle.aom_safety.proofs.Layers.{method_layer}
-use Rattle.aom_safety.proofs.Wiring.{linked_main_of_none}
-use Rattle.aom_image.proofs.Given.{some_given}
-use Rattle.aom_safety.proofs.Layers.{dispatch_layer}
+use Rattle.aom_progress.proofs.ImageLemmas.{some_given}
 use Rattle.std.proofs.Math.Nat.{le-max_left, le-max_right}
 use Rattle.std.proofs.lemmas.Bool.{eq-eqb}
-use Rattle.aom_safety.proofs.ClientsKeep.{clients_keep}
 use Rattle.aom_safety.specs.Kept.{IsKept}
 use Rattle.aom_progress.proofs.Lasting.{IsApart, going_apart, lasting, lasts_below, lasts_gone, lasts_moved, resumed_closings}
-use Rattle.aom_safety.proofs.Emptying.{found_first}
 use Rattle.aom_progress.proofs.Sessions.{FewSeats, stands_at_going}
 
 -- ---- every move

@@ -4,7 +4,7 @@ use Rattle.std.specs.Prelude.{nat_lt}
 use Rattle.std.proofs.lemmas.Bool.{eq-eqb, eqb-true, ltb-true, ne_eqb}
 use Rattle.std.proofs.lemmas.List.Elements.{All-get_or}
 use Rattle.std.proofs.lemmas.Option.{get_or_from_slice_get, slice_get_within}
-use Rattle.aom_image.proofs.Given.{some_given}
+use Rattle.aom_roles.proofs.ImageLemmas.{some_given}
 use Rattle.aom_image.specs.Image.{Image}
 use Rattle.aom_image.specs.Views.{class_at}
 use Rattle.aom_image.specs.declared.class.ClassDecl.{ClassDecl}

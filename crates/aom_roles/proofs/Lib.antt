@@ -1,3 +1,5 @@
-pub mod Descending
-pub mod Each
-pub mod Views
+mod Descending
+mod Each
+mod Views
+pub mod RolesLemmas
+pub use Rattle.aom_image.proofs.ImageLemmas

@@ -7,8 +7,8 @@ use Rattle.aom_image.specs.WellFormed.{WellFormed, MethodFits}
 use Rattle.aom_instructions.specs.Fits.{InstrFits, limits}
 use Rattle.aom_instructions.specs.declared.instr.Instr.{Instr}
 use Rattle.aom_instructions.specs.declared.limits.Limits.{Limits}
-use Rattle.aom_classes.proofs.Facts.{all_there, of_method}
-use Rattle.aom_shape.proofs.Lists.{there}
+use Rattle.aom_rules.proofs.ClassesLemmas.{all_there, of_method}
+use Rattle.aom_rules.proofs.ShapeLemmas.{there}
 use Rattle.aom_site.specs.Calls.{HasCallee, HasCodeRegister}
 
 has_callee : (p : Image) (n : ℕ) (i : Instr) → InstrFits (limits p.header.version (length p.classes) (length p.methods) n) i → HasCallee p i

@@ -18,7 +18,7 @@ use Rattle.aom_rules.specs.Ways.{Ways, after, flowing}
 use Rattle.aom_shape.specs.declared.kind.CleanupEntry.{CleanupEntry}
 use Rattle.aom_shape.specs.declared.kind.Filling.{Filling}
 use Rattle.aom_shape.specs.declared.kind.Kind.{Kind}
-use Rattle.aom_site.proofs.Calling.{arguments_leave}
+use Rattle.aom_rules.proofs.SiteLemmas.{arguments_leave}
 
 top_gone : (es : List CleanupEntry) → length (without_top es) ≤ suc (length es)
 top_gone [] = omega arith

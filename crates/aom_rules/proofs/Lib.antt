@@ -1,14 +1,18 @@
-pub mod Classes
-pub mod Resting
-pub mod Callees
-pub mod Telling
-pub mod Ways
-pub mod Monotone
-pub mod Branching
-pub mod Growing
-pub mod Examples
-pub mod RequestExamples
-pub mod NativeExamples
-pub mod MessageExamples
-pub mod FamilyExamples
-pub mod ConstructExamples
+mod Classes
+mod Resting
+mod Callees
+mod Telling
+mod Ways
+mod Monotone
+mod Branching
+mod Growing
+mod Examples
+mod RequestExamples
+mod NativeExamples
+mod MessageExamples
+mod FamilyExamples
+mod ConstructExamples
+pub mod RulesLemmas
+pub use Rattle.aom_classes.proofs.ClassesLemmas
+pub use Rattle.aom_shape.proofs.ShapeLemmas
+pub use Rattle.aom_site.proofs.SiteLemmas

@@ -51,8 +51,7 @@ use Rattle.aom_shape.specs.declared.kind.Kind.TheVariants.{Unset, Word, Null, Ow
 use Rattle.aom_shape.specs.declared.kind.Filling.{Filling}
 use Rattle.aom_shape.specs.declared.kind.Filling.TheVariants.{Empty, Full, Perhaps}
 use Rattle.aom_rules.proofs.Ways.{Allows, allows}
-use Rattle.aom_shape.proofs.Lists.{at_put}
-use Rattle.aom_shape.proofs.Sets.{has_along, has_both, has_first, has_itself, has_second, has_shared}
+use Rattle.aom_rules.proofs.ShapeLemmas.{at_put, has_along, has_both, has_first, has_itself, has_second, has_shared}
 use Rattle.aom_rules.proofs.Telling.{readied_more, word_more, unowning_more, object_or_null_more, destroyed_more, ready_more, own_more, may_be_more}
 use Rattle.aom_rules.proofs.Telling.{declared_more, empty_more, filled_more, filling_more, none_owns_more, all_empty_more, past_empty_more}
 

@@ -77,7 +77,7 @@ fn is_token_of(linked: &Linked, class: Option<ClassNumber>) -> bool
 }
 
 /// The method works on an object that hands tokens.
-#[tactic(auto, using(aom_shape::proofs::Views::class_there))]
+#[tactic(auto, using(aom_shape::proofs::ShapeLemmas::class_there))]
 pub(crate) fn needs_token_kind(site: &Site<'_>) -> (bool, Why)
     ensures { result ≡ (is_token_kind (own_kind site.now.image site.now.method), RegisterKind) }
 {

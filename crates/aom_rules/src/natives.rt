@@ -48,7 +48,7 @@ fn is_native_of(linked: &Linked, class: Option<ClassNumber>) -> bool
 }
 
 /// The method works on an object that a native serves.
-#[tactic(auto, using(aom_shape::proofs::Views::class_there))]
+#[tactic(auto, using(aom_shape::proofs::ShapeLemmas::class_there))]
 fn needs_native_kind(site: &Site<'_>) -> (bool, Why)
     ensures { result ≡ (is_native_kind (own_kind site.now.image site.now.method), RegisterKind) }
 {

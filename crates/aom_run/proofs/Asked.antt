@@ -12,7 +12,7 @@ use Rattle.aom_determinism.specs.Endings.{one_where}
 use Rattle.aom_natives.specs.Owed.{IsNew, IsOwed, times}
 use Rattle.aom_natives.specs.Slots.{ids_at, living_at}
 use Rattle.aom_determinism.specs.Owed.{Finds, FindsWell, is_for, meets, owes, owes_after, serves, serves_object}
-use Rattle.aom_determinism.proofs.Calls.{for_one}
+use Rattle.aom_run.proofs.DeterminismLemmas.{for_one}
 use Rattle.aom_semantics.specs.Natives.{is_dead, is_served_by}
 use Rattle.aom_semantics.specs.Places.{Object, named}
 use Rattle.aom_semantics.specs.State.{State}

@@ -4,7 +4,7 @@ use Rattle.std.proofs.lemmas.Bool.Decides.{nat_tests}
 use Rattle.std.proofs.Common.{◌≡◌, ◌⊎◌, ◌<◌, ◌≤◌, ℕ, ℤ, suc, Bool, true, false, List, [], Option, Some, None, length, ap, append-nil, arith, refl, subst, sym}
 use Rattle.std.proofs.Common.{◌∙◌}
 use Rattle.std.proofs.lemmas.List.{append_cancel_left}
-use Rattle.aom_machine.proofs.Progressing.{is_as_far}
+use Rattle.aom_run.proofs.MachineLemmas.{is_as_far}
 use Rattle.aom_machine_state.specs.declared.progress.Progress.TheVariants.{Turned}
 use Rattle.aom_machine.specs.Steps.{progress, timers}
 use Rattle.aom_machine_state.specs.declared.counters.Counters.{Counters}
@@ -16,7 +16,7 @@ use Rattle.aom_semantics.specs.State.{Goes, State}
 use Rattle.aom_semantics.specs.World.{Completes, IsBetween, Environment, Reaches, Turning, begins, delivers, event_at, turned, written_by}
 use Rattle.aom_transcript.specs.declared.line.Line.{Line}
 use Rattle.aom_transcript.specs.declared.event.TimedEvent.{TimedEvent}
-use Rattle.aom_determinism.proofs.Lefts.{event_there}
+use Rattle.aom_run.proofs.DeterminismLemmas.{event_there}
 use Rattle.aom_run.proofs.Parts.{completed_same, delivers_alike, delivers_by, delivers_well, no_turn, polled_same, polls_by, still_between}
 use Rattle.aom_run.proofs.Parts.{turns_by}
 use Rattle.aom_run.proofs.Reaching.{reaches_both}

@@ -8,7 +8,7 @@ use Rattle.std.specs.Prelude.{IfSome, IsSome, MatchOption, is_some, ◌==◌}
 use Rattle.std.proofs.lemmas.Bool.{cases_lt, le-ltb, lt-ltb, not-true}
 use Rattle.aom_natives.specs.Owed.{TakesOut}
 use Rattle.aom_natives.specs.Slots.{KeepsOthers, ids_at, living_at}
-use Rattle.aom_natives.proofs.Ids.{same-out}
+use Rattle.aom_run.proofs.NativesLemmas.{same-out}
 use Rattle.aom_determinism.specs.Owed.{has_name, owes}
 use Rattle.aom_semantics.specs.Natives.{is_dead}
 use Rattle.aom_semantics.specs.State.{Counters, State}

@@ -1,19 +1,26 @@
-pub mod Named
-pub mod Serving
-pub mod Moving
-pub mod Asked
-pub mod Stepped
-pub mod Booted
-pub mod Ending
-pub mod Spared
-pub mod Prefix
-pub mod Reaching
-pub mod Gets
-pub mod Turnings
-pub mod Parts
-pub mod Keeping
-pub mod Between
-pub mod Resting
-pub mod Running
-pub mod Sending
-pub mod Underway
+mod Named
+mod Serving
+mod Moving
+mod Asked
+mod Stepped
+mod Booted
+mod Ending
+mod Spared
+mod Prefix
+mod Reaching
+mod Gets
+mod Turnings
+mod Parts
+mod Keeping
+mod Between
+mod Resting
+mod Running
+mod Sending
+mod Underway
+pub mod RunLemmas
+pub use Rattle.aom_classes.proofs.ClassesLemmas
+pub use Rattle.aom_determinism.proofs.DeterminismLemmas
+pub use Rattle.aom_image.proofs.ImageLemmas
+pub use Rattle.aom_machine.proofs.MachineLemmas
+pub use Rattle.aom_natives.proofs.NativesLemmas
+pub use Rattle.aom_safety.proofs.SafetyLemmas

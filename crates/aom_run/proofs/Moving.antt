@@ -4,13 +4,12 @@ use Rattle.std.proofs.Common.{◌≡◌, ◌⊎◌, ℤ, ℕ, arith, false, pos,
 use Rattle.aom_image.specs.Image.{Image}
 use Rattle.aom_rules.specs.Typing.{Typing}
 use Rattle.aom_determinism.specs.Owed.{FindsWell, SessionsHold, owes, owes_after}
-use Rattle.aom_determinism.proofs.Moves.{moves_follow_calls}
+use Rattle.aom_run.proofs.DeterminismLemmas.{above, moves_follow_calls, top}
 use Rattle.aom_semantics.specs.Places.{named}
 use Rattle.aom_semantics.specs.Moves.{IsOpen, step}
 use Rattle.aom_semantics.specs.State.{Choice, Goes, IsStuck, Outcome, State, Task}
 use Rattle.aom_semantics.specs.Wanted.{Wanted, wanted, wanted_task}
 use Rattle.aom_safety.specs.WellTyped.{Keeps, WellTyped}
-use Rattle.aom_determinism.proofs.Ending.{above, top}
 use Rattle.aom_transcript.specs.declared.line.Line.{Line}
 use Rattle.aom_machine_state.specs.Progress.{progress_by}
 use Rattle.aom_machine.specs.Steps.{Hears, IsAtHand, IsDone, IsUncounted, Quiet, Quietly, Settles, Steps}

@@ -13,14 +13,14 @@ use Rattle.aom_image.specs.WellFormed.{ClassFits, KindFits, WellFormed}
 use Rattle.aom_image.specs.declared.class.ClassDecl.{ClassDecl}
 use Rattle.aom_image.specs.declared.class.ClassKind.{ClassKind}
 use Rattle.aom_image.specs.declared.method.Thing.{Thing}
-use Rattle.aom_classes.proofs.Facts.{all_there}
+use Rattle.aom_run.proofs.ClassesLemmas.{all_there}
 use Rattle.aom_roles.specs.Classes.{kind_in}
 use Rattle.aom_roles.specs.Shapes.{kind_of}
 use Rattle.aom_semantics.specs.Enlisted.{thing_kind}
 use Rattle.aom_semantics.specs.Natives.{native_of}
 use Rattle.aom_semantics.specs.Places.{Cell}
 use Rattle.aom_determinism.specs.Owed.{serves}
-use Rattle.aom_determinism.proofs.Cells.{native_served}
+use Rattle.aom_run.proofs.DeterminismLemmas.{native_served}
 use Rattle.aom_determinism.specs.Endings.{one_where}
 use Rattle.aom_natives.specs.Owed.{IsNew, times}
 

@@ -1,11 +1,10 @@
 -- What a part of a turn leaves as it was, and how a run goes on by it.
 use Rattle.std.proofs.lemmas.Bool.Decides.{nat_tests}
 use Rattle.std.proofs.Common.{◌≡◌, ◌≤◌, ℕ, suc, List, [], ◌++◌, Option, None, length, ap, arith, subst, sym, ◌∙◌}
-use Rattle.aom_determinism.proofs.Ending.{above, top}
+use Rattle.aom_run.proofs.DeterminismLemmas.{above, top}
 use Rattle.aom_image.specs.Image.{Image}
 use Rattle.aom_machine_state.specs.LineBuffer.{LineBuffer}
-use Rattle.aom_safety.proofs.Guarded.{goes_same}
-use Rattle.aom_safety.proofs.Turned.{commanded_kept}
+use Rattle.aom_run.proofs.SafetyLemmas.{commanded_kept, goes_same}
 use Rattle.aom_semantics.specs.Places.{Object, named}
 use Rattle.aom_semantics.specs.State.{Goes, State}
 use Rattle.aom_semantics.specs.World.{AnswersWell, Completes, Completion, Heard, IsBetween, Environment, Polls, Reaches, Turning, delivers, nothing_heard}

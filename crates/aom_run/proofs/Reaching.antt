@@ -1,6 +1,6 @@
 -- A step of the machine is moves of a run, and steps one after another fill a turn.
 use Rattle.std.proofs.Common.{◌≡◌, ℕ, ℤ, List, [], ◌++◌, sym, ap, subst, ◌∙◌, append-nil, append_assoc}
-use Rattle.aom_image.proofs.Given.{cons_given}
+use Rattle.aom_run.proofs.ImageLemmas.{cons_given}
 use Rattle.aom_image.specs.Image.{Image}
 use Rattle.aom_semantics.specs.Moves.{written}
 use Rattle.aom_semantics.specs.State.{State}

@@ -10,8 +10,7 @@ use Rattle.aom_image.specs.declared.method.Thing.TheVariants.{Message, Object as
 use Rattle.aom_machine_state.specs.LineBuffer.{LineBuffer}
 use Rattle.aom_run.specs.Calls.{NoneIsDue, Picked, Stands, StandsFor, Takes, TakesAll, natives_of}
 use Rattle.aom_run.specs.declared.machine.Machine.{Machine}
-use Rattle.aom_safety.proofs.Counting.{dispatches_are_counted}
-use Rattle.aom_safety.proofs.Guarded.{goes_same}
+use Rattle.aom_run.proofs.SafetyLemmas.{dispatches_are_counted, goes_same}
 use Rattle.aom_semantics.specs.Lines.{serve_line}
 use Rattle.aom_semantics.specs.Places.{Asked, Object, service_of}
 use Rattle.aom_semantics.specs.Servers.{is_server}
@@ -21,7 +20,7 @@ use Rattle.aom_semantics.specs.World.{first_due, first_living, has_signal, Heard
 use Rattle.aom_semantics.specs.World.{run_line, time_of, turned, turning, written_by}
 use Rattle.aom_transcript.specs.declared.line.Ending.TheVariants.{Limit, Waiting}
 use Rattle.aom_transcript.specs.declared.event.TimedEvent.{TimedEvent}
-use Rattle.aom_determinism.proofs.Spending.{picked_pays}
+use Rattle.aom_run.proofs.DeterminismLemmas.{picked_pays}
 use Rattle.aom_run.proofs.Between.{none_now, settles_both, stands_settled, tells_after, turned_far}
 use Rattle.aom_run.proofs.Parts.{no_turn, still_between, turns_by}
 use Rattle.aom_run.proofs.Turnings.{NoneCome, cuts_so, passes_so, picks_so, waits_so}

@@ -25,9 +25,9 @@ use Rattle.aom_frames.specs.declared.task.Task.{Task as Machine_task}
 use Rattle.aom_progress.specs.Payers.{payer}
 use Rattle.aom_machine_state.specs.Progress.{progress_by, progress_of}
 use Rattle.aom_run.specs.Outcomes.{outcome_of}
-use Rattle.aom_machine.proofs.Progressing.{is_as_far}
+use Rattle.aom_run.proofs.MachineLemmas.{is_as_far}
 use Rattle.aom_run.specs.Runs.{after, CutOff, Ended, Moving, Sent, Told, CutShort, Ran}
-use Rattle.aom_determinism.proofs.Ending.{runs_can_end}
+use Rattle.aom_run.proofs.DeterminismLemmas.{runs_can_end}
 use Rattle.aom_determinism.specs.Endings.{CanEnd, one_where}
 use Rattle.aom_run.specs.Turns.{TakesTurns, hearing, to_come}
 use Rattle.aom_run.proofs.Spared.{idle_stays, moving_spares}

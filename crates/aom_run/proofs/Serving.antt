@@ -5,16 +5,14 @@ use Rattle.std.proofs.Common.{inr, arith}
 use Rattle.std.specs.Prelude.{IsSome, is_some, not, ◌&&◌, ◌||◌, ◌==◌}
 use Rattle.std.proofs.lemmas.Bool.{cases_eq, eq-eqb, eqb-true, ne_eqb, true≢false}
 use Rattle.std.proofs.lemmas.List.Folds.{list_any-append}
-use Rattle.aom_natives.proofs.Ids.{same-out}
+use Rattle.aom_run.proofs.NativesLemmas.{same-out}
 use Rattle.aom_run.proofs.Named.{at_most_one, elsewhere, there, turned_false}
 use Rattle.aom_image.specs.Image.{Image}
-use Rattle.aom_determinism.proofs.Ending.{above, top}
+use Rattle.aom_run.proofs.DeterminismLemmas.{IsAbout, Tale, above, sessions_turned, told, top}
 use Rattle.aom_determinism.specs.Endings.{one_where}
 use Rattle.aom_natives.specs.Owed.{TakesOut, times}
 use Rattle.aom_natives.specs.Slots.{KeepsOthers, ids_at, ids_of, living_at}
 use Rattle.aom_determinism.specs.Owed.{has_name, killed_turned, owes, owes_turned}
-use Rattle.aom_determinism.proofs.Found.{IsAbout}
-use Rattle.aom_determinism.proofs.Turns.{Tale, sessions_turned, told}
 use Rattle.aom_semantics.specs.Natives.{is_dead}
 use Rattle.aom_semantics.specs.Places.{named}
 use Rattle.aom_semantics.specs.State.{Counters, State}

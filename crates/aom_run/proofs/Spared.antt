@@ -4,7 +4,7 @@ use Rattle.std.proofs.Common.{◌≡◌, ℕ, ◌≤◌, ◌^◌, ◌-◌, List,
 use Rattle.aom_image.specs.Image.{Image}
 use Rattle.aom_semantics.specs.State.{State}
 use Rattle.aom_transcript.specs.declared.line.Line.{Line}
-use Rattle.aom_determinism.proofs.Spending.{moved_spares}
+use Rattle.aom_run.proofs.DeterminismLemmas.{moved_spares}
 use Rattle.aom_determinism.specs.Endings.{spare}
 use Rattle.aom_run.specs.Runs.{Moving, begins, goes_on}
 

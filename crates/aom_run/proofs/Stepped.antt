@@ -7,8 +7,8 @@ use Rattle.std.specs.Prelude.{IsSome, int_lt, ◌≤ℤ◌, ◌<ℤ◌}
 use Rattle.std.proofs.lemmas.Bool.{cases_eq, eq-eqb, eqb-true, ne_eqb}
 use Rattle.aom_natives.specs.Owed.{times}
 use Rattle.aom_natives.specs.Slots.{KeepsOthers, ids_at, living_at}
-use Rattle.aom_natives.proofs.Ids.{same-push}
-use Rattle.aom_machine.proofs.Progressing.{is_as_far}
+use Rattle.aom_run.proofs.NativesLemmas.{same-push}
+use Rattle.aom_run.proofs.MachineLemmas.{is_as_far}
 use Rattle.aom_run.proofs.Named.{elsewhere, there, turned_false}
 use Rattle.aom_semantics.specs.State.{State}
 use Rattle.aom_semantics.specs.Wanted.{Wanted, Starts, wanted}

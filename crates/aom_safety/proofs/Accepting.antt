@@ -21,7 +21,7 @@ use Rattle.aom_shape.specs.declared.kind.Kind.TheVariants.{Null, Own}
 use Rattle.aom_safety.proofs.Claimed.{claim-set_register, claim_rel, fits_age, keep_fits, mark_claims}
 use Rattle.aom_safety.proofs.Finishing.{Returnable, ended, ended_plainly, return_needs, returnable, same_items}
 use Rattle.aom_safety.proofs.Items.{forms_below, mark_on_top, undos_below}
-use Rattle.aom_semantics.proofs.Maps.{held_moved, named_moved, requested_moved, same_place-true, tidy_moved}
+use Rattle.aom_safety.proofs.SemanticsLemmas.{held_moved, named_moved, requested_moved, same_place-true, tidy_moved}
 use Rattle.aom_safety.proofs.Returning.{held_thing}
 use Rattle.aom_safety.proofs.Widening.{Widens, own_widens}
 use Rattle.aom_safety.proofs.Seats.{first_kept, sits_kept}

@@ -5,7 +5,7 @@ use Rattle.std.proofs.lemmas.Bool.{eq-eqb, eqb-true, ne_eqb}
 use Rattle.std.proofs.lemmas.Option.{none-some, same_Some}
 use Rattle.std.specs.Prelude.{◌⊎◌}
 use Rattle.std.proofs.Math.Nat.{le-max_left, le-max_right}
-use Rattle.aom_semantics.proofs.Maps.{requested_unnamed}
+use Rattle.aom_safety.proofs.SemanticsLemmas.{requested_unnamed}
 use Rattle.aom_safety.proofs.Redeeming.{requested_redeemed}
 use Rattle.aom_safety.proofs.Services.{service_asked}
 use Rattle.aom_safety.proofs.Storing.{requested_here, requested_there, rerequested_alike}

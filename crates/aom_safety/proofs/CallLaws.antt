@@ -27,7 +27,7 @@ use Rattle.aom_safety.specs.WellTyped.{Awaits, Caught, EndsWell, IsApart, IsHous
 use Rattle.aom_safety.proofs.Callees.{none_owns_each, only_then}
 use Rattle.aom_safety.specs.Requests.{rests_in, thing_kind, works_at}
 use Rattle.aom_roles.specs.Shapes.{kind_of}
-use Rattle.aom_shape.proofs.Sets.{has_itself}
+use Rattle.aom_safety.proofs.ShapeLemmas.{has_itself}
 use Rattle.aom_safety.proofs.Calling.{answer, awaited, caller, cancels_not, enter, kind_begun, result_free, result_met, same_high}
 use Rattle.aom_safety.proofs.Leaving.{here_is}
 use Rattle.aom_safety.proofs.Overriders.{runs_for}

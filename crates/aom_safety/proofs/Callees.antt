@@ -22,7 +22,7 @@ use Rattle.aom_shape.specs.declared.kind.Filling.TheVariants.{Empty, Perhaps}
 use Rattle.aom_shape.specs.declared.kind.Kind.{Kind}
 use Rattle.aom_shape.specs.declared.kind.Kind.TheVariants.{Null, Own, Unset}
 use Rattle.aom_safety.proofs.Claimed.{length_objects}
-use Rattle.aom_semantics.proofs.Maps.{at-put_at, held_moved}
+use Rattle.aom_safety.proofs.SemanticsLemmas.{at-put_at, held_moved}
 use Rattle.aom_safety.proofs.Passing.{lower, upper}
 use Rattle.aom_semantics.specs.Calls.{passed_cells}
 use Rattle.aom_safety.specs.Claims.{Layer, Method, tasks_of}

@@ -32,14 +32,14 @@ use Rattle.aom_shape.specs.declared.kind.Filling.{Filling}
 use Rattle.aom_shape.specs.declared.kind.Filling.TheVariants.{Empty, Full, Perhaps}
 use Rattle.aom_shape.specs.declared.kind.Kind.{Kind}
 use Rattle.aom_shape.specs.declared.kind.Kind.TheVariants.{Null, Own, Unset}
-use Rattle.aom_rules.proofs.Telling.{filled_more}
+use Rattle.aom_safety.proofs.RulesLemmas.{filled_more}
 use Rattle.aom_safety.proofs.Claimed.{claim_in_view, Outside, OwnsNoMore, claim_from, claim_register_above, claim_weaker}
 use Rattle.aom_safety.proofs.Claimed.{fits_weaker, outside_differs, word_fits_weaker}
 use Rattle.aom_safety.proofs.Destroying.{Untouched, at_alike, eqb_comm, other_name, untouched, untouched_method}
 use Rattle.aom_safety.proofs.Finishing.{all_join}
 use Rattle.aom_safety.proofs.Items.{begins_well, entry_claimed, entry_owns, entry_there, length_each, length_forms, readied_claim, readied_items}
 use Rattle.aom_safety.proofs.Jumps.{words_kept}
-use Rattle.aom_semantics.proofs.Maps.{at-put_at, held_lives, same_place-true}
+use Rattle.aom_safety.proofs.SemanticsLemmas.{at-put_at, held_lives, same_place-true}
 use Rattle.aom_safety.proofs.Passing.{Passed, filled_weaker_below, filling, lower, under, upper}
 use Rattle.aom_safety.proofs.Raising.{parents_met, raised}
 use Rattle.aom_safety.proofs.Straight.{frames_reworded, At, claim_field, claim_register, field_fits, field_not_from, field_outside}
@@ -47,7 +47,7 @@ use Rattle.aom_safety.proofs.Straight.{fits_unowning, kind_fits, top, word_of_ob
 use Rattle.aom_safety.proofs.Overriders.{RunsFor, begins_as}
 use Rattle.aom_safety.proofs.Things.{stands_along}
 use Rattle.aom_safety.proofs.Housing.{houses_counts, houses_family, houses_field, houses_same}
-use Rattle.aom_roles.proofs.Descending.{through}
+use Rattle.aom_safety.proofs.RolesLemmas.{through}
 use Rattle.aom_roles.specs.Families.{descends}
 use Rattle.aom_semantics.specs.Calls.{entry_place, home_at, needs_result, needs_target, needs_target_object, own_home}
 use Rattle.aom_semantics.specs.Calls.{own_view, passed_cells, passed_words, target_home, target_view, works_on}

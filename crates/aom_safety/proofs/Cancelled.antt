@@ -10,13 +10,13 @@ use Rattle.aom_roles.specs.Tests.{only_if}
 use Rattle.aom_roles.specs.Roles.{is_cancel}
 use Rattle.aom_roles.specs.States.{cancel_done, idle}
 use Rattle.aom_rules.specs.Typing.{Typing}
-use Rattle.aom_shape.proofs.Sets.{has_itself}
+use Rattle.aom_safety.proofs.ShapeLemmas.{has_itself}
 use Rattle.aom_shape.specs.Arguments.{after_of}
 use Rattle.aom_shape.specs.Kinds.{is_ready_kind, no_entry, none_owns}
 use Rattle.aom_shape.specs.Shape.{Shape}
 use Rattle.aom_safety.proofs.Claimed.{claim_ready}
 use Rattle.aom_safety.proofs.Finishing.{Returnable, ended}
-use Rattle.aom_semantics.proofs.Maps.{one_place}
+use Rattle.aom_safety.proofs.SemanticsLemmas.{one_place}
 use Rattle.aom_safety.proofs.Storing.{Alike, fits_alike, housed_alike, listed_still, on_some, requested_here, requested_there, rerequested_alike, stack_alike}
 use Rattle.aom_safety.proofs.Straight.{At, Fitted}
 use Rattle.aom_safety.proofs.Suiting.{all_returned, cancel_ends, rejoins_caller}

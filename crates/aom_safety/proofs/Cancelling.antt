@@ -15,14 +15,13 @@ use Rattle.aom_instructions.specs.declared.instr.Instr.{Instr}
 use Rattle.aom_instructions.specs.declared.instr.Instr.TheVariants.{Cancel}
 use Rattle.aom_roles.specs.Kinds.{is_active_kind}
 use Rattle.aom_roles.specs.Roles.{is_service, is_cancel}
-use Rattle.aom_roles.proofs.Descending.{through}
+use Rattle.aom_safety.proofs.RolesLemmas.{through}
 use Rattle.aom_roles.specs.Families.{descends}
 use Rattle.aom_roles.specs.Shapes.{kind_of}
 use Rattle.aom_roles.specs.States.{active, active_states, cancel_open, idle, server_states}
 use Rattle.aom_rules.specs.Requests.{after_cancel, once_cancelled, own_kind}
 use Rattle.aom_rules.specs.Typing.{IsTyped, Leads, Typing}
-use Rattle.aom_shape.proofs.Ordering.{transitive}
-use Rattle.aom_shape.proofs.Sets.{has_along, has_first, has_itself, has_second}
+use Rattle.aom_safety.proofs.ShapeLemmas.{has_along, has_first, has_itself, has_second, transitive}
 use Rattle.aom_shape.specs.Arguments.{entry_fields, entry_shape}
 use Rattle.aom_shape.specs.Kinds.{field, filled, is_ready_kind, register}
 use Rattle.aom_shape.specs.Order.{SaysNoMore, Weaker, WeakerFilling, alike, alike_filling, perhaps_empty, perhaps_full}
@@ -36,7 +35,7 @@ use Rattle.aom_safety.proofs.Callees.{below_more}
 use Rattle.aom_safety.proofs.Claimed.{claim_in_view, OwnsNoMore, claim_from, claim_ready, claim_register_above, claim_weaker, fits_weaker}
 use Rattle.aom_safety.proofs.Destroying.{at_alike, entry_registers, perhaps_only, unset_only}
 use Rattle.aom_safety.proofs.Items.{length_forms}
-use Rattle.aom_semantics.proofs.Maps.{one_place}
+use Rattle.aom_safety.proofs.SemanticsLemmas.{one_place}
 use Rattle.aom_safety.proofs.Requesting.{OfObject, active_home, active_listed, has_common, in_state, its, learned, main_of_none, of_object, suits_in}
 use Rattle.aom_safety.proofs.Storing.{Alike, fits_alike, housed_alike, listed_still, on_some, requested_here, requested_there, rerequested_alike, stack_alike}
 use Rattle.aom_safety.proofs.Straight.{frames_reworded, At, Law, fits_unowning, settle, stepped, well}

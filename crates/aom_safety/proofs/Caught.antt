@@ -20,7 +20,7 @@ use Rattle.aom_safety.proofs.Clearing.{begins_over}
 use Rattle.aom_safety.proofs.Fitting.{fits, leaves_so, off_of}
 use Rattle.aom_safety.proofs.Items.{length_forms, no_mark}
 use Rattle.aom_safety.proofs.Guarded.{acts_at, goes_same, guarded_goes, guarded_met}
-use Rattle.aom_semantics.proofs.Maps.{at-put_at, held_moved, same_place-true, same_place_refl}
+use Rattle.aom_safety.proofs.SemanticsLemmas.{at-put_at, held_moved, same_place-true, same_place_refl}
 use Rattle.aom_safety.proofs.Straight.{claim_register, fits_unowning}
 use Rattle.aom_semantics.specs.Calls.{called, result_register}
 use Rattle.aom_safety.specs.Claims.{Dispatching, Form, Layer, Mark, Mark_form, Method, Unwinding, declared, forms, items_of, objects, tasks_of}

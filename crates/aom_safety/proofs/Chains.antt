@@ -5,7 +5,7 @@ use Rattle.aom_image.specs.Image.{Image}
 use Rattle.aom_rules.specs.Typing.{Typing}
 use Rattle.aom_roles.specs.Things.{field_thing}
 use Rattle.aom_shape.specs.declared.kind.Kind.TheVariants.{Null}
-use Rattle.aom_semantics.proofs.Maps.{held_lives, named_name}
+use Rattle.aom_safety.proofs.SemanticsLemmas.{held_lives, named_name}
 use Rattle.aom_safety.proofs.Owners.{at_session, ends, field_thing_of, in_queue, kind_at, lower_rank, queued_lower, rank, session_lower}
 use Rattle.aom_safety.proofs.Signals.{at_rest}
 use Rattle.aom_safety.proofs.Straight.{fits_unowning}

@@ -12,7 +12,7 @@ use Rattle.aom_shape.specs.Order.{SaysNoMore, Weaker, WeakerFilling, alike, mayb
 use Rattle.aom_shape.specs.Shape.{Shape}
 use Rattle.aom_roles.specs.Tables.{at, put_at}
 use Rattle.aom_roles.specs.Things.{Holder, Program, field_thing, holder_of}
-use Rattle.aom_rules.proofs.Telling.{filled_more}
+use Rattle.aom_safety.proofs.RulesLemmas.{filled_more}
 use Rattle.aom_rules.specs.Typing.{Typing}
 use Rattle.aom_shape.specs.declared.kind.Age.TheVariants.{Fresh, Ready}
 use Rattle.aom_shape.specs.declared.kind.CleanupEntry.{CleanupEntry}
@@ -22,7 +22,7 @@ use Rattle.aom_shape.specs.declared.kind.Kind.{Kind}
 use Rattle.aom_shape.specs.declared.kind.Kind.TheVariants.{Null, Own, Unset}
 use Rattle.aom_safety.proofs.Services.{service_moved, attended_kept, sessions_kept}
 use Rattle.aom_safety.proofs.Seats.{NoFieldHere, NoSeatHere, first_kept, sits_kept}
-use Rattle.aom_semantics.proofs.Maps.{at-put_at, held_moved, named_moved, requested_moved, same_place-true, transfer}
+use Rattle.aom_safety.proofs.SemanticsLemmas.{at-put_at, held_moved, named_moved, requested_moved, same_place-true, transfer}
 use Rattle.aom_safety.specs.Claims.{is_of_root, Dispatching, Dying, Form, Layer, Mark, Method, Unwinding, claim, declared, entries_of, entry_claim, home_claim}
 use Rattle.aom_safety.specs.Claims.{items_of, layer_claim, objects, own_field, root_claim, tasks_of, Ending, delivered, serves}
 use Rattle.aom_semantics.specs.Places.{Service, Cell, Elsewhere, Entry, Field, Going, Object, Place, Register, Root}

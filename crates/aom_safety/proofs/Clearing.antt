@@ -1,7 +1,7 @@
 -- While a leave is at hand, the methods and the going cells over it leave the cleanup stack as it is: by the heights at which the methods began.
 use Rattle.std.proofs.lemmas.Bool.Decides.{nat_tests}
 use Rattle.aom_image.specs.declared.method.Role.TheVariants.{Destruct}
-use Rattle.aom_roles.proofs.Descending.{itself}
+use Rattle.aom_safety.proofs.RolesLemmas.{itself}
 use Rattle.std.proofs.lemmas.Option.{same_Some}
 use Rattle.std.proofs.Common.{[], List, None, Option, Some, ap, arith, length, refl, subst, sym, true, ℕ, ℤ, ◌∙◌, ◌∷◌, ◌≡◌, ◌≢◌}
 use Rattle.std.proofs.lemmas.Bool.{true≢false}

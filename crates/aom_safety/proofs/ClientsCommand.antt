@@ -14,7 +14,7 @@ use Rattle.aom_roles.specs.Shapes.{kind_of}
 use Rattle.aom_safety.proofs.ClientsAsk.{asked_none, connects_free, fit_connecting, fit_sent, listed_room, listed_serves, asked_there}
 use Rattle.aom_safety.proofs.ClientsSteady.{fit_steady, steady_more}
 use Rattle.aom_safety.proofs.ClientsLeave.{empty, fit_told, fit_withdrawn, queue_leaving, queue_left, service_left}
-use Rattle.aom_semantics.proofs.Maps.{named_name}
+use Rattle.aom_safety.proofs.SemanticsLemmas.{named_name}
 use Rattle.aom_safety.proofs.Queues.{client_here, none_passes, none_stays}
 use Rattle.aom_safety.proofs.Services.{service_unnamed}
 use Rattle.aom_safety.proofs.Sifted.{a_cell_of, cell_of, named_cell, named_sifted, service_cell, service_in, withdrawn_so}

@@ -16,7 +16,7 @@ use Rattle.aom_shape.specs.declared.kind.Kind.{Kind}
 use Rattle.aom_shape.specs.declared.kind.Kind.TheVariants.{Null, Own}
 use Rattle.aom_shape.specs.declared.kind.Delivery.{Delivery}
 use Rattle.aom_safety.proofs.Destroying.{Untouched, untouched}
-use Rattle.aom_semantics.proofs.Maps.{named_name}
+use Rattle.aom_safety.proofs.SemanticsLemmas.{named_name}
 use Rattle.aom_safety.proofs.Owners.{HasThing, StandsIn, fits_thing, in_queue, queued_lower}
 use Rattle.aom_safety.proofs.Picking.{own_held}
 use Rattle.aom_safety.proofs.Services.{service_unnamed}

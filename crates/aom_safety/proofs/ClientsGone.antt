@@ -9,10 +9,10 @@ use Rattle.aom_clients.specs.Nodes.{is_connecting_at, is_leaving, is_open_at}
 use Rattle.aom_clients.specs.Table.{at_gone, server_of}
 use Rattle.aom_clients.specs.declared.client.Client.{Client}
 use Rattle.aom_clients.specs.declared.client.Client.TheVariants.{Unconnected}
-use Rattle.aom_semantics.proofs.Altering.{held_kept, named_kept, read_kept, requests, unslotting}
+use Rattle.aom_safety.proofs.SemanticsLemmas.{cond_same, held_kept, named_kept, read_kept, requests, same_place-true, same_place_comm, same_place_refl}
+use Rattle.aom_safety.proofs.SemanticsLemmas.{unslotting}
 use Rattle.aom_safety.proofs.ClientsFit.{connecting_only, leaving_only}
 use Rattle.aom_safety.proofs.ClientsSteady.{carried_sifted, fit_eased, quiet_waiting, sender_stays}
-use Rattle.aom_semantics.proofs.Maps.{cond_same, same_place-true, same_place_comm, same_place_refl}
 use Rattle.aom_safety.proofs.Queues.{client_here, client_there, none_passes}
 use Rattle.aom_safety.proofs.Sifted.{a_cell_of, cell_in, cell_lives, cell_name, cell_of, cell_owner}
 use Rattle.aom_safety.proofs.Sifted.{cell_placed, held_cell, service_gone, sifted, clients_sifted}

@@ -21,7 +21,7 @@ use Rattle.aom_safety.proofs.Redeeming.{redeemed_by_alike}
 use Rattle.aom_safety.proofs.TokensKeep.{boot_apart, moved_apart, turned_apart}
 use Rattle.aom_safety.proofs.ClientsReturn.{fit_without, return_kept, same_cells, tasks_without}
 use Rattle.aom_safety.proofs.ClientsTurn.{tasks_begun, turn_kept}
-use Rattle.aom_semantics.proofs.Maps.{without_none}
+use Rattle.aom_safety.proofs.SemanticsLemmas.{without_none}
 use Rattle.aom_safety.proofs.Storing.{Alike, ended_alike}
 use Rattle.aom_safety.proofs.Things.{stands_message, message_plain}
 use Rattle.aom_image.specs.declared.method.Gives.{Gives}

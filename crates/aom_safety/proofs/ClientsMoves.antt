@@ -14,13 +14,13 @@ use Rattle.aom_roles.specs.Things.{is_object}
 use Rattle.aom_clients.specs.Nodes.{is_connecting_at}
 use Rattle.aom_clients.specs.declared.client.Client.{Client}
 use Rattle.aom_clients.specs.declared.client.Client.TheVariants.{Unconnected}
-use Rattle.aom_semantics.proofs.Altering.{Alters, held_kept, named_kept, opening, read_kept, requests, services, storing}
+use Rattle.aom_safety.proofs.SemanticsLemmas.{Alters, held_kept, named_kept, named_moved, opening, read_kept, requested_moved, requests, same_place-true}
+use Rattle.aom_safety.proofs.SemanticsLemmas.{same_place_along, same_place_refl, services, storing}
 use Rattle.aom_safety.proofs.ClientsFacts.{IsAt}
 use Rattle.aom_safety.proofs.ClientsFit.{Changes, connecting_only, listed_changed, none_of_connecting, sessions_changed}
 pub use Rattle.aom_safety.proofs.ClientsSteady.{Steady, fit_steady}
 use Rattle.aom_safety.proofs.ClientsSteady.{carried_itself, fit_eased, steady_as, steady_itself, steady_more, steady_moved_then, steady_same}
 use Rattle.aom_safety.proofs.ClientsTurn.{on_none, same_requested}
-use Rattle.aom_semantics.proofs.Maps.{named_moved, same_place-true, same_place_along, same_place_refl, requested_moved}
 use Rattle.aom_safety.proofs.Queues.{queue_other}
 use Rattle.aom_safety.proofs.Services.{service_moved}
 use Rattle.aom_safety.proofs.Sources.{served_as}

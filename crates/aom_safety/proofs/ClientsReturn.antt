@@ -10,7 +10,7 @@ use Rattle.aom_safety.proofs.ClientsFacts.{IsAt}
 use Rattle.aom_safety.proofs.ClientsFit.{IsFit, fit_accepted}
 use Rattle.aom_safety.proofs.ClientsSteady.{Steady, carried_sifted, fit_steady, quiet_cell, sender_stays}
 use Rattle.aom_safety.proofs.ClientsMoves.{NoQueue, steady_moved, steady_result, tasks_queues, tasks_steady}
-use Rattle.aom_semantics.proofs.Maps.{named_moved, same_place-true, same_place_comm, requested_moved}
+use Rattle.aom_safety.proofs.SemanticsLemmas.{named_moved, requested_moved, same_place-true, same_place_comm}
 use Rattle.aom_safety.proofs.Sifted.{cell_in, cell_of, cell_placed, held_cell, object_in, sifted, clients_sifted}
 use Rattle.aom_semantics.specs.Calls.{answered_by, result_cells, returned}
 use Rattle.aom_semantics.specs.Clients.{most_of}

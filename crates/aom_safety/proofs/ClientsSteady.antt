@@ -13,7 +13,7 @@ use Rattle.aom_safety.proofs.Sifted.{a_cell_of, cell_in, cell_lives, cell_of, ce
 use Rattle.aom_safety.proofs.Sifted.{object_in, placed_before, requested_before, service_cell, service_in, service_sifted, sifted}
 use Rattle.aom_safety.proofs.Sources.{served_as, served_sifted, sources_as, sources_sifted}
 use Rattle.aom_safety.specs.Kept.{ClientsFit, HasSources, QueueFits, ServesSent, is_message_of, sources_of}
-use Rattle.aom_semantics.proofs.Maps.{requested_unnamed, same_place-true}
+use Rattle.aom_safety.proofs.SemanticsLemmas.{requested_unnamed, same_place-true}
 use Rattle.aom_semantics.specs.Clients.{client_at, most_of}
 use Rattle.aom_semantics.specs.Enlisted.{thing_kind}
 use Rattle.aom_semantics.specs.Places.{Cell, Elsewhere, In_service, Object, Place, Queued, Service, Tidy}

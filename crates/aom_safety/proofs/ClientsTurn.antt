@@ -14,7 +14,7 @@ use Rattle.aom_safety.proofs.ClientsFacts.{waiting_well}
 use Rattle.aom_safety.proofs.ClientsFit.{IsFit, by_server, fit_reserved, sent_then}
 pub use Rattle.aom_safety.proofs.ClientsSteady.{Same, fit_same}
 use Rattle.aom_safety.proofs.ClientsSteady.{fit_steady, steady_as}
-use Rattle.aom_semantics.proofs.Maps.{held_moved, named_moved, requested_moved, requested_unnamed}
+use Rattle.aom_safety.proofs.SemanticsLemmas.{held_moved, named_moved, requested_moved, requested_unnamed}
 use Rattle.aom_safety.proofs.Services.{held_served, service_asked, service_bereaved, service_here, service_moved}
 use Rattle.aom_safety.proofs.Signals.{at_rest}
 use Rattle.aom_safety.proofs.Storing.{bereaved_alike, rerequested_alike, requested_here, requested_there}

@@ -4,8 +4,7 @@ use Rattle.std.proofs.Common.{[], Bool, List, None, Option, Some, arith, cond, r
 use Rattle.aom_image.specs.Image.{Image}
 use Rattle.aom_image.specs.declared.method.Thing.{Thing}
 use Rattle.aom_roles.specs.Things.{is_object}
-use Rattle.aom_semantics.proofs.Altering.{asking, bereaving, count_kept, moving, opening, storing}
-use Rattle.aom_semantics.proofs.Maps.{same_place-true, without_none}
+use Rattle.aom_safety.proofs.SemanticsLemmas.{asking, bereaving, count_kept, moving, opening, same_place-true, storing, without_none}
 use Rattle.aom_semantics.specs.Natives.{all_bereaved}
 use Rattle.aom_semantics.specs.Places.{Cell, Object, Place, Request, Tidy, count_cells, held, moved, set_request, set_session, set_word_field, without}
 

@@ -24,7 +24,7 @@ use Rattle.aom_shape.specs.declared.kind.Kind.TheVariants.{Null, Own, Unset, Wor
 use Rattle.aom_safety.proofs.Claimed.{claim_entry_above, claim_register_above, fits_weaker, stack_moved, word_fits_weaker}
 use Rattle.aom_safety.proofs.Destroying.{no_going, untouched, goes_well}
 use Rattle.aom_safety.proofs.Items.{length_forms}
-use Rattle.aom_semantics.proofs.Maps.{same_place-true, same_place_refl}
+use Rattle.aom_safety.proofs.SemanticsLemmas.{same_place-true, same_place_refl}
 use Rattle.aom_safety.proofs.Straight.{fits_unowning}
 use Rattle.aom_safety.proofs.Housing.{counts_same, houses_same}
 use Rattle.aom_safety.specs.Claims.{Layer, Method, claim, declared, entry_form, forms, items_of, objects, tasks_of}

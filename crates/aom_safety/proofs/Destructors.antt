@@ -5,7 +5,7 @@ use Rattle.aom_image.specs.declared.class.ClassKind.{ClassKind}
 use Rattle.aom_safety.specs.Laws.{IsWired}
 use Rattle.aom_classes.specs.Roles.{role_of}
 use Rattle.aom_roles.specs.Families.{parent_of, fields_above}
-use Rattle.aom_roles.proofs.Descending.{through, itself, child}
+use Rattle.aom_safety.proofs.RolesLemmas.{child, itself, through}
 use Rattle.aom_semantics.specs.Destruction.{begun_by, class_destructor, next_destructor, needs_past, is_past}
 use Rattle.aom_safety.proofs.Dropping.{held_dropped, queue_dropped}
 use Rattle.aom_safety.proofs.Housing.{destructs_member}

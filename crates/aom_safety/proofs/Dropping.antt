@@ -10,8 +10,8 @@ use Rattle.aom_rules.specs.Typing.{Typing}
 use Rattle.aom_shape.specs.Kinds.{filled}
 use Rattle.aom_shape.specs.declared.kind.Filling.TheVariants.{Full}
 use Rattle.aom_shape.specs.declared.kind.Kind.TheVariants.{Null}
-pub use Rattle.aom_semantics.proofs.Maps.{requested_unnamed}
-use Rattle.aom_semantics.proofs.Maps.{cond_same, held_lives, same_place-true, same_place_refl}
+pub use Rattle.aom_safety.proofs.SemanticsLemmas.{requested_unnamed}
+use Rattle.aom_safety.proofs.SemanticsLemmas.{cond_same, held_lives, same_place-true, same_place_refl}
 use Rattle.aom_safety.proofs.Services.{attended_at}
 use Rattle.aom_safety.specs.Claims.{claim, Dispatching, Dying, Ending, Layer, Mark, Method, Unwinding, declared, declared_field}
 use Rattle.aom_semantics.specs.Places.{Sight, seen, Cell, Elsewhere, Field, In_service, Object, Place, Queued, Session}

@@ -12,7 +12,7 @@ use Rattle.aom_shape.specs.declared.kind.Kind.TheVariants.{Null}
 use Rattle.aom_safety.proofs.Destroying.{server_last, Bare, Untouched, destruct, no_going, untouched, goes_well}
 use Rattle.aom_safety.proofs.Items.{length_forms}
 use Rattle.aom_safety.proofs.Claimed.{claim_unclaimed, stack_moved}
-use Rattle.aom_semantics.proofs.Maps.{same_place-true}
+use Rattle.aom_safety.proofs.SemanticsLemmas.{same_place-true}
 use Rattle.aom_safety.proofs.Parting.{among_others, among_parted}
 use Rattle.aom_safety.proofs.Straight.{fits_unowning}
 use Rattle.aom_safety.proofs.Suiting.{same_object, unworked_rests}

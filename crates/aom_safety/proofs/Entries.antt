@@ -21,7 +21,7 @@ use Rattle.aom_safety.proofs.Creation.{made_well, IsUnused}
 use Rattle.aom_safety.proofs.Dealing.{dealing, Dealing, deals, less_claims}
 use Rattle.aom_safety.proofs.Items.{length_forms}
 use Rattle.aom_safety.proofs.Leaving.{leave_is_met, leave_keeps, trap_is_there}
-use Rattle.aom_semantics.proofs.Maps.{same_place_refl}
+use Rattle.aom_safety.proofs.SemanticsLemmas.{same_place_refl}
 use Rattle.aom_safety.proofs.Straight.{frames_reworded, At, Fitted, Law, claim_register, fits_unowning, fitted, free_register, kind_fits}
 use Rattle.aom_safety.proofs.Straight.{no_word, no_word_fits, relabel, relocate, settle, top, well, words_set}
 use Rattle.aom_safety.proofs.Things.{stands_itself, stands_object}

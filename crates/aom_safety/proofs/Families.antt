@@ -2,23 +2,21 @@
 use Rattle.std.proofs.lemmas.Bool.Decides.{nat_tests}
 use Rattle.std.proofs.Common.{None, Option, Some, ap, arith, length, refl, slice_get, sym, true, ℕ, ◌<◌, ◌∙◌, ◌≡◌, ◌≤◌}
 use Rattle.std.proofs.lemmas.Option.{slice_get_within}
-use Rattle.aom_image.proofs.Given.{some_given}
+use Rattle.aom_safety.proofs.ImageLemmas.{some_given}
 use Rattle.aom_image.specs.Image.{Image}
 use Rattle.aom_image.specs.Views.{class_at, fields_in, fields_of}
 use Rattle.aom_image.specs.WellFormed.{ParentFits, WellFormed, may_descend}
 use Rattle.aom_image.specs.declared.class.ClassKind.{ClassKind}
 use Rattle.aom_image.specs.declared.method.Thing.{Thing}
 use Rattle.aom_image.specs.declared.method.Thing.TheVariants.{Object as An_object_of}
-use Rattle.aom_roles.proofs.Descending.{along}
+use Rattle.aom_safety.proofs.RolesLemmas.{along}
 use Rattle.aom_roles.specs.Classes.{ClassOrdered, OwnsBefore, is_session, is_session_in, is_session_kind}
 use Rattle.aom_roles.specs.Classes.{kind_at, kind_in, sessions_at, sessions_in, sessions_of}
 use Rattle.aom_roles.specs.Families.{descends, parent_of}
 use Rattle.aom_roles.specs.Shapes.{kind_of}
-use Rattle.aom_classes.proofs.Facts.{all_there, at_place}
-use Rattle.aom_classes.proofs.Keeping.{child_there}
+use Rattle.aom_safety.proofs.ClassesLemmas.{all_there, at_place, child_there}
 use Rattle.aom_classes.specs.Linked.{IsLinked}
-use Rattle.aom_families.proofs.Inheriting.{continued, families_inherit}
-use Rattle.aom_families.proofs.Weighing.{weights_fall}
+use Rattle.aom_safety.proofs.FamiliesLemmas.{continued, families_inherit, weights_fall}
 use Rattle.aom_families.specs.Weights.{generation}
 use Rattle.aom_roles.specs.Things.{Member, field_thing, word_count, words_in}
 use Rattle.aom_safety.specs.Laws.{IsFamily}

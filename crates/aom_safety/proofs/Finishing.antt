@@ -29,7 +29,7 @@ use Rattle.aom_shape.specs.declared.kind.Kind.TheVariants.{Null, Own, Unset}
 use Rattle.aom_safety.proofs.Claimed.{claim_in_view, claim_register_above}
 use Rattle.aom_safety.proofs.Destroying.{eqb_comm}
 use Rattle.aom_safety.proofs.Items.{length_forms}
-use Rattle.aom_semantics.proofs.Maps.{at-put_at, front_free}
+use Rattle.aom_safety.proofs.SemanticsLemmas.{at-put_at, front_free}
 use Rattle.aom_safety.proofs.Straight.{At, fits_unowning, free_register, top}
 use Rattle.aom_semantics.specs.Calls.{end_needs, is_level, is_register_but, leaves_object, none_owns_but, result_needs, result_source, returned}
 use Rattle.aom_safety.specs.Claims.{own_field, serves, delivered, Dispatching, Layer, Method, Object_form, claim}

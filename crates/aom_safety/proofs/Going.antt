@@ -13,8 +13,8 @@ use Rattle.aom_safety.proofs.Claimed.{no_seat_outside, Outside, claim_frame, cla
 use Rattle.aom_safety.proofs.Claimed.{fits_age, going_differs, outside_differs, outside_less}
 use Rattle.aom_safety.proofs.Destroying.{eqb_comm, Untouched, other_name, untouched}
 use Rattle.aom_safety.proofs.Emptied.{emptied_by}
-use Rattle.aom_semantics.proofs.Maps.{cond_same, same_place_refl, front_free, held_without, named_without, requested_without}
-use Rattle.aom_semantics.proofs.Maps.{same_place-true, tidy_without, unnamed, unrequested}
+use Rattle.aom_safety.proofs.SemanticsLemmas.{cond_same, front_free, held_without, named_without, requested_without, same_place-true, same_place_refl}
+use Rattle.aom_safety.proofs.SemanticsLemmas.{tidy_without, unnamed, unrequested}
 use Rattle.aom_safety.proofs.Straight.{frames_reworded, Fitted, fits_unowning, settle}
 use Rattle.aom_safety.specs.Claims.{Ending, Dispatching, Dying, Layer, Mark, Method, Unwinding, claim}
 use Rattle.aom_safety.specs.Claims.{declared, declared_field, forms, items_of, objects, tasks_of}

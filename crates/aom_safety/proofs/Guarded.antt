@@ -1,7 +1,7 @@
 -- A move that goes on has met its needs, and goes where it says.
 use Rattle.std.proofs.lemmas.Bool.Decides.{nat_tests}
 use Rattle.std.proofs.Common.{arith, List, None, Option, Some, [], subst, ◌∷◌, ◌≡◌}
-use Rattle.aom_image.proofs.Given.{true_given}
+use Rattle.aom_safety.proofs.ImageLemmas.{true_given}
 use Rattle.aom_image.specs.Image.{Image}
 use Rattle.aom_image.specs.Views.{instr_at}
 use Rattle.aom_instructions.specs.declared.instr.Instr.{Instr}

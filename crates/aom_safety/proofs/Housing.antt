@@ -9,7 +9,7 @@ use Rattle.aom_image.specs.declared.method.Thing.{Thing}
 use Rattle.aom_image.specs.declared.method.Thing.TheVariants.{Object as An_object_of}
 use Rattle.aom_roles.specs.Classes.{sessions_at, sessions_in}
 use Rattle.aom_roles.specs.Families.{descends}
-use Rattle.aom_roles.proofs.Descending.{itself}
+use Rattle.aom_safety.proofs.RolesLemmas.{itself}
 use Rattle.aom_rules.specs.Calls.{is_destruct}
 use Rattle.aom_roles.specs.Things.{Holder, Member, field_thing, holder_by, holder_of, stands_for}
 use Rattle.aom_roles.specs.Shapes.{kind_of}

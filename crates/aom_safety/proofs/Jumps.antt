@@ -18,7 +18,7 @@ use Rattle.aom_shape.specs.declared.kind.Filling.TheVariants.{Empty, Full, Perha
 use Rattle.aom_shape.specs.declared.kind.Kind.{Kind}
 use Rattle.aom_shape.specs.declared.kind.Kind.TheVariants.{Maybe, Null, Own, Unset, Word}
 use Rattle.aom_safety.proofs.Claimed.{claim-set_field, claim-set_register}
-use Rattle.aom_semantics.proofs.Maps.{at-put_at}
+use Rattle.aom_safety.proofs.SemanticsLemmas.{at-put_at}
 use Rattle.aom_safety.proofs.Straight.{began, At, Fitted, Law, field_fits, fitted, kind_fits, no_word, reframed, relabel, settle, stepped, top, well}
 use Rattle.aom_safety.proofs.Housing.{houses_field}
 use Rattle.aom_safety.specs.Claims.{Layer, declared, forms, items_of, objects, tasks_of}

@@ -1,6 +1,6 @@
 -- The layer on top of a stack of layers, read off the task on top of its tasks.
 use Rattle.std.proofs.Common.{arith, ℕ, List, ◌∷◌, ◌≡◌, ℤ, subst}
-use Rattle.aom_image.proofs.Given.{cons_given}
+use Rattle.aom_safety.proofs.ImageLemmas.{cons_given}
 use Rattle.aom_image.specs.declared.method.Gives.{Gives}
 use Rattle.aom_shape.specs.Shape.{Shape}
 use Rattle.aom_shape.specs.declared.kind.CleanupEntry.{CleanupEntry}

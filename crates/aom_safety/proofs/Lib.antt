@@ -1,104 +1,112 @@
-pub mod Waiting
-pub mod Owned
-pub mod Counts
-pub mod Services
-pub mod Sifted
-pub mod Queues
-pub mod Seated
-pub mod Sources
-pub mod ClientsSteady
-pub mod ClientsFit
-pub mod ClientsAsk
-pub mod ClientsLeave
-pub mod ClientsGone
-pub mod ClientsCommand
-pub mod Attending
-pub mod Dropping
-pub mod Unslotting
-pub mod Accepting
-pub mod Parting
-pub mod Emptied
-pub mod Emptying
-pub mod Things
-pub mod Items
-pub mod Seats
-pub mod Claimed
-pub mod Guarded
-pub mod Exchanging
-pub mod Fitting
-pub mod Moving
-pub mod Turned
-pub mod Preserving
-pub mod Resting
-pub mod Counting
-pub mod Housing
-pub mod Families
-pub mod Straight
-pub mod Widening
-pub mod Jumps
-pub mod Storing
-pub mod Sessions
-pub mod Words
-pub mod Requesting
-pub mod Serving
-pub mod Cancelling
-pub mod Moves
-pub mod Creation
-pub mod Destroying
-pub mod Going
-pub mod Finishing
-pub mod Destructors
-pub mod Returning
-pub mod Closing
-pub mod Passing
-pub mod Callees
-pub mod Overriders
-pub mod Cancelled
-pub mod Raising
-pub mod Calling
-pub mod CallLaws
-pub mod Leaving
-pub mod Dealing
-pub mod Entries
-pub mod Arrival
-pub mod Unwinding
-pub mod Redeeming
-pub mod Apart
-pub mod Messages
-pub mod Handing
-pub mod Steps
-pub mod Booting
-pub mod Owners
-pub mod Soundness
-pub mod Wiring
-pub mod Looping
-pub mod Quiet
-pub mod InRange
-pub mod Clearing
-pub mod Caught
-pub mod Course
-pub mod View
-pub mod Standing
-pub mod Trapping
-pub mod Layers
-pub mod Suiting
-pub mod Entering
-pub mod Asking
-pub mod Signals
-pub mod Chains
-pub mod Picking
-pub mod PickedClose
-pub mod Turning
-pub mod ClientsTurn
-pub mod ClientsMoves
-pub mod ClientsEffects
-pub mod ClientsFacts
-pub mod ClientsReturn
-pub mod Orders
-pub mod TokensKeep
-pub mod ClientsKeep
-pub mod Commanding
-pub mod Sending
-pub mod Withdrawing
-pub mod Obeying
-pub mod KeptNeedsFail
+mod Waiting
+mod Owned
+mod Counts
+mod Services
+mod Sifted
+mod Queues
+mod Seated
+mod Sources
+mod ClientsSteady
+mod ClientsFit
+mod ClientsAsk
+mod ClientsLeave
+mod ClientsGone
+mod ClientsCommand
+mod Attending
+mod Dropping
+mod Unslotting
+mod Accepting
+mod Parting
+mod Emptied
+mod Emptying
+mod Things
+mod Items
+mod Seats
+mod Claimed
+mod Guarded
+mod Exchanging
+mod Fitting
+mod Moving
+mod Turned
+mod Preserving
+mod Resting
+mod Counting
+mod Housing
+mod Families
+mod Straight
+mod Widening
+mod Jumps
+mod Storing
+mod Sessions
+mod Words
+mod Requesting
+mod Serving
+mod Cancelling
+mod Moves
+mod Creation
+mod Destroying
+mod Going
+mod Finishing
+mod Destructors
+mod Returning
+mod Closing
+mod Passing
+mod Callees
+mod Overriders
+mod Cancelled
+mod Raising
+mod Calling
+mod CallLaws
+mod Leaving
+mod Dealing
+mod Entries
+mod Arrival
+mod Unwinding
+mod Redeeming
+mod Apart
+mod Messages
+mod Handing
+mod Steps
+mod Booting
+mod Owners
+mod Soundness
+mod Wiring
+mod Looping
+mod Quiet
+mod InRange
+mod Clearing
+mod Caught
+mod Course
+mod View
+mod Standing
+mod Trapping
+mod Layers
+mod Suiting
+mod Entering
+mod Asking
+mod Signals
+mod Chains
+mod Picking
+mod PickedClose
+mod Turning
+mod ClientsTurn
+mod ClientsMoves
+mod ClientsEffects
+mod ClientsFacts
+mod ClientsReturn
+mod Orders
+mod TokensKeep
+mod ClientsKeep
+mod Commanding
+mod Sending
+mod Withdrawing
+mod Obeying
+mod KeptNeedsFail
+pub mod SafetyLemmas
+pub use Rattle.aom_classes.proofs.ClassesLemmas
+pub use Rattle.aom_families.proofs.FamiliesLemmas
+pub use Rattle.aom_image.proofs.ImageLemmas
+pub use Rattle.aom_roles.proofs.RolesLemmas
+pub use Rattle.aom_rules.proofs.RulesLemmas
+pub use Rattle.aom_semantics.proofs.SemanticsLemmas
+pub use Rattle.aom_shape.proofs.ShapeLemmas

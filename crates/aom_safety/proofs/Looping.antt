@@ -8,11 +8,11 @@ use Rattle.aom_image.specs.Image.{Image}
 use Rattle.aom_image.specs.Views.{instr_at}
 use Rattle.aom_instructions.specs.declared.instr.Instr.{Instr}
 use Rattle.aom_instructions.specs.declared.instr.Instr.TheVariants.{Loop, Next}
-use Rattle.aom_classes.proofs.Bodies.{linked_is_looped}
+use Rattle.aom_safety.proofs.ClassesLemmas.{linked_is_looped}
 use Rattle.aom_classes.specs.Bodies.{Body, IsIn, IsLooped}
 use Rattle.aom_classes.specs.Jumps.{jump_of}
 use Rattle.aom_classes.specs.Loops.{loop_in}
-use Rattle.aom_semantics.proofs.Maps.{at-put_at}
+use Rattle.aom_safety.proofs.SemanticsLemmas.{at-put_at}
 use Rattle.aom_safety.proofs.Preserving.{Kept, keeps, turn_keeps_it}
 use Rattle.aom_semantics.specs.Calls.{entered}
 use Rattle.aom_semantics.specs.Cleanup.{operation_frame}

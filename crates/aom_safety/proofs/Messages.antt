@@ -23,7 +23,7 @@ use Rattle.aom_shape.specs.declared.kind.Kind.TheVariants.{Null, Own}
 use Rattle.aom_safety.proofs.Claimed.{claim-set_register, claim_frame, claim_rel}
 use Rattle.aom_safety.proofs.Dropping.{declared_dropped, dropped, fits_dropped, held_dropped, place_dropped, suits_dropped, tidy_dropped}
 use Rattle.aom_safety.proofs.Going.{housed_without, stack_without}
-use Rattle.aom_semantics.proofs.Maps.{same_place-true, same_place_comm}
+use Rattle.aom_safety.proofs.SemanticsLemmas.{same_place-true, same_place_comm}
 use Rattle.aom_safety.proofs.Picking.{own_held}
 use Rattle.aom_safety.proofs.Redeeming.{redeemable, redeemed_by_alike, redeemed_good}
 use Rattle.aom_safety.proofs.Straight.{frames_reworded, At, Fitted, Law, fitted, free_register, kind_fits}

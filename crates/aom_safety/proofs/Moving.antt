@@ -1,7 +1,7 @@
 -- Each step is a move: an instruction has its effect, and may have it.
 use Rattle.std.proofs.Common.{List, [], cond, length, refl, subst, sym, ℤ, ◌∷◌, ◌≡◌}
 use Rattle.std.specs.Prelude.{is_some}
-use Rattle.aom_image.proofs.Given.{some_given}
+use Rattle.aom_safety.proofs.ImageLemmas.{some_given}
 use Rattle.aom_image.specs.Image.{Image}
 use Rattle.aom_image.specs.Views.{instr_at}
 use Rattle.aom_instructions.specs.declared.instr.Instr.{Instr}

@@ -3,11 +3,11 @@ use Rattle.std.proofs.lemmas.Bool.Decides.{nat_tests}
 use Rattle.std.proofs.Common.{Bool, List, None, Option, Some, [], ap, arith, cond, false, refl, subst, sym, true, ℕ, ℤ, ◌==◌, ◌∙◌, ◌∷◌, ◌≡◌}
 use Rattle.std.proofs.lemmas.Bool.{eqb-true}
 use Rattle.aom_image.specs.Image.{Image}
-use Rattle.aom_semantics.proofs.Altering.{Alters, asking, named_kept, opening, read_kept, requests, services, serving, storing, unslotting}
+use Rattle.aom_safety.proofs.SemanticsLemmas.{Alters, asking, named_kept, opening, read_kept, requested_moved, requested_unnamed, requests, services, serving}
+use Rattle.aom_safety.proofs.SemanticsLemmas.{storing, unslotting}
 use Rattle.aom_safety.proofs.Apart.{apart_fewer}
 use Rattle.aom_safety.proofs.ClientsGone.{goes_with, gone_so}
 use Rattle.aom_safety.proofs.ClientsReturn.{without_so}
-use Rattle.aom_semantics.proofs.Maps.{requested_moved, requested_unnamed}
 use Rattle.aom_safety.proofs.Services.{requested_served, service_asked, service_bereaved, service_here, service_moved, service_there, service_unnamed}
 use Rattle.aom_safety.proofs.Sifted.{cell_of, cell_of_sifted, request_in, requested_cell, service_cell, service_in, sifted, withdrawn_so}
 use Rattle.aom_safety.proofs.Storing.{requested_here, requested_there}

@@ -3,20 +3,19 @@ use Rattle.std.proofs.lemmas.Bool.Decides.{nat_tests}
 use Rattle.std.proofs.Common.{arith, Bool, IsTrue, None, Option, Some, ap, false, inl, inr, map, refl, subst, suc, sym, true, zero, ℕ, ◌==◌, ◌∙◌, ◌≡◌}
 use Rattle.std.proofs.lemmas.Bool.{eqb-true}
 use Rattle.std.specs.Prelude.{IsSome, is_some}
-use Rattle.aom_image.proofs.Given.{some_given}
+use Rattle.aom_safety.proofs.ImageLemmas.{some_given}
 use Rattle.aom_image.specs.Image.{Image}
 use Rattle.aom_image.specs.Views.{arguments_in, arguments_of, class_in, gives_in, gives_of, has, is_quiet, leaves}
 use Rattle.aom_image.specs.Views.{leaves_in, method_at, method_class, method_role, quiet_in, role_in}
 use Rattle.aom_image.specs.declared.method.Method.{Method}
 use Rattle.aom_image.specs.declared.method.Role.TheVariants.{Construct, Do}
-use Rattle.aom_classes.proofs.Facts.{all_there}
-use Rattle.aom_classes.proofs.Playing.{same_roles}
+use Rattle.aom_safety.proofs.ClassesLemmas.{all_there, same_roles}
 use Rattle.aom_classes.specs.Overriding.{AllStandIn, StandsInNamed, body_of, leads_in, over_in, overrides}
-use Rattle.aom_families.proofs.Bodies.{bodies_are_alike}
+use Rattle.aom_safety.proofs.FamiliesLemmas.{bodies_are_alike}
 use Rattle.aom_families.specs.Laws.{RunsAlike}
-use Rattle.aom_roles.proofs.Descending.{through}
+use Rattle.aom_safety.proofs.RolesLemmas.{through}
 use Rattle.aom_roles.specs.Families.{descends}
-use Rattle.aom_shape.proofs.Sets.{has_along, has_itself}
+use Rattle.aom_safety.proofs.ShapeLemmas.{has_along, has_itself}
 use Rattle.aom_shape.specs.Arguments.{after_in, after_of, argument_kind, before_in, before_of, entry_fields, entry_shape}
 use Rattle.aom_shape.specs.Kinds.{field}
 use Rattle.aom_shape.specs.Order.{SaysNoMore, Weaker, WeakerFilling}

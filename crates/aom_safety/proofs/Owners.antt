@@ -2,7 +2,7 @@
 use Rattle.std.proofs.lemmas.Bool.Decides.{nat_tests}
 use Rattle.std.proofs.Common.{Bool, List, None, Option, Some, [], ap, arith, cond, false, length, refl, subst}
 use Rattle.std.proofs.Common.{suc, sym, true, zero, ℕ, ⊎_elim, ◌+◌, ◌<◌, ◌==◌, ◌∙◌, ◌∷◌, ◌≡◌, ◌≤◌}
-use Rattle.aom_image.proofs.Given.{false_given, nil_given, some_given}
+use Rattle.aom_safety.proofs.ImageLemmas.{false_given, nil_given, some_given}
 use Rattle.std.proofs.lemmas.Bool.{cases_lt, eqb-true, ne_eqb}
 use Rattle.std.proofs.lemmas.Option.{slice_get_within}
 use Rattle.std.specs.Prelude.{IsSome, is_some, option_map}
@@ -22,7 +22,7 @@ use Rattle.aom_shape.specs.declared.kind.Kind.{Kind}
 use Rattle.aom_shape.specs.declared.kind.Kind.TheVariants.{Maybe, Null, Own}
 use Rattle.aom_safety.proofs.Claimed.{claim_entry_above, claim_register_above}
 use Rattle.aom_safety.proofs.Items.{length_forms}
-use Rattle.aom_semantics.proofs.Maps.{found, of_name, same_place-true, same_place_refl}
+use Rattle.aom_safety.proofs.SemanticsLemmas.{found, of_name, same_place-true, same_place_refl}
 use Rattle.aom_safety.proofs.Housing.{stands_session}
 use Rattle.aom_safety.proofs.Things.{serving_class, stands_message}
 use Rattle.aom_safety.specs.Claims.{own_field, Dispatching, Dying, Ending, Layer, Mark, Mark_form, Method, Object_form, Unwinding, claim}

@@ -9,7 +9,7 @@ use Rattle.aom_rules.specs.Typing.{Typing}
 use Rattle.aom_safety.proofs.Claimed.{fits_age}
 use Rattle.aom_safety.proofs.Dropping.{declared_dropped, dropped, fits_dropped, held_dropped, is_sent}
 use Rattle.aom_safety.proofs.Dropping.{place_dropped, stack_dropped, suits_dropped, tidy_dropped}
-use Rattle.aom_semantics.proofs.Maps.{same_place-true}
+use Rattle.aom_safety.proofs.SemanticsLemmas.{same_place-true}
 use Rattle.aom_safety.proofs.Services.{held_served, named_served, requested_served, service_here, service_there, sits_lives, tidy_served}
 use Rattle.aom_safety.proofs.Things.{stands_message}
 use Rattle.aom_safety.specs.Claims.{Dispatching, claim, declared}

@@ -21,7 +21,7 @@ use Rattle.aom_shape.specs.declared.kind.Kind.{Kind}
 use Rattle.aom_shape.specs.declared.kind.Kind.TheVariants.{Null, Own, Unset, Word}
 use Rattle.aom_safety.proofs.Claimed.{claim-set_register, claim_register_above, declared_moved, keep_fits, stack_moved}
 use Rattle.aom_safety.proofs.Finishing.{all_join, all_parts}
-use Rattle.aom_semantics.proofs.Maps.{at-put_at, held_moved, requested_moved, same_place-true, tidy_moved}
+use Rattle.aom_safety.proofs.SemanticsLemmas.{at-put_at, held_moved, requested_moved, same_place-true, tidy_moved}
 use Rattle.aom_safety.proofs.Returning.{held_thing, word_is}
 use Rattle.aom_safety.proofs.Widening.{Widens, own_widens}
 use Rattle.aom_safety.proofs.Straight.{At, claim_register, fits_unowning, housed_relocated, kind_fits, no_word_fits, word_of_object, words_null, words_set}

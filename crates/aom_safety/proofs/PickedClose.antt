@@ -8,7 +8,7 @@ use Rattle.aom_shape.specs.declared.kind.Kind.TheVariants.{Null}
 use Rattle.aom_safety.proofs.ClientsFit.{leaving_only}
 use Rattle.aom_safety.proofs.Destroying.{no_going, goes_well}
 use Rattle.aom_safety.proofs.Entering.{no_fields}
-use Rattle.aom_semantics.proofs.Maps.{held_moved, named_moved, requested_moved, same_place-true}
+use Rattle.aom_safety.proofs.SemanticsLemmas.{held_moved, named_moved, requested_moved, same_place-true}
 use Rattle.aom_safety.proofs.Owners.{rank}
 use Rattle.aom_safety.proofs.Picking.{above, fits_now, held_now, no_items, requested_now, session_held, sessions_now, sits, sits_now, suits_now, tidy_now}
 use Rattle.aom_safety.proofs.Services.{service_moved}

@@ -33,7 +33,7 @@ use Rattle.aom_safety.proofs.ClientsGone.{open_server}
 use Rattle.aom_safety.proofs.Destroying.{at_alike}
 use Rattle.aom_safety.proofs.Entering.{Entering, enters}
 use Rattle.aom_safety.proofs.Housing.{houses_same}
-use Rattle.aom_semantics.proofs.Maps.{held_lives, held_moved, named_moved, requested_moved, tidy_moved, transfer}
+use Rattle.aom_safety.proofs.SemanticsLemmas.{held_lives, held_moved, named_moved, requested_moved, tidy_moved, transfer}
 use Rattle.aom_safety.proofs.Housing.{stands_session}
 use Rattle.aom_safety.proofs.Owners.{rank}
 use Rattle.aom_safety.proofs.Services.{held_served, named_served, requested_served, service_here, service_moved, tidy_served}

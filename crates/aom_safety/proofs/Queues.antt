@@ -7,7 +7,7 @@ use Rattle.std.specs.List.{list_any}
 use Rattle.std.specs.Prelude.{filter, ◌++◌}
 use Rattle.aom_clients.specs.declared.client.Client.{Client}
 use Rattle.aom_clients.specs.declared.client.Client.TheVariants.{Unconnected}
-use Rattle.aom_semantics.proofs.Maps.{at-put_at}
+use Rattle.aom_safety.proofs.SemanticsLemmas.{at-put_at}
 use Rattle.aom_semantics.specs.Clients.{client_at, with_client}
 use Rattle.aom_safety.specs.Kept.{EntryFits, QueueFits, asked_again}
 use Rattle.aom_semantics.specs.Places.{Asked, Close_of, Connect_of, Message_of}

@@ -1,6 +1,6 @@
 -- While a cell goes or a leave unwinds, quiet methods alone run, so that no trap stands over it.
 use Rattle.std.proofs.lemmas.Bool.Decides.{nat_tests}
-use Rattle.aom_roles.proofs.Descending.{itself}
+use Rattle.aom_safety.proofs.RolesLemmas.{itself}
 use Rattle.std.proofs.lemmas.Option.{same_Some}
 use Rattle.std.proofs.Common.{arith, List, Some, [], false, refl, subst, sym, true, ℕ, ◌∙◌, ◌∷◌, ◌≡◌}
 use Rattle.std.proofs.lemmas.Bool.{true≢false, false_from_ne_true}

@@ -12,7 +12,7 @@ use Rattle.aom_image.specs.declared.method.Thing.TheVariants.{Message}
 use Rattle.aom_roles.specs.Tests.{AllTrue, only_if}
 use Rattle.aom_roles.specs.Roles.{is_construct}
 use Rattle.aom_classes.specs.Roles.{role_of}
-use Rattle.aom_roles.proofs.Descending.{child, itself}
+use Rattle.aom_safety.proofs.RolesLemmas.{child, itself}
 use Rattle.aom_roles.specs.Families.{parent_of, fields_above, parent_above, parent_by}
 use Rattle.aom_rules.specs.Calls.{above_needs, constructs_class, empty_by, is_that}
 use Rattle.aom_rules.specs.Typing.{Typing}

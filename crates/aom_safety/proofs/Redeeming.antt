@@ -5,7 +5,7 @@ use Rattle.std.proofs.lemmas.Bool.{eq-eqb, ne_eqb}
 use Rattle.aom_image.specs.Image.{Image}
 use Rattle.aom_image.specs.declared.class.ClassKind.{ClassKind}
 use Rattle.aom_rules.specs.Typing.{Typing}
-use Rattle.aom_semantics.proofs.Altering.{Alters, read_so, requests}
+use Rattle.aom_safety.proofs.SemanticsLemmas.{Alters, read_so, requests}
 use Rattle.aom_safety.proofs.Storing.{Alike, alike_itself, altered_alike, fits_listed, stack_alike}
 use Rattle.aom_safety.proofs.Turned.{recorded_so}
 use Rattle.aom_safety.specs.Claims.{Layer}

@@ -4,7 +4,7 @@ use Rattle.std.proofs.Common.{Bool, arith, IsTrue, List, None, Option, Some, [],
 use Rattle.std.proofs.lemmas.Bool.{eq-eqb, eqb-true}
 use Rattle.std.proofs.lemmas.Nat.{and_assoc}
 use Rattle.std.specs.Prelude.{bit_and, bit_or, is_none, is_some, not}
-use Rattle.aom_image.proofs.Given.{some_given}
+use Rattle.aom_safety.proofs.ImageLemmas.{some_given}
 use Rattle.aom_image.specs.Image.{Image}
 use Rattle.aom_image.specs.Views.{has, method_class, method_role}
 use Rattle.aom_image.specs.declared.class.ClassKind.{ClassKind}
@@ -14,7 +14,7 @@ use Rattle.aom_roles.specs.Shapes.{kind_of}
 use Rattle.aom_roles.specs.States.{cancel_done, cancel_open, idle, issued, active, unlisted}
 use Rattle.aom_rules.specs.Requests.{enlisted, flow_narrowed, inactive, outstanding, own_kind}
 use Rattle.aom_rules.specs.Typing.{AllLead, Leads, Typing}
-use Rattle.aom_shape.proofs.Sets.{has_along}
+use Rattle.aom_safety.proofs.ShapeLemmas.{has_along}
 use Rattle.aom_shape.specs.Kinds.{is_ready_kind}
 use Rattle.aom_shape.specs.Needs.{Flow}
 use Rattle.aom_shape.specs.Shape.{Shape}

@@ -24,7 +24,7 @@ use Rattle.aom_safety.proofs.Claimed.{claim-set_register, claim_frame, claim_pus
 use Rattle.aom_safety.proofs.Finishing.{message_gone, after_return, Returnable, ended, ended_plainly, left_alone}
 use Rattle.aom_safety.proofs.Finishing.{left_held, none_left, return_needs, returnable, same_items}
 use Rattle.aom_safety.proofs.Items.{forms_below, mark_on_top, undos_below}
-use Rattle.aom_semantics.proofs.Maps.{held_moved, requested_moved, same_place-true, same_place_refl, tidy_moved}
+use Rattle.aom_safety.proofs.SemanticsLemmas.{held_moved, requested_moved, same_place-true, same_place_refl, tidy_moved}
 use Rattle.aom_safety.proofs.Straight.{frames_reworded, At, Fitted, Law, claim_register, fits_unowning, housed_relocated, next_unowning, no_word_fits}
 use Rattle.aom_safety.proofs.Straight.{register_fits, settle, stepped, top, word_of_object, words_set, write, may_be_object}
 use Rattle.aom_safety.proofs.Widening.{hold_widens, own_widens, own_widens_more, retaken}

@@ -4,9 +4,8 @@ use Rattle.std.proofs.Common.{arith, List, None, Option, Some, ap, false, refl, 
 use Rattle.aom_image.specs.Image.{Image}
 use Rattle.aom_safety.specs.WellTyped.{AllSit, SitsFirst, seat_of, EndsSessions, IsAttended}
 use Rattle.aom_semantics.specs.State.{Seat, Dispatch}
-use Rattle.aom_semantics.proofs.Altering.{asking, bereaving, held_kept, moving, named_kept, read_here, read_kept}
-use Rattle.aom_semantics.proofs.Altering.{read_there, requests, services, serving, storing, tidy_kept}
-use Rattle.aom_semantics.proofs.Maps.{read_unnamed, read_without}
+use Rattle.aom_safety.proofs.SemanticsLemmas.{asking, bereaving, held_kept, moving, named_kept, read_here, read_kept, read_there, read_unnamed, read_without}
+use Rattle.aom_safety.proofs.SemanticsLemmas.{requests, services, serving, storing, tidy_kept}
 use Rattle.aom_semantics.specs.Natives.{all_bereaved}
 use Rattle.aom_semantics.specs.Places.{Cell, Object, Place, Request, Service, Tidy, held, moved, named, requested}
 use Rattle.aom_semantics.specs.Places.{service_of, set_request, set_service, set_word_field, unserved, without}

@@ -3,8 +3,7 @@ use Rattle.std.proofs.lemmas.Bool.Decides.{nat_tests}
 use Rattle.std.proofs.Common.{arith, List, None, Option, Some, false, refl, ℕ, ℤ, ◌==◌, ◌≡◌}
 use Rattle.std.proofs.lemmas.Bool.{eqb-true}
 use Rattle.aom_image.specs.declared.method.Thing.{Thing}
-use Rattle.aom_semantics.proofs.Altering.{asking, moving, read_kept, sessions, storing}
-use Rattle.aom_semantics.proofs.Maps.{read_unnamed, read_without}
+use Rattle.aom_safety.proofs.SemanticsLemmas.{asking, moving, read_kept, read_unnamed, read_without, sessions, storing}
 use Rattle.aom_semantics.specs.Places.{Cell, Object, Place, Request, Tidy, held, in_session, moved, named, set_request, set_word_field, with_new, without}
 
 pub session_moved : (cs : List Cell) (p q : Place) (n : ℕ) → in_session (moved p q cs) n ≡ in_session cs n

@@ -3,7 +3,7 @@ use Rattle.std.proofs.lemmas.Bool.Decides.{nat_tests}
 use Rattle.std.proofs.Common.{arith, Bool, List, None, Option, Some, [], ap, cond, false, refl, subst, sym, true, ℕ, ◌&&◌, ◌==◌, ◌∙◌, ◌∷◌, ◌≡◌}
 use Rattle.std.proofs.lemmas.Bool.{eq-eqb, eqb-true, ne_eqb}
 use Rattle.std.proofs.lemmas.Option.{none-some}
-use Rattle.aom_semantics.proofs.Maps.{Finds, found, same_place-true, same_place_refl}
+use Rattle.aom_safety.proofs.SemanticsLemmas.{Finds, found, same_place-true, same_place_refl}
 use Rattle.aom_semantics.specs.Places.{Cell, Object, Place, Request, Service, Tidy, held, named, requested, same_place, service_of, unserved}
 use Rattle.aom_semantics.specs.Servers.{all_unslotted, is_from, is_queue, is_queue_of, left_by, unslotted, without_queue, withdrawn}
 

@@ -4,7 +4,7 @@ use Rattle.std.proofs.Common.{arith, List, Option, Some, [], ap, refl, subst, sy
 use Rattle.std.proofs.lemmas.Bool.{ne_eqb, not-true}
 use Rattle.std.specs.Prelude.{is_some}
 use Rattle.aom_safety.specs.Claims.{Dispatching, Layer, forms, items_of, tasks_of}
-use Rattle.aom_image.proofs.Given.{nil_given}
+use Rattle.aom_safety.proofs.ImageLemmas.{nil_given}
 use Rattle.aom_image.specs.Image.{Image}
 use Rattle.aom_image.specs.declared.class.ClassKind.{ClassKind}
 use Rattle.aom_roles.specs.States.{states_of}

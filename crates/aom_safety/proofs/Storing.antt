@@ -1,10 +1,9 @@
 -- The words of a cell count for no place, and its request for the age of objects alone: where these change, what is claimed holds on.
 use Rattle.std.proofs.lemmas.Bool.Decides.{nat_tests}
 use Rattle.std.specs.Prelude.{is_some}
-use Rattle.aom_semantics.proofs.Maps.{requested_unnamed}
-use Rattle.aom_image.proofs.Given.{some_given}
-use Rattle.aom_semantics.proofs.Altering.{Alters, asking, bereaving, held_kept, named_kept, opening, read_here, read_kept}
-use Rattle.aom_semantics.proofs.Altering.{read_so, read_there, requests, services, storing, tidy_kept}
+use Rattle.aom_safety.proofs.SemanticsLemmas.{Alters, asking, bereaving, held_kept, named_kept, opening, read_here, read_kept, read_so, read_there}
+use Rattle.aom_safety.proofs.SemanticsLemmas.{requested_unnamed, requests, services, storing, tidy_kept}
+use Rattle.aom_safety.proofs.ImageLemmas.{some_given}
 use Rattle.aom_safety.proofs.Services.{attended_kept, sessions_kept}
 use Rattle.aom_safety.proofs.Seats.{first_kept}
 use Rattle.std.proofs.Common.{arith, Bool, List, Option, Some, [], ap, cond, false, refl, true, ℕ, ℤ, ◌==◌, ◌∙◌, ◌∷◌, ◌≡◌, None}

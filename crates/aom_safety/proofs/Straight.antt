@@ -3,7 +3,7 @@ use Rattle.std.proofs.lemmas.Bool.Decides.{nat_tests}
 use Rattle.std.proofs.Common.{Bool, List, None, Option, Some, ap, arith, cond, false, length, refl, subst, suc, sym, true, ℕ, ℤ, ◌&&◌, ◌==◌, ◌∙◌, ◌∷◌, ◌≡◌}
 use Rattle.std.proofs.lemmas.Bool.{eq-eqb, eqb-true, ne_eqb, true≢false}
 use Rattle.std.specs.Prelude.{is_some}
-use Rattle.aom_image.proofs.Given.{some_given}
+use Rattle.aom_safety.proofs.ImageLemmas.{some_given}
 use Rattle.aom_image.specs.Image.{Image}
 use Rattle.aom_instructions.specs.declared.instr.Instr.{Instr}
 use Rattle.aom_image.specs.declared.method.Thing.{Thing}
@@ -21,7 +21,7 @@ use Rattle.aom_safety.proofs.Seats.{NoFieldHere}
 use Rattle.aom_safety.proofs.Claimed.{Outside, claim-set_register, claim_frame, claim_from, claim_ready, claim_weaker, declared_moved, fits_weaker}
 use Rattle.aom_safety.proofs.Claimed.{holds_moved, keep_fits, outside_differs, own_there, owns_no_more, stack_moved, word_fits_weaker}
 use Rattle.aom_safety.proofs.Housing.{houses_field}
-use Rattle.aom_semantics.proofs.Maps.{at-put_at, held_moved, one_place, requested_moved, same_place-true, tidy_moved}
+use Rattle.aom_safety.proofs.SemanticsLemmas.{at-put_at, held_moved, one_place, requested_moved, same_place-true, tidy_moved}
 use Rattle.aom_safety.proofs.Things.{stands_along}
 use Rattle.aom_safety.specs.Claims.{Layer, Method, claim, declared, forms, items_of, objects, tasks_of, serves}
 use Rattle.aom_semantics.specs.Moves.{does, needs}

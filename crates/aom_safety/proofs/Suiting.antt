@@ -9,9 +9,9 @@ use Rattle.aom_image.specs.declared.class.ClassKind.{ClassKind}
 use Rattle.aom_image.specs.declared.class.ClassKind.TheVariants.{Active as An_active, Server as A_server}
 use Rattle.aom_roles.specs.States.{cancel_done, first_of, idle, server_states, states_of}
 use Rattle.aom_rules.specs.Requests.{unissued}
-use Rattle.aom_shape.proofs.Sets.{has_along, has_itself}
+use Rattle.aom_safety.proofs.ShapeLemmas.{has_along, has_itself}
 use Rattle.aom_shape.specs.Shape.{Shape}
-use Rattle.aom_semantics.proofs.Maps.{named_moved, requested_moved}
+use Rattle.aom_safety.proofs.SemanticsLemmas.{named_moved, requested_moved}
 use Rattle.aom_safety.specs.Claims.{Dying, Layer, Mark, Method}
 use Rattle.aom_semantics.specs.Places.{Cell, Object, Place, Request, moved, named, requested}
 use Rattle.aom_semantics.specs.Enlisted.{cancelled, is_unanswered, on_request, pending, status_of}

@@ -2,12 +2,12 @@
 use Rattle.std.proofs.lemmas.Bool.Decides.{nat_tests}
 use Rattle.std.proofs.Common.{Some, ap, arith, false, sym, true, ℕ, ◌∙◌, ◌≡◌}
 use Rattle.std.specs.Prelude.{is_some}
-use Rattle.aom_image.proofs.Given.{some_given}
+use Rattle.aom_safety.proofs.ImageLemmas.{some_given}
 use Rattle.aom_image.specs.Image.{Image}
 use Rattle.aom_image.specs.declared.method.Thing.{Thing}
 use Rattle.aom_image.specs.declared.method.Thing.TheVariants.{Message, Object as An_object_of}
 use Rattle.aom_roles.specs.Things.{stands_for, is_object}
-use Rattle.aom_roles.proofs.Descending.{itself, through}
+use Rattle.aom_safety.proofs.RolesLemmas.{itself, through}
 use Rattle.aom_semantics.specs.Servers.{is_server, session_class}
 use Rattle.aom_roles.specs.Shapes.{kind_of}
 use Rattle.aom_roles.specs.Classes.{sessions_at, sessions_in}

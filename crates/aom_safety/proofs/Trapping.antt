@@ -2,7 +2,7 @@
 use Rattle.std.proofs.lemmas.Bool.Decides.{nat_tests}
 use Rattle.std.proofs.Common.{Bool, cond, true, false, List, None, Option, Some, [], ap, arith, inl, inr, length}
 use Rattle.std.proofs.Common.{refl, subst, suc, sym, ℕ, ℤ, ◌+◌, ◌∙◌, ◌∷◌, ◌≡◌, length-append}
-use Rattle.aom_image.proofs.Given.{cons_given}
+use Rattle.aom_safety.proofs.ImageLemmas.{cons_given}
 use Rattle.std.specs.Prelude.{◌++◌, ◌⊎◌}
 use Rattle.aom_image.specs.Image.{Image}
 use Rattle.aom_image.specs.Views.{instr_at}

@@ -3,7 +3,7 @@
 use Rattle.std.proofs.lemmas.Bool.Decides.{nat_tests}
 use Rattle.std.proofs.Common.{arith, Bool, List, None, Option, Some, cond, false, negsuc, pos, refl, subst, ℕ, ℤ, ◌∷◌, ◌≡◌}
 use Rattle.std.specs.Ordering.{int_eq}
-use Rattle.aom_image.proofs.Given.{some_given}
+use Rattle.aom_safety.proofs.ImageLemmas.{some_given}
 use Rattle.aom_image.specs.Image.{Image}
 use Rattle.aom_image.specs.declared.method.Role.TheVariants.{Accept as Accepts_role, Service as Attends, Run as Handles}
 use Rattle.aom_safety.proofs.Guarded.{goes_same, guarded_goes}

@@ -27,7 +27,7 @@ use Rattle.aom_safety.proofs.Claimed.{declared_ready}
 use Rattle.aom_safety.proofs.Destroying.{at_alike}
 use Rattle.aom_safety.proofs.Entering.{Entering, enters}
 use Rattle.aom_safety.proofs.Housing.{houses_role}
-use Rattle.aom_semantics.proofs.Maps.{same_place_refl}
+use Rattle.aom_safety.proofs.SemanticsLemmas.{same_place_refl}
 use Rattle.aom_safety.proofs.Owners.{later}
 use Rattle.aom_safety.proofs.Owners.{rank}
 use Rattle.aom_safety.proofs.PickedClose.{parts_well}

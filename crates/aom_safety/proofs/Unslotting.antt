@@ -1,6 +1,6 @@
 -- Where messages hold no slot any more all else is as it was: by what that keeps of a cell.
 use Rattle.std.proofs.Common.{List, [], ap, refl, ℕ, ◌∙◌, ◌∷◌, ◌≡◌}
-use Rattle.aom_semantics.proofs.Altering.{held_kept, named_kept, read_kept, read_so, requests, services, tidy_kept, unslotting}
+use Rattle.aom_safety.proofs.SemanticsLemmas.{held_kept, named_kept, read_kept, read_so, requests, services, tidy_kept, unslotting}
 use Rattle.aom_safety.proofs.Storing.{Alike, alike_itself}
 use Rattle.aom_semantics.specs.Clients.{each_unslotted}
 use Rattle.aom_semantics.specs.Places.{Cell, Service, requested, service_of}

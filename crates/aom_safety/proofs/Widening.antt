@@ -12,7 +12,7 @@ use Rattle.aom_shape.specs.declared.kind.Age.TheVariants.{Ready}
 use Rattle.aom_shape.specs.declared.kind.Kind.{Kind}
 use Rattle.aom_shape.specs.declared.kind.Kind.TheVariants.{Maybe, Null, Own, Unset}
 use Rattle.aom_safety.proofs.Claimed.{claim-set_register}
-use Rattle.aom_semantics.proofs.Maps.{at-put_at}
+use Rattle.aom_safety.proofs.SemanticsLemmas.{at-put_at}
 use Rattle.aom_safety.proofs.Straight.{Fitted, register_fits, relabel, top, word_of_object}
 use Rattle.aom_safety.proofs.Things.{stands_along}
 use Rattle.aom_safety.specs.Claims.{Layer, declared}

@@ -4,7 +4,7 @@ use Rattle.std.proofs.lemmas.List.{nil_from_length}
 use Rattle.std.proofs.lemmas.Bool.{cases_Bool, true≢false}
 use Rattle.std.proofs.Common.{Bool, IfSome, IsSome, IsTrue, List, None, Option, Some, [], ap, arith, false}
 use Rattle.std.proofs.Common.{inl, inr, length, refl, subst, sym, true, ℕ, ◌<◌, ◌∙◌, ◌∷◌, ◌≡◌}
-use Rattle.aom_image.proofs.Given.{none_given, some_given}
+use Rattle.aom_safety.proofs.ImageLemmas.{none_given, some_given}
 use Rattle.std.specs.Prelude.{is_none, not, replicate, ◌||◌, ◌⊎◌}
 use Rattle.std.proofs.lemmas.Option.{slice_get_cases, slice_get_within}
 use Rattle.aom_image.specs.Image.{Image}
@@ -28,10 +28,9 @@ use Rattle.aom_roles.specs.Shapes.{NamesRoles, gives_left, gives_nothing, is_rol
 use Rattle.aom_classes.specs.Linked.{IsLinked}
 use Rattle.aom_classes.specs.Needs.{HasActive, KindNeeds, NeedsMet}
 use Rattle.aom_classes.specs.Roles.{is_inherited, main_of, role_of, same_role}
-use Rattle.aom_classes.proofs.Facts.{all_there, at_place, of_method}
-use Rattle.aom_classes.proofs.Playing.{main_found, own_found, role_inherits, same_roles}
+use Rattle.aom_safety.proofs.ClassesLemmas.{all_there, at_place, main_found, of_method, own_found, role_inherits, same_roles}
 use Rattle.aom_roles.specs.Things.{Member, field_thing, holder_of}
-use Rattle.aom_families.proofs.Weighing.{keeper}
+use Rattle.aom_safety.proofs.FamiliesLemmas.{keeper}
 use Rattle.aom_safety.proofs.Families.{family_kinds, linked_is_family, session_before}
 use Rattle.aom_safety.specs.Laws.{IsAcceptor, IsAnswerer, IsAttendant, IsCalled, IsHandler, IsTrapped, IsWired}
 use Rattle.aom_safety.specs.WellTyped.{IsOfFamily, IsUndo, LeavesNone}
@@ -44,7 +43,7 @@ use Rattle.aom_shape.specs.Arguments.{after_in, after_of, before_in, before_of}
 use Rattle.aom_image.specs.declared.class.ClassKind.{ClassKind}
 use Rattle.aom_image.specs.declared.class.ClassKind.TheVariants.{Active as An_active, Server as A_server}
 use Rattle.aom_roles.specs.Kinds.{is_active_kind}
-use Rattle.aom_shape.proofs.Sets.{has_along}
+use Rattle.aom_safety.proofs.ShapeLemmas.{has_along}
 
 nothing_given : (g : Gives) → gives_nothing g ≡ true → g ≡ Nothing
 unfolding gives_nothing

@@ -14,7 +14,7 @@ use Rattle.aom_shape.specs.declared.kind.Kind.{Kind}
 use Rattle.aom_shape.specs.declared.kind.Kind.TheVariants.{Null}
 use Rattle.aom_safety.proofs.Claimed.{declared_ready}
 use Rattle.aom_safety.proofs.ClientsLeave.{service_left}
-use Rattle.aom_semantics.proofs.Maps.{named_name}
+use Rattle.aom_safety.proofs.SemanticsLemmas.{named_name}
 use Rattle.aom_safety.proofs.Picking.{fits_ready}
 use Rattle.aom_safety.proofs.Queues.{none_stays}
 use Rattle.aom_safety.proofs.Sifted.{cell_in, cell_in_sifted, cell_lives, cell_of, cell_of_sifted, cell_owner, cell_placed, held_cell, kept, named_cell}

@@ -1,5 +1,6 @@
-pub mod Items
-pub mod Places
-pub mod Ready
-pub mod Picks
-pub mod Timing
+mod Items
+mod Places
+mod Ready
+mod Picks
+mod Timing
+pub mod SchedulerLemmas

@@ -1,5 +1,6 @@
-pub mod Faulting
-pub mod Lines
-pub mod Timely
-pub mod Messages
-pub mod Further
+mod Faulting
+mod Lines
+mod Timely
+mod Messages
+mod Further
+pub mod ScriptLemmas

@@ -1,5 +1,6 @@
-pub mod Altering
-pub mod Maps
-pub mod NeedsFail
-pub mod Owning
-pub mod Running
+mod Altering
+mod Maps
+mod NeedsFail
+mod Owning
+mod Running
+pub mod SemanticsLemmas

@@ -1,11 +1,13 @@
-pub mod Sets
-pub mod Lists
-pub mod Piling
-pub mod Views
-pub mod Deciding
-pub mod Judging
-pub mod Meeting
-pub mod Starting
-pub mod Emptying
-pub mod Ordering
-pub mod Moving
+mod Sets
+mod Lists
+mod Piling
+mod Views
+mod Deciding
+mod Judging
+mod Meeting
+mod Starting
+mod Emptying
+mod Ordering
+mod Moving
+pub mod ShapeLemmas
+pub use Rattle.aom_classes.proofs.ClassesLemmas

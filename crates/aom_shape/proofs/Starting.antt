@@ -5,7 +5,7 @@ use Rattle.std.proofs.lemmas.List.{length-set}
 use Rattle.std.proofs.lemmas.Bool.Decides.{eqb_tells, leb_tells}
 use Rattle.aom_image.specs.Image.{Image}
 use Rattle.aom_image.specs.WellFormed.{WellFormed, MethodFits}
-use Rattle.aom_classes.proofs.Facts.{all_there}
+use Rattle.aom_shape.proofs.ClassesLemmas.{all_there}
 use Rattle.aom_image.specs.Views.{method_at, method_role, arguments_of}
 use Rattle.aom_image.specs.declared.method.Argument.{Argument}
 use Rattle.aom_image.specs.declared.method.Method.{Method}

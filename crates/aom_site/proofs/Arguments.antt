@@ -17,8 +17,7 @@ use Rattle.aom_shape.specs.declared.why.Why.TheVariants.{RegisterKind}
 use Rattle.aom_shape.specs.declared.kind.CleanupEntry.{CleanupEntry}
 use Rattle.aom_shape.specs.declared.kind.CleanupEntry.TheVariants.{Operation}
 use Rattle.aom_roles.specs.Tables.{at}
-use Rattle.aom_shape.proofs.Judging.{failed_first, passed_first}
-use Rattle.aom_shape.proofs.Moving.{after, one_on, split}
+use Rattle.aom_site.proofs.ShapeLemmas.{after, failed_first, one_on, passed_first, split}
 
 -- one more is as it is declared, or is not
 needs_one : (p : Image) (sh : Shape) (xs : List Argument) (first i : ℕ) (x : Argument) → i < length xs → x ≡ slice_index_or xs i x →

@@ -19,8 +19,7 @@ use Rattle.aom_shape.specs.Needs.{Need, Flow, judged, tested, to_next}
 use Rattle.aom_shape.specs.Shape.{Shape}
 use Rattle.aom_shape.specs.declared.why.Why.{Why}
 use Rattle.aom_shape.specs.declared.why.Why.TheVariants.{QuietBroken}
-use Rattle.aom_shape.proofs.Judging.{failed_first, passed_first, all_failed, all_passed}
-use Rattle.aom_shape.proofs.Views.{after_there, class_there, role_there, gives_there, arguments_there}
+use Rattle.aom_site.proofs.ShapeLemmas.{after_there, all_failed, all_passed, arguments_there, class_there, failed_first, gives_there, passed_first, role_there}
 
 -- the arguments take no cleanup entry with them
 argument_leaves : (x : Argument) (r : ℕ) (sh : Shape) → (argument_moved x r sh).entries ≡ sh.entries

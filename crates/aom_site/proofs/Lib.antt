@@ -1,4 +1,6 @@
-pub mod Arguments
-pub mod Calling
-pub mod Past
-pub mod Returning
+mod Arguments
+mod Calling
+mod Past
+mod Returning
+pub mod SiteLemmas
+pub use Rattle.aom_shape.proofs.ShapeLemmas

@@ -6,7 +6,7 @@ use Rattle.aom_site.specs.Calls.{rule_ended, rule_left, rule_result, rule_return
 use Rattle.aom_shape.specs.Needs.{Flow, Need, judged, tested}
 use Rattle.aom_shape.specs.Shape.{Shape}
 use Rattle.aom_shape.specs.declared.why.Why.{Why}
-use Rattle.aom_shape.proofs.Judging.{failed_first, passed_first}
+use Rattle.aom_site.proofs.ShapeLemmas.{failed_first, passed_first}
 
 abbrev nowhere : List Flow
 nowhere = []

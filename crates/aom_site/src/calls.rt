@@ -317,7 +317,7 @@ impl<'a> Site<'a> {
     }
 
     /// The parent of the method's class.
-    #[tactic(auto, using(aom_shape::proofs::Views::class_there))]
+    #[tactic(auto, using(aom_shape::proofs::ShapeLemmas::class_there))]
     fn parent_above(&self) -> Option<ClassNumber>
         ensures { result ≡ parent_above self.now.image self.now.method }
     {
@@ -328,7 +328,7 @@ impl<'a> Site<'a> {
     }
 
     /// The method is a construct, and calls that of its class's parent.
-    #[tactic(auto, using(aom_shape::proofs::Views::role_there))]
+    #[tactic(auto, using(aom_shape::proofs::ShapeLemmas::role_there))]
     fn calls_above(&self, method: MethodNumber) -> bool
         ensures { result ≡ (is_construct (method_role self.now.image self.now.method) && constructs_class self.now.image method (parent_above self.now.image self.now.method)) }
     {
@@ -358,7 +358,7 @@ impl<'a> Site<'a> {
     }
 
     /// What is asked where the method is called on the object that it works on itself.
-    #[tactic(auto, using(aom_shape::proofs::Views::class_there))]
+    #[tactic(auto, using(aom_shape::proofs::ShapeLemmas::class_there))]
     fn judge_this(&self, method: MethodNumber, callee: &Method) -> Result<(), Why>
         ensures { result ≡ tested (rule_target self.now.image self.now.method self.now.shape This method callee.now.class (is_construct (Some callee.now.role)) 0 (length callee.now.arguments)) }
     {

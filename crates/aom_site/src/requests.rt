@@ -55,7 +55,7 @@ fn begins_here(linked: &Linked, method: MethodNumber, states: States) -> bool
 }
 
 /// The method begins in each state in which another object may be, unless it constructs that.
-#[tactic(auto, using(aom_shape::proofs::Views::before_there, aom_shape::proofs::Views::class_there, aom_shape::proofs::Views::role_there))]
+#[tactic(auto, using(aom_shape::proofs::ShapeLemmas::before_there, aom_shape::proofs::ShapeLemmas::class_there, aom_shape::proofs::ShapeLemmas::role_there))]
 fn begins_there(linked: &Linked, method: MethodNumber) -> bool
     requires { IsSome (method_at linked.now method) }
     ensures { result ≡ begins_there linked.now method }
@@ -162,7 +162,7 @@ impl Site<'_> {
     }
 
     /// Whether the fields may be left as they are at a return.
-    #[tactic(auto, using(aom_shape::proofs::Views::holder_there, aom_shape::proofs::Views::role_there))]
+    #[tactic(auto, using(aom_shape::proofs::ShapeLemmas::holder_there, aom_shape::proofs::ShapeLemmas::role_there))]
     fn fields_done(&self) -> bool
         ensures { result ≡ fields_done self.now.image (is_destructor self.now.image self.now.method) (holder_of self.now.image self.now.method) self.now.shape.fields }
     {
@@ -189,7 +189,7 @@ impl Site<'_> {
     }
 
     /// The object is in a state in which the method may end.
-    #[tactic(auto, using(aom_shape::proofs::Views::after_there))]
+    #[tactic(auto, using(aom_shape::proofs::ShapeLemmas::after_there))]
     fn needs_end(&self) -> (bool, Why)
         ensures { result ≡ (has (after_of self.now.image self.now.method) self.now.shape.states, EntryState) }
     {
@@ -198,7 +198,7 @@ impl Site<'_> {
     }
 
     /// A service has taken its message.
-    #[tactic(auto, using(aom_shape::proofs::Views::role_there))]
+    #[tactic(auto, using(aom_shape::proofs::ShapeLemmas::role_there))]
     fn needs_taken(&self) -> (bool, Why)
         ensures { result ≡ (only_if (is_service (method_role self.now.image self.now.method)) (not (is_here self.now.shape.delivery)), MessageAtReturn) }
     {

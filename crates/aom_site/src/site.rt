@@ -41,7 +41,7 @@ impl<'a> Model for Site<'a> {
 }
 
 /// A method that makes no objects.
-#[tactic(auto, using(aom_shape::proofs::Views::quiet_there))]
+#[tactic(auto, using(aom_shape::proofs::ShapeLemmas::quiet_there))]
 pub(crate) fn is_quiet(linked: &Linked, method: MethodNumber) -> bool
     requires { IsSome (method_at linked.now method) }
     ensures { result ≡ is_quiet linked.now method }
@@ -49,7 +49,7 @@ pub(crate) fn is_quiet(linked: &Linked, method: MethodNumber) -> bool
     linked.method(method).flags.contains(MethodFlags::QUIET)
 }
 
-#[tactic(auto, using(aom_shape::proofs::Views::leaves_there))]
+#[tactic(auto, using(aom_shape::proofs::ShapeLemmas::leaves_there))]
 pub(crate) fn leaves(linked: &Linked, method: MethodNumber) -> bool
     requires { IsSome (method_at linked.now method) }
     ensures { result ≡ leaves linked.now method }
@@ -58,7 +58,7 @@ pub(crate) fn leaves(linked: &Linked, method: MethodNumber) -> bool
 }
 
 /// What a method gives back.
-#[tactic(auto, using(aom_shape::proofs::Views::gives_there))]
+#[tactic(auto, using(aom_shape::proofs::ShapeLemmas::gives_there))]
 pub(crate) fn gives(linked: &Linked, method: MethodNumber) -> Gives
     requires { IsSome (method_at linked.now method) }
     ensures { result ≡ gives_of linked.now method }

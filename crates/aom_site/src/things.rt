@@ -139,7 +139,7 @@ fn words_by(linked: &Linked, role: Role, class: Option<ClassNumber>) -> u8
 }
 
 /// How many words the method works on.
-#[tactic(auto, using(aom_shape::proofs::Views::holder_there))]
+#[tactic(auto, using(aom_shape::proofs::ShapeLemmas::holder_there))]
 pub(crate) fn word_count(linked: &Linked, method: MethodNumber) -> u8
     requires { IsSome (method_at linked.now method) }
     ensures { result ≡ word_count linked.now (holder_of linked.now method) }

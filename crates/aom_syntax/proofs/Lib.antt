@@ -1,12 +1,16 @@
-pub mod Within
-pub mod Numbers
-pub mod RangedNames
-pub mod RangedOperands
-pub mod RangedInstructions
-pub mod RangedHeaders
-pub mod RangedLists
-pub mod RangedClasses
-pub mod RangedStates
-pub mod RangedHeadings
-pub mod Lists
-pub mod Places
+mod Within
+mod Numbers
+mod RangedNames
+mod RangedOperands
+mod RangedInstructions
+mod RangedHeaders
+mod RangedLists
+mod RangedClasses
+mod RangedStates
+mod RangedHeadings
+mod Lists
+mod Places
+pub mod SyntaxLemmas
+pub use Rattle.aom_image.proofs.ImageLemmas
+pub use Rattle.aom_instructions.proofs.InstructionsLemmas
+pub use Rattle.aom_text.proofs.TextLemmas

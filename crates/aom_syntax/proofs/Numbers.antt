@@ -12,7 +12,7 @@ use Rattle.aom_syntax.specs.Reading.{giving, in_range, number, number_in, option
 use Rattle.aom_syntax.specs.Operands.{signed, signed_of}
 use Rattle.aom_syntax.specs.declared.keyword.Keyword.{Keyword}
 use Rattle.aom_syntax.proofs.Within.{Within, either, giving_within, seen_within, ok_is}
-use Rattle.aom_image.proofs.Given.{some_given}
+use Rattle.aom_syntax.proofs.ImageLemmas.{some_given}
 
 in_range_is : {X : Type 0} (o : Option X) (x : X) → in_range o ≡ Ok x → o ≡ Some x
 in_range_is o x is = some_given (λ o. in_range o ≡ Ok x) o is (λ e. cc) (λ y same e. same ∙ ap Some (ok_is y x e))

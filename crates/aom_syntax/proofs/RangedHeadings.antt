@@ -33,7 +33,7 @@ use Rattle.aom_syntax.proofs.Within.{Within, after, either, failing_within, givi
 use Rattle.aom_syntax.proofs.RangedNames.{IsKnown, all_known, declared_below, used_below}
 use Rattle.aom_syntax.proofs.RangedLists.{ListFits, listed_fits, thing_fits, thing_within}
 use Rattle.aom_syntax.proofs.RangedStates.{AreStates, after_below, all_few, before_below, flags_below, states_within, words_few}
-use Rattle.aom_image.proofs.Given.{some_given}
+use Rattle.aom_syntax.proofs.ImageLemmas.{some_given}
 
 -- ---- what an accept gives
 

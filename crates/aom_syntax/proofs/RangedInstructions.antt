@@ -9,7 +9,7 @@ use Rattle.aom_instructions.specs.declared.limits.Limits.{Limits}
 use Rattle.aom_instructions.specs.declared.operand.Operands.{Operands}
 use Rattle.aom_instructions.specs.Fits.{InstrFits, limits}
 use Rattle.aom_instructions.specs.declared.instr.Instr.{Instr}
-use Rattle.aom_instructions.proofs.Again.{making_parts_again}
+use Rattle.aom_syntax.proofs.InstructionsLemmas.{making_parts_again}
 use Rattle.aom_instructions.specs.Parts.{make, operands_of}
 use Rattle.aom_instructions.specs.Rows.{row}
 use Rattle.aom_instructions.specs.declared.kinds.LargeKind.{LargeKind}

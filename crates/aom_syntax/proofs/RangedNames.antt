@@ -10,7 +10,7 @@ use Rattle.aom_syntax.specs.Reading.{name}
 use Rattle.aom_syntax.specs.Operands.{used}
 use Rattle.aom_syntax.specs.Classes.{declared, is_at}
 use Rattle.aom_syntax.proofs.Within.{Within, ok_is, passed, seen_within}
-use Rattle.aom_image.proofs.Given.{some_given, false_given}
+use Rattle.aom_syntax.proofs.ImageLemmas.{false_given, some_given}
 
 place_below : (n : List ℕ) (names : List (List ℕ)) (k : ℕ) → place_of n names ≡ Some k → k < length names
 place_below n names k is = (position-Some (λ m. bytes_eq m n) names k [] is).0

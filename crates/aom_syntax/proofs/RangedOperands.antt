@@ -11,7 +11,7 @@ use Rattle.aom_syntax.specs.Reading.{◌>>=◌, word}
 use Rattle.aom_syntax.specs.Operands.{depth, field, index_of, indexed, last_register, register, rounds, target, target_of, word_field}
 use Rattle.aom_syntax.proofs.Numbers.{Between, in_range_between, number_between}
 use Rattle.aom_syntax.proofs.Within.{Within, ok_is, passed, seen_within, value_is, weaker, kept, made_of}
-use Rattle.aom_image.proofs.Given.{some_given, cons_given}
+use Rattle.aom_syntax.proofs.ImageLemmas.{cons_given, some_given}
 
 index_most : (highest : ℕ) (o : Option Number) (x : ℕ) → index_of highest o ≡ Ok x → x ≤ highest
 index_most highest o x is = grind (arith, nat_tests, some_given, in_range_between 0 highest, kept)

@@ -1,1 +1,2 @@
-pub mod Parting
+mod Parting
+pub mod TextLemmas

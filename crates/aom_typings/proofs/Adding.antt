@@ -2,7 +2,7 @@
 use Rattle.std.proofs.lemmas.Bool.Decides.{nat_tests}
 use Rattle.std.proofs.Common.{◌≡◌, ◌<◌, ◌≤◌, ◌+◌, ◌-◌, ◌*◌, ◌∙◌, ℕ, zero, suc, Bool, true, false, cond, List, [], ◌∷◌, length, Some, None, inl, inr, ⊎_elim}
 use Rattle.std.proofs.Common.{refl, sym, ap, arith, subst}
-use Rattle.aom_image.proofs.Given.{some_given}
+use Rattle.aom_typings.proofs.ImageLemmas.{some_given}
 use Rattle.std.specs.Prelude.{IfSome, IsSome, max}
 use Rattle.std.proofs.lemmas.Option.{slice_get_within}
 use Rattle.aom_image.specs.Image.{Image}
@@ -10,8 +10,7 @@ use Rattle.aom_image.specs.Views.{instr_at, method_at}
 use Rattle.aom_instructions.specs.declared.instr.Instr.{Instr}
 use Rattle.aom_instructions.specs.declared.instr.Instr.TheVariants.{Loop, Next}
 use Rattle.aom_image.specs.declared.method.Method.{Method}
-use Rattle.aom_classes.proofs.Bodies.{linked_is_looped}
-use Rattle.aom_classes.proofs.Facts.{linked_place, of_method}
+use Rattle.aom_typings.proofs.ClassesLemmas.{linked_is_looped, linked_place, of_method}
 use Rattle.aom_classes.specs.Bodies.{Body, IsLooped}
 use Rattle.aom_classes.specs.Linked.{IsLinked}
 use Rattle.aom_classes.specs.Loops.{loop_in, next_in}

@@ -14,7 +14,7 @@ use Rattle.aom_rules.specs.Rules.{flows, rule_needs}
 use Rattle.aom_shape.specs.Shape.{Shape}
 use Rattle.aom_rules.specs.Typing.{IsTyped, Typing}
 use Rattle.aom_shape.specs.declared.kind.Kind.{Kind}
-use Rattle.aom_rules.proofs.Monotone.{flows_more}
+use Rattle.aom_typings.proofs.RulesLemmas.{flows_more}
 use Rattle.aom_typings.specs.Costs.{AmongFlows, ArePrices, Costs, GoesOut, Region}
 use Rattle.aom_typings.specs.Costs.Costs.{outside, ends, goes, loops, loops_in}
 use Rattle.aom_typings.specs.Prices.{Prices, Stands, own}

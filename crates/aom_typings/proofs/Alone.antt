@@ -8,10 +8,9 @@ use Rattle.aom_image.specs.Views.{method_at}
 use Rattle.aom_image.specs.declared.method.Method.{Method}
 use Rattle.aom_image.specs.declared.method.Role.TheVariants.{Destruct}
 use Rattle.aom_image.specs.declared.method.Thing.{Thing}
-use Rattle.aom_roles.proofs.Descending.{child, itself, one_class}
+use Rattle.aom_typings.proofs.RolesLemmas.{child, itself, one_class}
 use Rattle.aom_roles.specs.Families.{HasNoParents, parent_of}
-use Rattle.aom_classes.proofs.Keeping.{role_alone}
-use Rattle.aom_classes.proofs.Leading.{none_leads}
+use Rattle.aom_typings.proofs.ClassesLemmas.{none_leads, role_alone}
 use Rattle.aom_classes.specs.Overriding.{OverridesNothing}
 use Rattle.aom_classes.specs.Overriding.{leads_in, over_in, overrides}
 use Rattle.aom_classes.specs.Roles.{destructor_of}

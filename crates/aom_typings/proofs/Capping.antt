@@ -1,14 +1,14 @@
 -- What one pass finds with each sum kept up to a limit is, up to the limit, what it finds with whole sums.
 use Rattle.std.proofs.lemmas.Bool.Decides.{nat_tests}
 use Rattle.std.proofs.Common.{◌≡◌, ◌<◌, ◌≤◌, ◌∙◌, ℕ, zero, suc, length, Some, None, inl, ⊎_elim, refl, sym, ap, arith, subst}
-use Rattle.aom_image.proofs.Given.{some_given}
+use Rattle.aom_typings.proofs.ImageLemmas.{some_given}
 use Rattle.std.specs.Prelude.{IsSome, max, min}
 use Rattle.std.proofs.lemmas.Bool.{cases_lt}
 use Rattle.aom_image.specs.Image.{Image}
 use Rattle.aom_image.specs.Views.{instr_at, method_at}
 use Rattle.aom_instructions.specs.declared.instr.Instr.{Instr}
 use Rattle.aom_instructions.specs.declared.instr.Instr.TheVariants.{Loop, Next}
-use Rattle.aom_classes.proofs.Bodies.{linked_is_looped}
+use Rattle.aom_typings.proofs.ClassesLemmas.{linked_is_looped}
 use Rattle.aom_classes.specs.Bodies.{Body, IsLooped}
 use Rattle.aom_classes.specs.Loops.{loop_in, next_in}
 use Rattle.aom_rules.specs.Rules.{flows}

@@ -1,26 +1,32 @@
-pub mod Among
-pub mod Lines
-pub mod Mosts
-pub mod Alone
-pub mod Listed
-pub mod Paid
-pub mod Ways
-pub mod Regions
-pub mod At
-pub mod Paths
-pub mod Adding
-pub mod Paying
-pub mod Going
-pub mod Worked
-pub mod Related
-pub mod Moving
-pub mod Outs
-pub mod Places
-pub mod Methods
-pub mod Making
-pub mod Capped
-pub mod Capping
-pub mod Unique
-pub mod Alike
-pub mod Typings
-pub mod Within
+mod Among
+mod Lines
+mod Mosts
+mod Alone
+mod Listed
+mod Paid
+mod Ways
+mod Regions
+mod At
+mod Paths
+mod Adding
+mod Paying
+mod Going
+mod Worked
+mod Related
+mod Moving
+mod Outs
+mod Places
+mod Methods
+mod Making
+mod Capped
+mod Capping
+mod Unique
+mod Alike
+mod Typings
+mod Within
+pub mod TypingsLemmas
+pub use Rattle.aom_classes.proofs.ClassesLemmas
+pub use Rattle.aom_image.proofs.ImageLemmas
+pub use Rattle.aom_roles.proofs.RolesLemmas
+pub use Rattle.aom_rules.proofs.RulesLemmas
+pub use Rattle.aom_shape.proofs.ShapeLemmas

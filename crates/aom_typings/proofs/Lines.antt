@@ -6,10 +6,9 @@ use Rattle.aom_image.specs.Views.{class_in}
 use Rattle.aom_image.specs.declared.method.Role.TheVariants.{Destruct}
 use Rattle.aom_image.specs.declared.method.Thing.{Thing}
 use Rattle.aom_image.specs.declared.method.Thing.TheVariants.{Object}
-use Rattle.aom_roles.proofs.Descending.{fewer, none_below, parent_below}
+use Rattle.aom_typings.proofs.RolesLemmas.{fewer, none_below, parent_below}
 use Rattle.aom_roles.specs.Families.{parent_of, parent_above}
-use Rattle.aom_classes.proofs.Keeping.{keeper_none, keeper_own, keeper_up}
-use Rattle.aom_classes.proofs.Playing.{own_found}
+use Rattle.aom_typings.proofs.ClassesLemmas.{keeper_none, keeper_own, keeper_up, own_found}
 use Rattle.aom_classes.specs.Roles.{destructor_of, keeper_of, own_role, role_by, role_of}
 use Rattle.aom_typings.specs.Most.{line, line_after, line_from, line_in}
 

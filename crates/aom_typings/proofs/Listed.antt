@@ -8,13 +8,13 @@ use Rattle.aom_image.specs.Image.{Image}
 use Rattle.aom_image.specs.declared.method.Role.TheVariants.{Cancel, Destruct}
 use Rattle.aom_image.specs.declared.method.Thing.{Thing}
 use Rattle.aom_image.specs.declared.method.Thing.TheVariants.{Object}
-use Rattle.aom_roles.proofs.Descending.{itself, through}
+use Rattle.aom_typings.proofs.RolesLemmas.{itself, through}
 use Rattle.aom_roles.specs.Classes.{sessions_at}
 use Rattle.aom_roles.specs.Families.{descends, descends_in, parent_of}
 use Rattle.aom_classes.specs.Overriding.{leads_in, over_in, overrides}
 use Rattle.aom_classes.specs.Roles.{own_role, role_of}
-use Rattle.aom_classes.proofs.Keeping.{keeper_found}
-use Rattle.aom_image.proofs.Given.{some_given}
+use Rattle.aom_typings.proofs.ClassesLemmas.{keeper_found}
+use Rattle.aom_typings.proofs.ImageLemmas.{some_given}
 use Rattle.aom_roles.specs.Things.{stands_for}
 use Rattle.aom_typings.specs.Calls.{Among, bodies, cancels, destructors, each_below, each_of, lines, lines_of, listed, thing_class}
 use Rattle.aom_typings.specs.Layers.{Cancelled, Destructs, InLine, MayRun, Runs}

@@ -12,7 +12,7 @@ use Rattle.aom_instructions.specs.declared.instr.Instr.{Instr}
 use Rattle.aom_instructions.specs.declared.instr.Instr.TheVariants.{Loop, Next}
 use Rattle.aom_image.specs.declared.method.Method.{Method}
 use Rattle.aom_image.specs.declared.method.Thing.{Thing}
-use Rattle.aom_classes.proofs.Bodies.{linked_is_looped}
+use Rattle.aom_typings.proofs.ClassesLemmas.{linked_is_looped}
 use Rattle.aom_classes.specs.Bodies.{Body, IsLooped}
 use Rattle.aom_classes.specs.Linked.{IsLinked}
 use Rattle.aom_classes.specs.Loops.{loop_in, next_in}
@@ -35,7 +35,7 @@ use Rattle.aom_typings.proofs.Outs.{body_out, exit_most}
 use Rattle.aom_typings.proofs.Paying.{law_pays}
 use Rattle.aom_typings.proofs.Regions.{by_kind, innermost, innermost_of_body, one_end, one_innermost}
 use Rattle.aom_typings.proofs.Among.{below_next, either_max}
-use Rattle.aom_image.proofs.Given.{none_given, some_given}
+use Rattle.aom_typings.proofs.ImageLemmas.{none_given, some_given}
 use Rattle.aom_typings.specs.Costs.{GoesOut}
 use Rattle.aom_typings.proofs.Outs.{exit_one}
 

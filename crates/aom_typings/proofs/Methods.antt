@@ -1,7 +1,7 @@
 -- Which methods are there, by their numbers.
 use Rattle.std.proofs.lemmas.Bool.Decides.{nat_tests}
 use Rattle.std.proofs.Common.{arith, ◌≡◌, ◌<◌, ℕ, length, Some, inl, inr}
-use Rattle.aom_image.proofs.Given.{some_given}
+use Rattle.aom_typings.proofs.ImageLemmas.{some_given}
 use Rattle.std.specs.Prelude.{IsSome}
 use Rattle.std.proofs.lemmas.Option.{slice_get_within}
 use Rattle.aom_image.specs.Image.{Image}
@@ -9,8 +9,8 @@ use Rattle.aom_image.specs.Views.{method_at}
 use Rattle.aom_image.specs.declared.method.Method.{Method}
 use Rattle.aom_image.specs.declared.method.Thing.{Thing}
 use Rattle.aom_image.specs.declared.method.Thing.TheVariants.{Object}
-use Rattle.aom_classes.proofs.Playing.{own_found}
-use Rattle.aom_shape.proofs.Lists.{there}
+use Rattle.aom_typings.proofs.ClassesLemmas.{own_found}
+use Rattle.aom_typings.proofs.ShapeLemmas.{there}
 use Rattle.aom_typings.specs.Layers.{Destructs, InLine}
 
 pub method_within : (p : Image) (m : ℕ) (d : Method) → method_at p m ≡ Some d → m < length p.methods

@@ -15,8 +15,8 @@ use Rattle.aom_image.specs.declared.method.Thing.{Thing}
 use Rattle.aom_image.specs.declared.method.Thing.TheVariants.{Object, Message}
 use Rattle.aom_roles.specs.Families.{descends, descends_in, lower, parent_in, parent_of}
 use Rattle.aom_roles.specs.Classes.{is_session, is_session_in, is_session_kind, kind_in}
-use Rattle.aom_roles.proofs.Descending.{along, from_none, itself, through}
-use Rattle.aom_classes.proofs.Facts.{all_there}
+use Rattle.aom_typings.proofs.RolesLemmas.{along, from_none, itself, through}
+use Rattle.aom_typings.proofs.ClassesLemmas.{all_there}
 use Rattle.aom_classes.specs.Families.{Continues, ContinuesParent}
 use Rattle.aom_classes.specs.Linked.{IsLinked}
 use Rattle.aom_classes.specs.Overriding.{overrides}

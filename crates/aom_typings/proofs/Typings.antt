@@ -4,12 +4,12 @@ use Rattle.std.proofs.Common.{◌≡◌, ℕ, zero, suc, ◌<◌, ◌+◌, List,
 use Rattle.std.proofs.lemmas.Bool.Decides.{eqb_tells, leb_tells}
 use Rattle.aom_image.specs.Image.{Image}
 use Rattle.aom_image.specs.Views.{method_at}
-use Rattle.aom_classes.proofs.Views.{within}
+use Rattle.aom_typings.proofs.ClassesLemmas.{within}
 use Rattle.aom_shape.specs.Needs.{Flow}
 use Rattle.aom_shape.specs.Shape.{Shape}
 use Rattle.aom_roles.specs.Tables.{at}
 use Rattle.aom_rules.specs.Typing.{Typing, IsTyped, Passes, AllLead, shape_at}
-use Rattle.aom_shape.proofs.Lists.{at_past, there}
+use Rattle.aom_typings.proofs.ShapeLemmas.{at_past, there}
 use Rattle.aom_typings.specs.Shapes.{Shapes, AllMet, IsBelow, Applies, IsMethodTyped, HasTyping}
 use Rattle.aom_typings.specs.Strongest.{IsMethodStrongest, IsStrongest}
 

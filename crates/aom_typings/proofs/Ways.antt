@@ -12,7 +12,7 @@ use Rattle.aom_shape.specs.Shape.{Shape}
 use Rattle.aom_rules.specs.Typing.{AllLead, Typing, shape_at}
 use Rattle.aom_shape.specs.declared.kind.Filling.{Filling}
 use Rattle.aom_shape.specs.declared.kind.Kind.{Kind}
-use Rattle.aom_rules.proofs.Ways.{leads}
+use Rattle.aom_typings.proofs.RulesLemmas.{leads}
 use Rattle.aom_typings.specs.Costs.{AmongFlows}
 use Rattle.aom_typings.proofs.Among.{by_flow}
 

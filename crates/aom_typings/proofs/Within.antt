@@ -3,7 +3,7 @@ use Rattle.std.proofs.Common.{◌≡◌, ℕ, ◌≤◌, List, Some, IsSome, ref
 use Rattle.aom_image.specs.Image.{Image}
 use Rattle.aom_image.specs.Views.{instr_at, method_at}
 use Rattle.aom_instructions.specs.declared.instr.Instr.{Instr}
-use Rattle.aom_classes.proofs.Facts.{of_method}
+use Rattle.aom_typings.proofs.ClassesLemmas.{of_method}
 use Rattle.aom_roles.specs.Tables.{at}
 use Rattle.aom_typings.specs.Calls.{MayCall}
 use Rattle.aom_typings.specs.Depths.{Frames, HasDepths, DepthsWithin}

@@ -6,7 +6,7 @@ use Rattle.aom_shape.specs.Changes.{kept_shape}
 use Rattle.aom_roles.specs.Tables.{at}
 use Rattle.aom_shape.specs.declared.piles.Node.{Node}
 use Rattle.aom_shape.specs.declared.shape.Kept.{Kept}
-use Rattle.aom_shape.proofs.Lists.{at_set_other}
+use Rattle.aom_verify.proofs.ShapeLemmas.{at_set_other}
 use Rattle.aom_typings.specs.Shapes.{Shapes, IsBelow}
 use Rattle.aom_verify.specs.Change.{IsChange, step_then, then}
 use Rattle.aom_verify.specs.States.{shapes_of}

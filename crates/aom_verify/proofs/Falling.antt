@@ -8,7 +8,7 @@ use Rattle.aom_shape.specs.Order.WeakerFilling.{alike_filling, perhaps_empty, pe
 use Rattle.aom_shape.specs.Shape.{Shape}
 use Rattle.aom_roles.specs.Tables.{at}
 use Rattle.aom_image.specs.Views.{has}
-use Rattle.aom_shape.proofs.Sets.{has_itself, larger}
+use Rattle.aom_verify.proofs.ShapeLemmas.{has_itself, larger}
 use Rattle.aom_shape.specs.declared.kind.Filling.{Filling}
 use Rattle.aom_shape.specs.declared.kind.Filling.TheVariants.{Perhaps}
 use Rattle.aom_shape.specs.declared.kind.Kind.{Kind}

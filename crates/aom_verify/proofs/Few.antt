@@ -9,8 +9,8 @@ use Rattle.aom_shape.specs.Meet.{IsMeet}
 use Rattle.aom_shape.specs.Needs.{Flow}
 use Rattle.aom_shape.specs.Shape.{Shape}
 use Rattle.aom_roles.specs.Tables.{at}
-use Rattle.aom_rules.proofs.Growing.{at_most_one_more}
-use Rattle.aom_shape.proofs.Lists.{at_within, at_set_here, at_set_other}
+use Rattle.aom_verify.proofs.RulesLemmas.{at_most_one_more}
+use Rattle.aom_verify.proofs.ShapeLemmas.{at_set_here, at_set_other, at_within}
 use Rattle.aom_typings.specs.Shapes.{Shapes}
 use Rattle.aom_verify.specs.Change.{unreached, unreached_count, IsChange}
 use Rattle.aom_verify.specs.Entries.{HasFewEntries, IsFew, AllFew, HasRoom}

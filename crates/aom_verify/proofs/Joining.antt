@@ -10,8 +10,7 @@ use Rattle.aom_shape.specs.Order.{SaysNoMore}
 use Rattle.aom_shape.specs.Shape.{Shape}
 use Rattle.aom_roles.specs.Tables.{at}
 use Rattle.aom_shape.specs.declared.why.Why.{Why}
-use Rattle.aom_shape.proofs.Ordering.{reflexive, transitive}
-use Rattle.aom_shape.proofs.Lists.{at_within, at_set_here, at_set_other}
+use Rattle.aom_verify.proofs.ShapeLemmas.{at_set_here, at_set_other, at_within, reflexive, transitive}
 use Rattle.aom_typings.specs.Shapes.{Shapes, Meets, AllMet, IsBelow}
 use Rattle.aom_verify.specs.Arrivals.{Arrives, AllArrive, EachArrives, JoinFails}
 use Rattle.aom_verify.specs.Arrivals.Arrives.{met as met_there}

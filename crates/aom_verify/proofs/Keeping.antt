@@ -12,7 +12,7 @@ use Rattle.aom_roles.specs.Tables.{at}
 use Rattle.aom_shape.specs.declared.piles.Node.{Node}
 use Rattle.aom_shape.specs.declared.shape.Kept.{Kept}
 use Rattle.aom_shape.specs.declared.why.Why.{Why}
-use Rattle.aom_shape.proofs.Lists.{at_within, at_set_here, at_set_other}
+use Rattle.aom_verify.proofs.ShapeLemmas.{at_set_here, at_set_other, at_within}
 use Rattle.aom_typings.specs.Shapes.{Shapes}
 use Rattle.aom_verify.specs.Entries.{IsFew}
 use Rattle.aom_verify.specs.Faults.{JoinStops}

@@ -1,13 +1,18 @@
-pub mod Ordering
-pub mod Falling
-pub mod Joining
-pub mod Ahead
-pub mod Few
-pub mod Keeping
-pub mod Following
-pub mod Ways
-pub mod Visiting
-pub mod Sweeping
-pub mod Stopping
-pub mod Places
-pub mod Refusing
+mod Ordering
+mod Falling
+mod Joining
+mod Ahead
+mod Few
+mod Keeping
+mod Following
+mod Ways
+mod Visiting
+mod Sweeping
+mod Stopping
+mod Places
+mod Refusing
+pub mod VerifyLemmas
+pub use Rattle.aom_classes.proofs.ClassesLemmas
+pub use Rattle.aom_rules.proofs.RulesLemmas
+pub use Rattle.aom_shape.proofs.ShapeLemmas
+pub use Rattle.aom_typings.proofs.TypingsLemmas

@@ -2,7 +2,7 @@
 use Rattle.std.proofs.Common.{ℕ}
 use Rattle.aom_shape.specs.Order.{SaysNoMore}
 use Rattle.aom_shape.specs.Shape.{Shape}
-use Rattle.aom_shape.proofs.Ordering.{reflexive, transitive}
+use Rattle.aom_verify.proofs.ShapeLemmas.{reflexive, transitive}
 use Rattle.aom_typings.specs.Shapes.{Shapes, Meets, IsBelow}
 
 pub meets_more : (s : Shapes) (to : ℕ) (a b : Shape) → Meets s to a → SaysNoMore a b → Meets s to b

@@ -4,7 +4,7 @@ use Rattle.aom_image.specs.Image.{Image}
 use Rattle.aom_image.specs.Views.{method_at}
 use Rattle.aom_image.specs.WellFormed.{WellFormed, MethodFits}
 use Rattle.aom_image.specs.declared.method.Method.{Method}
-use Rattle.aom_classes.proofs.Facts.{all_there}
+use Rattle.aom_verify.proofs.ClassesLemmas.{all_there}
 use Rattle.aom_shape.specs.Shape.{Shape}
 use Rattle.aom_typings.specs.Shapes.{Shapes}
 use Rattle.aom_verify.specs.Entries.{HasRoom}

@@ -8,7 +8,7 @@ use Rattle.aom_shape.specs.Shape.{Shape}
 use Rattle.aom_roles.specs.Tables.{at}
 use Rattle.aom_shape.specs.Arguments.{entry_shape}
 use Rattle.aom_shape.specs.declared.why.Why.{Why}
-use Rattle.aom_shape.proofs.Lists.{at_set_here, at_set_other, at_past}
+use Rattle.aom_verify.proofs.ShapeLemmas.{at_past, at_set_here, at_set_other}
 use Rattle.aom_typings.specs.Shapes.{Shapes, IsBelow, IsMethodTyped, HasTyping}
 use Rattle.aom_typings.specs.Strongest.{IsMethodStrongest}
 use Rattle.aom_verify.specs.Arrivals.{AllArrive, StatesFail}

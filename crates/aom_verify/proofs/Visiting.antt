@@ -8,7 +8,7 @@ use Rattle.aom_rules.specs.Rules.{flows}
 use Rattle.aom_shape.specs.Shape.{Shape}
 use Rattle.aom_roles.specs.Tables.{at}
 use Rattle.aom_shape.specs.declared.why.Why.{Why}
-use Rattle.aom_rules.proofs.Monotone.{needs_more, flows_more}
+use Rattle.aom_verify.proofs.RulesLemmas.{flows_more, needs_more}
 use Rattle.aom_typings.specs.Shapes.{Shapes, AllMet, IsBelow, Applies, IsMethodTyped}
 use Rattle.aom_verify.specs.Arrivals.{Arrives, IsOneOf, AllArrive, EachArrives, JoinFails, StatesFail}
 use Rattle.aom_verify.specs.Arrivals.Arrives.{led}

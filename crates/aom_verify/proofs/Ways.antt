@@ -7,8 +7,7 @@ use Rattle.aom_instructions.specs.declared.instr.Instr.{Instr}
 use Rattle.aom_classes.specs.Jumps.{KeepsWithin, back_of, jump_of}
 use Rattle.aom_classes.specs.Linked.{IsLinked}
 use Rattle.aom_classes.specs.Loops.{LoopsNest}
-use Rattle.aom_classes.proofs.Facts.{at_place, of_method, linked_place}
-use Rattle.aom_classes.proofs.Nested.{back_within}
+use Rattle.aom_verify.proofs.ClassesLemmas.{at_place, back_within, linked_place, of_method}
 use Rattle.aom_image.specs.declared.method.Method.{Method}
 use Rattle.aom_roles.specs.Tests.{AllTrue}
 use Rattle.aom_shape.specs.Kinds.{register, field}
@@ -24,8 +23,7 @@ use Rattle.aom_shape.specs.declared.kind.Filling.TheVariants as fillings
 use Rattle.aom_shape.specs.declared.kind.Kind.{Kind}
 use Rattle.aom_shape.specs.declared.kind.Kind.TheVariants as kinds
 use Rattle.aom_shape.specs.declared.why.Why.{Why}
-use Rattle.aom_rules.proofs.Branching.{by_states}
-use Rattle.aom_rules.proofs.Ways.{Leads, leads}
+use Rattle.aom_verify.proofs.RulesLemmas.{Leads, by_states, leads}
 use Rattle.aom_verify.specs.Sweep.{AllWithin, Flows, Fails, WithinMethod}
 
 judged_ok : (needs : List Need) (fs gs : List Flow) → judged needs fs ≡ Ok gs → AllTrue needs × (gs ≡ fs)

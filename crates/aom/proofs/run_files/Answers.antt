@@ -5,7 +5,7 @@ use denote.Param.Object.{read_made}
 use Rattle.aom_natives.specs.declared.kind.NativeKind.TheVariants.{Counter, Line, Delay}
 use Rattle.aom_natives.specs.declared.counter.Counter.{Counter as Adder}
 use Rattle.aom_commands.specs.Beside.{Stance, counter_at, delay_at, line_at, new_of}
-use Rattle.aom_commands.proofs.Boxes.{all_made, none_made, one_more_made, stands_same}
+use Rattle.aom.proofs.CommandsLemmas.{all_made, none_made, one_more_made, stands_same}
 use Rattle.aom.proofs.run_files.OwnLists.{own-1, at-1-1, at-1-2, at-1-3}
 use Rattle.aom.proofs.run_files.Goals as goal
 use Rattle.aom.proofs.run_files.Goals.{in-Counter+in_ok-new-in-Counter+in_ok-push-in-Counter, in-Line+in_ok-new-in-Line+in_ok-push-in-Line}

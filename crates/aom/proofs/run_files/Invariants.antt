@@ -1,5 +1,5 @@
 -- There is a new native for each kind so far, in their order.
-use Rattle.aom_commands.proofs.Boxes.{Made}
+use Rattle.aom.proofs.CommandsLemmas.{Made}
 use Rattle.aom.proofs.run_files.OwnLists.{own-1}
 use Rattle.aom.proofs.run_files.Given as goal
 

@@ -1,5 +1,5 @@
 -- New natives owe nothing.
-use Rattle.aom_commands.proofs.Boxes.{owe_nothing}
+use Rattle.aom.proofs.CommandsLemmas.{owe_nothing}
 use Rattle.aom.proofs.Purpose.run.Goals as goal
 
 pub run_bytes-requires-clause-owed : goal.run_bytes-requires-clause-owed

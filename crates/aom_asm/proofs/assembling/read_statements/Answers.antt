@@ -11,7 +11,7 @@ use Rattle.aom_image.specs.declared.class.ClassDecl.{ClassDecl}
 use Rattle.aom_asm.specs.Body.{Program}
 use Rattle.aom_asm.proofs.assembling.read_statements.Goals as goal
 use Rattle.aom_asm.proofs.Steps.{said}
-use Rattle.aom_syntax.proofs.Within.{ok_is}
+use Rattle.aom_asm.proofs.SyntaxLemmas.{ok_is}
 
 fails : (last : ℕ) (ss : List Statement) (e : AsmFault) → read_program last (scope_of false ss []) ss ≡ Err e → read_statements last ss ≡ Err e
 fails last ss e is = ap (λ r. and_then r (λ first. and_then (read_program last (scope_of true ss first.classes) ss) (λ p. Ok (image_of p)))) is

@@ -3,7 +3,7 @@ use Rattle.std.proofs.Common.{ℕ, ◌≡◌, ◌*◌, ◌∙◌, ap, rules, sym
 use Rattle.aom_image.specs.declared.method.Thing.TheVariants.{Object}
 use Rattle.aom_typings.specs.Prices.{kind_sessions}
 use Rattle.aom_typings.specs.Sweeping.{going}
-use Rattle.aom_typings.proofs.Capped.{alike_times}
+use Rattle.aom_budget.proofs.TypingsLemmas.{alike_times}
 use Rattle.aom_budget.specs.Pricing.{kept, price_by}
 use Rattle.aom_budget.proofs.destructions.kind_sessions.Goals as goal
 

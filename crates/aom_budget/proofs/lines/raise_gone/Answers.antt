@@ -1,6 +1,6 @@
 -- One class more, and all of them.
 use Rattle.std.proofs.Common.{◌≡◌, ◌∙◌, length, rules}
-use Rattle.aom_typings.proofs.Listed.{gone_with}
+use Rattle.aom_budget.proofs.TypingsLemmas.{gone_with}
 use Rattle.aom_budget.proofs.Lined.{absent_gone}
 use Rattle.aom_budget.proofs.Raised.{greatest_made, raised_next}
 use Rattle.aom_budget.proofs.lines.raise_gone.Goals as goal

@@ -1,6 +1,6 @@
 use Rattle.std.proofs.Common.{◌<◌, ◌∙◌, slice_index_or, subst, sym, arith}
 use Rattle.aom_image.specs.declared.method.Role.TheVariants.{Cancel}
-use Rattle.aom_roles.proofs.Descending.{parent_below}
+use Rattle.aom_classes.proofs.RolesLemmas.{parent_below}
 use Rattle.aom_classes.specs.Calls.{CancelsBelow}
 use Rattle.aom_classes.specs.Orders.{IsLeast}
 use Rattle.aom_classes.proofs.Keeping.{keeper_none, keeper_up}

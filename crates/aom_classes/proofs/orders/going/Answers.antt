@@ -1,5 +1,5 @@
 use Rattle.std.proofs.Common.{◌<◌, ◌∙◌, sym, arith}
-use Rattle.aom_roles.proofs.Descending.{parent_below}
+use Rattle.aom_classes.proofs.RolesLemmas.{parent_below}
 use Rattle.aom_classes.specs.Calls.{GoesBelow}
 use Rattle.aom_classes.proofs.Ordering.{goes_none, goes_parent, least_at, least_max, least_same}
 use Rattle.aom_classes.proofs.orders.going.Goals as goal

@@ -1,5 +1,5 @@
 use Rattle.std.proofs.Common.{◌∙◌, ap, not, refl, sym}
-use Rattle.aom_roles.proofs.Descending.{parent_below}
+use Rattle.aom_classes.proofs.RolesLemmas.{parent_below}
 use Rattle.aom_classes.specs.Roles.{role_by}
 use Rattle.aom_classes.proofs.Keeping.{here_kept, keeper_none, keeper_up, no_method}
 use Rattle.aom_classes.proofs.roles.kept_role.Goals as goal

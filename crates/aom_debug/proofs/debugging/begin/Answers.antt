@@ -3,7 +3,7 @@ use Rattle.std.proofs.Common.{◌≡◌, length, subst, sym}
 use Rattle.std.proofs.lemmas.Result.{IfErr-weaker, IfOk-weaker}
 use Rattle.std.specs.Prelude.{IfOk}
 use Rattle.aom_run.specs.Calls.{natives_of}
-use Rattle.aom_commands.proofs.Tries.{given_all, has_enough, wants_memory}
+use Rattle.aom_debug.proofs.CommandsLemmas.{given_all, has_enough, wants_memory}
 use Rattle.aom_debug.specs.Beginning.{IsBegun}
 use Rattle.aom_debug.proofs.debugging.begin.Goals as goal
 

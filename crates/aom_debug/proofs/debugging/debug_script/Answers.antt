@@ -2,7 +2,7 @@
 use Rattle.std.proofs.Common.{length, refl}
 use Rattle.aom_commands.specs.Headline.{Sent}
 use Rattle.aom_commands.specs.Untold.{Untold}
-use Rattle.aom_commands.proofs.Acceptance.{acceptable_of}
+use Rattle.aom_debug.proofs.CommandsLemmas.{acceptable_of}
 use Rattle.aom_debug.specs.Conversing.{Given}
 use Rattle.aom_debug.specs.Answers.{DebugAnswersBy}
 use Rattle.aom_debug.proofs.Statuses.{broken_of, by_done, held_of, unbegun}

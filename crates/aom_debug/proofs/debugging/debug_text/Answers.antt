@@ -1,6 +1,6 @@
 -- A script is heard as what its text denotes. A text that is no script has a fault, and so has want of memory.
 use Rattle.std.proofs.Common.{length, refl}
-use Rattle.aom_commands.proofs.Acceptance.{accepts_of}
+use Rattle.aom_debug.proofs.CommandsLemmas.{accepts_of}
 use Rattle.aom_debug.proofs.Statuses.{unscripted}
 use Rattle.aom_debug.proofs.debugging.debug_text.Goals as goal
 

@@ -3,7 +3,7 @@ use Rattle.std.proofs.Common.{refl, subst, sym, ◌∙◌, ◌<◌}
 use Rattle.aom_machine.specs.Steps.{progress}
 use Rattle.aom_semantics.specs.World.{Reaches}
 use Rattle.aom_run.specs.Turns.{TakesTurns}
-use Rattle.aom_run.proofs.Running.{left}
+use Rattle.aom_debug_moves.proofs.RunLemmas.{left}
 use Rattle.aom_debug_moves.specs.Movers.{outside_of}
 use Rattle.aom_debug_moves.specs.Moves.{TurnsOnce}
 use Rattle.aom_debug_moves.specs.Sends.{Breaks, Sends}

@@ -1,7 +1,7 @@
 use Rattle.std.proofs.Common.{◌≡◌}
 use Rattle.aom_machine.specs.Steps.{progress}
 use Rattle.aom_natives.specs.Slots.{AllAgree}
-use Rattle.aom_run.proofs.Running.{left}
+use Rattle.aom_debug_moves.proofs.RunLemmas.{left}
 use Rattle.aom_debug_moves.specs.Movers.{Keeps, outside_of}
 use Rattle.aom_debug_moves.specs.Moves.{Arrives}
 use Rattle.aom_debug_moves.specs.Sends.{Sends}

@@ -1,6 +1,6 @@
 -- What goes first is told by its class.
 use Rattle.std.proofs.Common.{◌∙◌}
-use Rattle.aom_machine_instructions.proofs.Finding.{class_fits}
+use Rattle.aom_debug_moves.proofs.MachineInstructionsLemmas.{class_fits}
 use Rattle.aom_debug_moves.proofs.Nexts.{destroyed_told}
 use Rattle.aom_debug_moves.proofs.next.begins.Goals as goal
 

@@ -1,6 +1,6 @@
 -- The root's number is null where it owns nothing, and else that of a living cell.
 use Rattle.std.proofs.Common.{ap, sym}
-use Rattle.aom_machine_instructions.proofs.Finding.{root_lives}
+use Rattle.aom_debug_moves.proofs.MachineInstructionsLemmas.{root_lives}
 use Rattle.aom_semantics.specs.Places.{Elsewhere, Root}
 use Rattle.aom_debug_moves.specs.Next.{destruction_of}
 use Rattle.aom_debug_moves.proofs.Nexts.{root_owns_nothing, root_shows}

@@ -1,6 +1,6 @@
 -- A cell's number is below the queues of servers, and what goes first lives.
 use Rattle.std.proofs.Common.{ap, arith, sym, ◌∙◌}
-use Rattle.aom_machine_instructions.proofs.Running.{lives_below}
+use Rattle.aom_debug_moves.proofs.MachineInstructionsLemmas.{lives_below}
 use Rattle.aom_debug_moves.specs.Next.{first_number}
 use Rattle.aom_debug_moves.proofs.Nexts.{first_lives, within_queues}
 use Rattle.aom_debug_moves.proofs.next.first_to_go.Goals as goal

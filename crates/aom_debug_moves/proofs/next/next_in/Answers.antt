@@ -1,8 +1,7 @@
 -- A cell that is to go lives, and what goes next is told by its class.
 use Rattle.std.proofs.Common.{subst, sym}
 use Rattle.aom_cells.specs.Heap.{Lives}
-use Rattle.aom_machine_instructions.proofs.Finding.{cell_lives, class_fits}
-use Rattle.aom_machine_instructions.proofs.OnTop.{goes_on_top, number_on_top}
+use Rattle.aom_debug_moves.proofs.MachineInstructionsLemmas.{cell_lives, class_fits, goes_on_top, number_on_top}
 use Rattle.aom_debug_moves.proofs.Nexts.{goes_told}
 use Rattle.aom_debug_moves.proofs.next.next_in.Goals as goal
 

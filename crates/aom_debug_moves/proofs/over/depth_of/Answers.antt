@@ -1,7 +1,7 @@
 -- The machine has as many tasks as each state that it stands for.
 use Rattle.std.proofs.Common.{◌∙◌, ap, length}
 use Rattle.aom_machine_state.specs.declared.parts.Parts.{Parts}
-use Rattle.aom_machine_state.proofs.Values.{same_length}
+use Rattle.aom_debug_moves.proofs.MachineStateLemmas.{same_length}
 use Rattle.aom_debug_moves.proofs.over.depth_of.Goals as goal
 
 pub returns-in-Step : goal.returns-in-Step

@@ -1,7 +1,7 @@
 -- The machine has as many tasks as each state that it stands for.
 use Rattle.std.proofs.Common.{◌∙◌, ap, length, nat_le}
 use Rattle.aom_machine_state.specs.declared.parts.Parts.{Parts}
-use Rattle.aom_machine_state.proofs.Values.{same_length}
+use Rattle.aom_debug_moves.proofs.MachineStateLemmas.{same_length}
 use Rattle.aom_debug_moves.proofs.over.is_up.Goals as goal
 
 pub returns : goal.returns

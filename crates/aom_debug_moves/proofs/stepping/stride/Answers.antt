@@ -1,7 +1,7 @@
 -- A step of a debugger: what may come before it, the step, and what may come after it.
 use Rattle.std.proofs.Common.{arith, ap, refl, ◌∙◌}
 use Rattle.aom_run.specs.Runs.{Moving}
-use Rattle.aom_run.proofs.Reaching.{moving_both}
+use Rattle.aom_debug_moves.proofs.RunLemmas.{moving_both}
 use Rattle.aom_debug_moves.specs.Next.{next_of, pauses, root_is_due, spot_of}
 use Rattle.aom_debug_moves.specs.Moves.{Notes, StepsOnce, noted}
 use Rattle.aom_debug_moves.specs.Sends.{Breaks, IfSo, Sends, Then, Where}

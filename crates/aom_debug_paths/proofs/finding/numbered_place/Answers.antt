@@ -3,7 +3,7 @@ use Rattle.std.proofs.Common.{◌∙◌, ◌≡◌, ℕ, Bool, add-one, ap, arit
 use Rattle.aom_image.specs.Image.{Image}
 use Rattle.aom_machine_state.specs.Stands.{StandsFor}
 use Rattle.aom_semantics.specs.State.{State}
-use Rattle.aom_debug_views.proofs.Counting.{counted_next}
+use Rattle.aom_debug_paths.proofs.DebugViewsLemmas.{counted_next}
 use Rattle.aom_debug_paths.specs.Paths.{is_such, length_of, numbered}
 use Rattle.aom_debug_paths.proofs.Numbering.{as_many, numbered_more, numbered_told}
 use Rattle.aom_debug_paths.proofs.finding.numbered_place.Goals as goal

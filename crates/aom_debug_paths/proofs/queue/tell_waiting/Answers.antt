@@ -8,7 +8,7 @@ use Rattle.aom_semantics.specs.State.{State}
 use Rattle.aom_debug_words.specs.Answers.{answer_text}
 use Rattle.aom_debug_words.specs.declared.answer.Answer.{Answer}
 use Rattle.aom_debug_views.specs.Telling.{answers_text, gathered, listed}
-use Rattle.aom_debug_views.proofs.Telling.{part_same, tells_all, tells_next, tells_part, tells_same}
+use Rattle.aom_debug_paths.proofs.DebugViewsLemmas.{part_same, tells_all, tells_next, tells_part, tells_same}
 use Rattle.aom_debug_paths.specs.Paths.{waiting_lines}
 use Rattle.aom_debug_paths.proofs.Queues.{entry_lines, queue_told}
 use Rattle.aom_debug_paths.proofs.queue.tell_waiting.Goals as goal

@@ -8,7 +8,7 @@ use Rattle.aom_debug_words.specs.Answers.{answer_text}
 use Rattle.aom_debug_words.specs.declared.answer.Answer.{Answer}
 use Rattle.aom_debug_words.specs.declared.answer.Answer.TheVariants.{Word}
 use Rattle.aom_debug_views.specs.Telling.{listed}
-use Rattle.aom_debug_views.proofs.Telling.{tells_all, tells_next, tells_part}
+use Rattle.aom_debug_paths.proofs.DebugViewsLemmas.{tells_all, tells_next, tells_part}
 use Rattle.aom_debug_paths.proofs.words.tell_count.Goals as goal
 
 abbrev of_answer : Answer → List ℕ

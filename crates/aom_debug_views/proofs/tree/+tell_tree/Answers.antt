@@ -5,7 +5,7 @@ use Rattle.std.proofs.Math.Seq.{take-append_seam}
 use Rattle.std.proofs.lemmas.Bool.{false≢true}
 use Rattle.std.proofs.lemmas.List.{append-nil}
 use Rattle.std.proofs.lemmas.Result.{IfErr-weaker, IfOk-weaker, err_from_is_err_and}
-use Rattle.aom_clients.proofs.Looking.{after-in, first-in, from, from-first, from-next}
+use Rattle.aom_debug_views.proofs.ClientsLemmas.{after-in, first-in, from, from-first, from-next}
 use Rattle.aom_clients.specs.Clients.{client_after, sessions_at}
 use Rattle.aom_clients.specs.Lists.{IsIn, IsOnce}
 use Rattle.aom_semantics.specs.Places.{Elsewhere, Field, Session}

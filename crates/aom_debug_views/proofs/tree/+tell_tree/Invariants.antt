@@ -1,7 +1,7 @@
 -- Each object's fields are one generation further, and so are its sessions, and what hangs from those so far is out.
 use Rattle.std.proofs.Common.{◌≡◌, ◌<◌, ◌-◌, ◌++◌, ℕ, List, Some, length}
 use Rattle.std.specs.List.{flat_map}
-use Rattle.aom_clients.proofs.Looking.{from}
+use Rattle.aom_debug_views.proofs.ClientsLemmas.{from}
 use Rattle.aom_clients.specs.Clients.{sessions_at}
 use Rattle.aom_image.specs.Image.{Image}
 use Rattle.aom_clients.specs.Lists.{IsIn}

@@ -1,6 +1,6 @@
 -- The first dot parts what stands before it from what stands behind it.
 use Rattle.std.proofs.Common.{sym}
-use Rattle.aom_text.proofs.Parting.{split_none, split_some}
+use Rattle.aom_debug_words.proofs.TextLemmas.{split_none, split_some}
 use Rattle.aom_debug_words.specs.Ways.{is_dot}
 use Rattle.aom_debug_words.proofs.reading.first_part.Goals as goal
 

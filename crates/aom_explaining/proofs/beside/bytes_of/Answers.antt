@@ -1,5 +1,5 @@
 -- The bytes are those of the image that the text denotes. A text without an image has a fault, unless memory was wanting.
-use Rattle.aom_commands.proofs.Meaning.{makes, means_nothing}
+use Rattle.aom_explaining.proofs.CommandsLemmas.{makes, means_nothing}
 use Rattle.aom_explaining.proofs.beside.bytes_of.Goals as goal
 
 pub returns-in-Ok-encode-clause-ok : goal.returns-in-Ok-encode-clause-ok

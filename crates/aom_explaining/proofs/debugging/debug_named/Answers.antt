@@ -1,6 +1,6 @@
 -- The text is refused and nothing was read, or it denotes the image, and the session goes on.
 use Rattle.std.proofs.Common.{refl}
-use Rattle.aom_commands.proofs.Untelling.{answered}
+use Rattle.aom_explaining.proofs.CommandsLemmas.{answered}
 use Rattle.aom_explaining.specs.Explaining.Beside.{denotes, refused}
 use Rattle.aom_explaining.proofs.debugging.debug_named.Goals as goal
 

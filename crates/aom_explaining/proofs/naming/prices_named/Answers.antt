@@ -1,6 +1,6 @@
 -- The text is refused, or it denotes the image, and the command goes on.
 use Rattle.std.proofs.Common.{refl}
-use Rattle.aom_commands.proofs.Untelling.{answered}
+use Rattle.aom_explaining.proofs.CommandsLemmas.{answered}
 use Rattle.aom_explaining.specs.Explaining.Beside.{denotes, refused}
 use Rattle.aom_explaining.proofs.naming.prices_named.Goals as goal
 

@@ -2,7 +2,7 @@
 use Rattle.std.proofs.Common.{◌≡◌, ◌∙◌, ◌<◌, ◌≤◌, List, ap, arith, length}
 use Rattle.aom_image.specs.Image.{Image}
 use Rattle.aom_image.specs.declared.method.Method.{Method}
-use Rattle.aom_typings.proofs.Typings.{method_within, within_method}
+use Rattle.aom_explaining.proofs.TypingsLemmas.{method_within, within_method}
 use Rattle.aom_explaining.proofs.Knowing.{ends_nowhere, no_method}
 use Rattle.aom_explaining.proofs.stopping.put_known_in.Goals as goal
 

@@ -1,6 +1,6 @@
 -- The server of a class that was enlisted first.
 use Rattle.std.proofs.Common.{arith, rules, sym, ◌<◌, ◌∙◌}
-use Rattle.aom_machine_instructions.proofs.Finding.{class_fits}
+use Rattle.aom_machine.proofs.MachineInstructionsLemmas.{class_fits}
 use Rattle.aom_machine.proofs.FirstServer.{declared_first, first_known, first_served, of_kind}
 use Rattle.aom_machine.proofs.clients.first_server.Goals as goal
 

@@ -2,7 +2,7 @@
 use Rattle.std.proofs.Common.{sym, ◌∙◌, rules}
 use Rattle.aom_scheduler.specs.Requests.{request_at}
 use Rattle.aom_machine.proofs.Killing.{spares, terminates}
-use Rattle.aom_machine_state.proofs.Owed.{pending_told}
+use Rattle.aom_machine.proofs.MachineStateLemmas.{pending_told}
 use Rattle.aom_machine.proofs.natives.fail_requests.Goals as goal
 use Rattle.aom_machine.proofs.natives.fail_requests.Goals.{then-is_pending, else-is_pending}
 

@@ -3,8 +3,7 @@ use Rattle.std.specs.Prelude.{option_map}
 use Rattle.aom_active.specs.Agrees.{queued}
 use Rattle.aom_semantics.specs.Places.{requested}
 use Rattle.aom_machine.specs.Wanted.{as_wanted}
-use Rattle.aom_machine_instructions.proofs.Finding.{class_fits, finds_instr}
-use Rattle.aom_machine_instructions.proofs.Housing.{finds_home}
+use Rattle.aom_machine.proofs.MachineInstructionsLemmas.{class_fits, finds_home, finds_instr}
 use Rattle.aom_machine.proofs.Wanting.{null_wants, served_wants, unserved_wants}
 use Rattle.aom_machine.proofs.wanted.wanted_here.Goals as goal
 

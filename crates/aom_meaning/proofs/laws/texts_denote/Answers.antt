@@ -1,4 +1,4 @@
-use Rattle.aom_syntax.proofs.Within.{ok_is}
+use Rattle.aom_meaning.proofs.SyntaxLemmas.{ok_is}
 use Rattle.std.proofs.Common.{sym, ◌∙◌}
 use Rattle.aom_meaning.proofs.Denoting.{denotes_read, read_denotes}
 use Rattle.aom_meaning.proofs.laws.texts_denote.Goals as goal

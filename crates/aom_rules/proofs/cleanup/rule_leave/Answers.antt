@@ -1,7 +1,7 @@
 -- The need that fails is the first that is not met.
 use Rattle.std.proofs.Common.{ap, sym, ◌∙◌}
 use Rattle.aom_rules.specs.Cleanup.{rule_leave}
-use Rattle.aom_shape.proofs.Judging.{all_failed}
+use Rattle.aom_rules.proofs.ShapeLemmas.{all_failed}
 use Rattle.aom_site.specs.Site.{Site}
 use Rattle.aom_rules.proofs.cleanup.rule_leave.Goals as goal
 

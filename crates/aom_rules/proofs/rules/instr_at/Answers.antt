@@ -3,7 +3,7 @@ use Rattle.aom_image.specs.Image.{Image}
 use Rattle.aom_image.specs.Views.{instr_at, method_at}
 use Rattle.aom_image.specs.declared.method.Method.{Method}
 use Rattle.aom_instructions.specs.declared.instr.Instr.{Instr}
-use Rattle.aom_classes.proofs.Views.{has_method, in_method, within, read}
+use Rattle.aom_rules.proofs.ClassesLemmas.{has_method, in_method, read, within}
 use Rattle.aom_rules.proofs.Callees.{callee_there, code_register_there}
 use Rattle.aom_rules.proofs.rules.instr_at.Goals as goal
 

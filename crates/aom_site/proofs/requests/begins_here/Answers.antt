@@ -1,5 +1,5 @@
 use Rattle.std.proofs.Common.{rules}
-use Rattle.aom_shape.proofs.Views.{before_there, class_there}
+use Rattle.aom_site.proofs.ShapeLemmas.{before_there, class_there}
 use Rattle.aom_site.proofs.requests.begins_here.Goals as goal
 
 pub returns-in-None : goal.returns-in-None

@@ -1,6 +1,6 @@
 use Rattle.std.proofs.Common.{not, ap, ◌∙◌}
 use Rattle.aom_roles.specs.Tests.{only_if}
-use Rattle.aom_shape.proofs.Views.{before_there, class_there, role_there}
+use Rattle.aom_site.proofs.ShapeLemmas.{before_there, class_there, role_there}
 use Rattle.aom_site.proofs.requests.begins_there.Goals as goal
 
 pub returns : goal.returns

@@ -1,6 +1,6 @@
 use Rattle.std.proofs.Common.{ap, ◌∙◌, arith}
 use Rattle.aom_image.specs.Image.{Image}
-use Rattle.aom_shape.proofs.Views.{words_none, words_some}
+use Rattle.aom_site.proofs.ShapeLemmas.{words_none, words_some}
 use Rattle.aom_site.proofs.things.class_words.Goals as goal
 
 pub returns-in-None : goal.returns-in-None

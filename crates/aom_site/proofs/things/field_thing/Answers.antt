@@ -1,5 +1,5 @@
 use Rattle.std.proofs.Common.{rules}
-use Rattle.aom_shape.proofs.Views.{holder_there}
+use Rattle.aom_site.proofs.ShapeLemmas.{holder_there}
 use Rattle.aom_site.proofs.things.field_thing.Goals as goal
 
 pub returns : goal.returns

@@ -1,5 +1,5 @@
 use Rattle.std.proofs.Common.{sym, ◌==◌}
-use Rattle.aom_text.proofs.Parting.{split_some, split_none}
+use Rattle.aom_syntax.proofs.TextLemmas.{split_none, split_some}
 use Rattle.aom_syntax.proofs.class.split_element.Goals as goal
 
 pub returns-in-Some-clause-parts : goal.returns-in-Some-clause-parts

@@ -3,7 +3,7 @@ use Rattle.std.proofs.Common.{◌≡◌, List, length, ◌∙◌, ap, arith}
 use Rattle.std.proofs.lemmas.Result.{err_from_is_err_and}
 use Rattle.aom_image.specs.Image.{Image}
 use Rattle.aom_image.specs.declared.method.Method.{Method}
-use Rattle.aom_typings.proofs.Typings.{none_first, first_more, has_typing, image_strongest, within_method}
+use Rattle.aom_verify.proofs.TypingsLemmas.{first_more, has_typing, image_strongest, none_first, within_method}
 use Rattle.aom_verify.proofs.Refusing.{refuses}
 use Rattle.aom_verify.proofs.checked.sheets_of.Goals as goal
 

@@ -1,6 +1,6 @@
 use Rattle.std.proofs.Common.{Some, rules, subst, ◌≡◌}
 use Rattle.std.specs.Prelude.{All}
-use Rattle.aom_scheduler.proofs.Timing.{due-each}
+use Rattle.aom_active.proofs.SchedulerLemmas.{due-each}
 use Rattle.aom_scheduler.specs.Pending.{due_of}
 use Rattle.aom_active.proofs.active.ActiveObjects.timers.Goals as goal
 

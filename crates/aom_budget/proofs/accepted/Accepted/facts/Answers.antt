@@ -5,7 +5,7 @@ use Rattle.aom_rules.specs.Typing.{Typing}
 use Rattle.aom_typings.specs.Strongest.{IsStrongest}
 use Rattle.aom_typings.specs.Depths.{DepthsWithin}
 use Rattle.aom_typings.specs.Heights.{HeightsWithin}
-use Rattle.aom_typings.proofs.Within.{all_within, all_high}
+use Rattle.aom_budget.proofs.TypingsLemmas.{all_high, all_within}
 use Rattle.aom_typings.specs.Dispatches.{IsAffordable}
 use Rattle.aom_typings.specs.Prices.{Prices}
 use Rattle.aom_image.specs.WellFormed.{WellFormed}

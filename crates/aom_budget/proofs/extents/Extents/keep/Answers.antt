@@ -1,7 +1,7 @@
 -- What the tests of the tables say, the depths first.
 use Rattle.std.proofs.Common.{◌∙◌, sym}
 use Rattle.aom_classes.specs.Linked.{IsLinked}
-use Rattle.aom_typings.proofs.Within.{all_within}
+use Rattle.aom_budget.proofs.TypingsLemmas.{all_within}
 use Rattle.aom_budget.proofs.Limits.{are_depths, are_heights, too_deep, too_high, keeps, exceeds}
 use Rattle.aom_budget.proofs.extents.Extents.keep.Goals as goal
 

@@ -1,5 +1,5 @@
 -- Each table has one method more.
-use Rattle.aom_typings.proofs.Typings.{method_within}
+use Rattle.aom_budget.proofs.TypingsLemmas.{method_within}
 use Rattle.aom_budget.proofs.Filling.{filled_more}
 use Rattle.aom_budget.proofs.finder.Finder.find.Goals as goal
 

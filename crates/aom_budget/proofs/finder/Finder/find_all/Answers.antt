@@ -2,7 +2,7 @@
 use Rattle.std.proofs.Common.{◌≡◌, List, length, ◌∙◌, ap, arith}
 use Rattle.aom_image.specs.Image.{Image}
 use Rattle.aom_image.specs.declared.method.Method.{Method}
-use Rattle.aom_typings.proofs.Typings.{within_method}
+use Rattle.aom_budget.proofs.TypingsLemmas.{within_method}
 use Rattle.aom_budget.proofs.finder.Finder.find_all.Goals as goal
 
 pub find-requires-clause-method : goal.find-requires-clause-method

@@ -1,6 +1,6 @@
 -- Each table is raised by what counts for it, and stays otherwise.
 use Rattle.std.proofs.Common.{◌≡◌, arith, refl, rules}
-use Rattle.aom_typings.proofs.Typings.{method_within}
+use Rattle.aom_budget.proofs.TypingsLemmas.{method_within}
 use Rattle.aom_budget.proofs.Found.{called_now, cancelled_low, cancelled_still, destructs_not, gone_low, gone_still, is_set, set_size}
 use Rattle.aom_budget.proofs.finder.Finder.set.Goals as goal
 

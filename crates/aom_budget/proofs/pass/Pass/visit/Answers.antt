@@ -3,9 +3,9 @@ use Rattle.std.proofs.Common.{◌≡◌, ◌≢◌, ◌<◌, ◌-◌, ℕ, List,
 use Rattle.aom_image.specs.Views.{instr_at}
 use Rattle.aom_instructions.specs.declared.instr.Instr.TheVariants.{Loop}
 use Rattle.aom_classes.specs.Bodies.{Body}
-use Rattle.aom_classes.proofs.Bodies.{linked_is_looped}
+use Rattle.aom_budget.proofs.ClassesLemmas.{linked_is_looped}
 use Rattle.aom_roles.specs.Tables.{at}
-use Rattle.aom_shape.proofs.Lists.{at_within}
+use Rattle.aom_budget.proofs.ShapeLemmas.{at_within}
 use Rattle.aom_budget.proofs.Visiting.{instr_there, next_closes, no_loop, no_next, visit_plain, visit_loop, visit_next}
 use Rattle.aom_budget.proofs.pass.Pass.visit.Goals as goal
 

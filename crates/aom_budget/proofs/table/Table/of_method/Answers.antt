@@ -1,6 +1,6 @@
 -- What is read of the list, or 0 past its end.
 use Rattle.std.proofs.Common.{◌≡◌, ◌<◌, ◌≤◌, length, rules, sym}
-use Rattle.aom_shape.proofs.Lists.{at_past}
+use Rattle.aom_budget.proofs.ShapeLemmas.{at_past}
 use Rattle.aom_budget.proofs.Filling.{read_at}
 use Rattle.aom_budget.proofs.table.Table.of_method.Goals as goal
 

@@ -1,4 +1,4 @@
-use Rattle.aom_debug_moves.proofs.Sending.{if_any}
+use Rattle.aom_debug.proofs.DebugMovesLemmas.{if_any}
 use Rattle.aom_debug.proofs.Answering.{shown}
 use Rattle.aom_debug.proofs.debugger.Debugger.arrived.Goals as goal
 

@@ -1,7 +1,7 @@
 -- What the called one keeps, and how it answers.
 use Rattle.std.proofs.Common.{◌∙◌, Err, ap, refl, subst, sym}
 use Rattle.aom_debug.specs.Obeying.{Heeds}
-use Rattle.aom_debug_moves.proofs.Keeping.{keeps_all}
+use Rattle.aom_debug.proofs.DebugMovesLemmas.{keeps_all}
 use Rattle.aom_debug_names.specs.Commands.{command_by}
 use Rattle.aom_debug.proofs.Declining.{heeds_failed, passes_on, says_no_end}
 use Rattle.aom_debug.proofs.debugger.Debugger.command.Goals as goal

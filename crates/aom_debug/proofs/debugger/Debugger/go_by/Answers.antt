@@ -2,8 +2,7 @@
 use Rattle.std.proofs.Common.{refl, sym, ◌∙◌}
 use Rattle.std.proofs.lemmas.Bool.{or_parts}
 use Rattle.aom_debug_moves.specs.Movers.{outside_of}
-use Rattle.aom_debug_moves.proofs.Keeping.{keeps_all}
-use Rattle.aom_debug_moves.proofs.Runs.{reaches_course}
+use Rattle.aom_debug.proofs.DebugMovesLemmas.{keeps_all, reaches_course}
 use Rattle.aom_debug.specs.Debugging.{goes_of}
 use Rattle.aom_debug.proofs.Answering.{answered}
 use Rattle.aom_debug.proofs.debugger.Debugger.go_by.Goals as goal

@@ -1,6 +1,6 @@
 -- What was told is what each state shows.
 use Rattle.aom_debug.specs.Debugging.{Sees}
-use Rattle.aom_debug_moves.proofs.Keeping.{keeps_all}
+use Rattle.aom_debug.proofs.DebugMovesLemmas.{keeps_all}
 use Rattle.aom_debug.proofs.Answering.{looked}
 use Rattle.aom_debug.proofs.Declining.{kept_mover}
 use Rattle.aom_debug.proofs.debugger.Debugger.look.Goals as goal

@@ -1,6 +1,6 @@
 -- So many steps are asked for by their course, and no others.
 use Rattle.std.proofs.Common.{arith}
-use Rattle.aom_debug_moves.proofs.Keeping.{keeps_all}
+use Rattle.aom_debug.proofs.DebugMovesLemmas.{keeps_all}
 use Rattle.aom_debug.proofs.Declining.{counts}
 use Rattle.aom_debug.proofs.debugger.Debugger.step.Goals as goal
 

@@ -1,7 +1,7 @@
 -- A place that the numbers name has no breakpoint then, and where they name none nothing changes.
 use Rattle.std.proofs.Common.{◌∙◌, inl, refl, sym}
 use Rattle.aom_debug_words.specs.Marks.{has_spot, without_spot}
-use Rattle.aom_debug_moves.proofs.Keeping.{keeps_all}
+use Rattle.aom_debug.proofs.DebugMovesLemmas.{keeps_all}
 use Rattle.aom_debug.proofs.Declining.{marked_mover, marked_named}
 use Rattle.aom_debug.proofs.debugger.Debugger.unbreak_at.Goals as goal
 

@@ -1,7 +1,7 @@
 -- Where there is none nothing changes.
 use Rattle.std.proofs.Common.{◌∙◌, List, ap, refl, sym}
 use Rattle.aom_debug_words.specs.declared.spot.Spot.{Spot}
-use Rattle.aom_debug_words.proofs.Marking.{none_kept}
+use Rattle.aom_debug.proofs.DebugWordsLemmas.{none_kept}
 use Rattle.aom_debug.proofs.debugger.Debugger.unset.Goals as goal
 
 pub returns-then-not-unset : goal.returns-then-not-unset

@@ -1,6 +1,6 @@
 -- A place that the numbers name is gone to, and where they name none nothing changes.
 use Rattle.std.proofs.Common.{◌∙◌, ap, refl, subst, sym}
-use Rattle.aom_debug_moves.proofs.Keeping.{keeps_all}
+use Rattle.aom_debug.proofs.DebugMovesLemmas.{keeps_all}
 use Rattle.aom_debug.specs.Commands.{spot_named}
 use Rattle.aom_debug.specs.Debugging.{GoesNamed}
 use Rattle.aom_debug.proofs.Declining.{named_either}

@@ -3,9 +3,9 @@ use Rattle.std.proofs.Common.{Some, ap, refl, subst, sym}
 use Rattle.std.specs.Prelude.{IfSome}
 use Rattle.aom_cells.specs.Heap.{Lives}
 use Rattle.aom_semantics.specs.Places.{Object}
-use Rattle.aom_debug_moves.proofs.Keeping.{keeps_all}
+use Rattle.aom_debug.proofs.DebugMovesLemmas.{keeps_all}
 use Rattle.aom_debug_paths.specs.Paths.{IsFound, owned_at}
-use Rattle.aom_debug_paths.proofs.Worded.{words_none}
+use Rattle.aom_debug.proofs.DebugPathsLemmas.{words_none}
 use Rattle.aom_debug.specs.Debugging.{LacksWords, SeesWords}
 use Rattle.aom_debug.proofs.Answering.{looked}
 use Rattle.aom_debug.proofs.Declining.{kept_mover}

@@ -3,7 +3,7 @@ use Rattle.std.proofs.Common.{ap, arith, length, refl, sym, ◌∙◌}
 use Rattle.std.specs.Option.{is_some}
 use Rattle.std.proofs.lemmas.Bool.{ltb-false}
 use Rattle.aom_image.specs.Views.{method_at}
-use Rattle.aom_classes.proofs.Views.{within}
+use Rattle.aom_linked.proofs.ClassesLemmas.{within}
 use Rattle.aom_linked.proofs.body_table.BodyTable.body.Goals as goal
 
 pub returns-in_default-2 : goal.returns-in_default-2

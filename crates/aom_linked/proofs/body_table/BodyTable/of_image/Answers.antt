@@ -1,7 +1,7 @@
 -- One row after the other.
 use Rattle.std.proofs.Common.{◌∙◌, ◌≡◌, ap, arith, false, length, slice_get, subst, sym}
 use Rattle.std.proofs.lemmas.Option.{slice_get-get_or}
-use Rattle.aom_classes.proofs.Each.{each_push}
+use Rattle.aom_linked.proofs.ClassesLemmas.{each_push}
 use Rattle.aom_linked.specs.Bodies.{IsRowOf}
 use Rattle.aom_linked.proofs.Flags.{unflagged}
 use Rattle.aom_linked.proofs.Past.{runs_named}

@@ -1,6 +1,6 @@
 use Rattle.std.proofs.Common.{rules}
 use Rattle.aom_image.specs.Views.{class_at}
-use Rattle.aom_classes.proofs.Views.{within, read}
+use Rattle.aom_linked.proofs.ClassesLemmas.{read, within}
 use Rattle.aom_linked.proofs.linked.Linked.class.Goals as goal
 
 pub at-requires : goal.at-requires

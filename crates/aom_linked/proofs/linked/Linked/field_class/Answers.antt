@@ -1,5 +1,5 @@
 use Rattle.std.proofs.Common.{◌∙◌, refl}
-use Rattle.aom_classes.proofs.Views.{has_class, in_class, read, within}
+use Rattle.aom_linked.proofs.ClassesLemmas.{has_class, in_class, read, within}
 use Rattle.aom_linked.proofs.linked.Linked.field_class.Goals as goal
 
 pub class-requires : goal.class-requires

@@ -1,5 +1,5 @@
 use Rattle.std.proofs.Common.{◌∙◌, refl}
-use Rattle.aom_classes.proofs.Views.{has_method, in_method, read, within}
+use Rattle.aom_linked.proofs.ClassesLemmas.{has_method, in_method, read, within}
 use Rattle.aom_linked.proofs.linked.Linked.instr.Goals as goal
 
 pub method-requires : goal.method-requires

@@ -1,8 +1,7 @@
 use Rattle.std.proofs.Common.{◌≡◌, ◌≤◌, ◌∙◌, ap, sym, subst, arith, length, List}
 use Rattle.aom_classes.specs.Roles.{own_role}
 use Rattle.aom_linked.specs.Table.{IsRow}
-use Rattle.aom_classes.proofs.Keeping.{none_there}
-use Rattle.aom_classes.proofs.Each.{each_push}
+use Rattle.aom_linked.proofs.ClassesLemmas.{each_push, none_there}
 use Rattle.aom_linked.proofs.Rows.{no_player}
 use Rattle.aom_linked.proofs.role_table.RoleTable.of_image.Goals as goal
 

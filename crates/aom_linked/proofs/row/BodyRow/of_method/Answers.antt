@@ -1,6 +1,6 @@
 -- One class after the other, each after its parent.
 use Rattle.std.proofs.Common.{◌∙◌, ◌≡◌, ap, arith, length, sym, Some}
-use Rattle.aom_classes.proofs.Each.{each_push}
+use Rattle.aom_linked.proofs.ClassesLemmas.{each_push}
 use Rattle.aom_classes.specs.Overriding.{body_of}
 use Rattle.aom_linked.proofs.row.BodyRow.of_method.Goals as goal
 

@@ -1,5 +1,5 @@
 use Rattle.std.proofs.Common.{rules}
-use Rattle.aom_shape.proofs.Views.{role_there}
+use Rattle.aom_site.proofs.ShapeLemmas.{role_there}
 use Rattle.aom_site.proofs.site.Site.needs_cancelled.Goals as goal
 
 pub returns : goal.returns

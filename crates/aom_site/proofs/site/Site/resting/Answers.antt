@@ -1,5 +1,5 @@
 use Rattle.std.proofs.Common.{rules}
-use Rattle.aom_shape.proofs.Views.{class_there}
+use Rattle.aom_site.proofs.ShapeLemmas.{class_there}
 use Rattle.aom_site.proofs.site.Site.resting.Goals as goal
 
 pub returns : goal.returns

@@ -2,8 +2,8 @@
 use Rattle.std.proofs.Common.{◌<◌, IsSome, [], length, ◌∙◌, sym, subst, arith}
 use Rattle.aom_image.specs.Image.{Image}
 use Rattle.aom_image.specs.Views.{method_at}
-use Rattle.aom_shape.proofs.Lists.{at_within}
-use Rattle.aom_typings.proofs.Typings.{has_states}
+use Rattle.aom_verify.proofs.ShapeLemmas.{at_within}
+use Rattle.aom_verify.proofs.TypingsLemmas.{has_states}
 use Rattle.aom_verify.proofs.checked.Checked.sheet.Goals as goal
 
 pub index-requires : goal.index-requires

@@ -1,6 +1,6 @@
 -- What stood stands, so the states stay.
 use Rattle.std.proofs.Common.{arith}
-use Rattle.aom_shape.proofs.Piling.{length_listed}
+use Rattle.aom_verify.proofs.ShapeLemmas.{length_listed}
 use Rattle.aom_verify.proofs.Keeping.{kept_extended, same_shapes}
 use Rattle.aom_verify.proofs.states.PlaceStates.changed.Goals as goal
 

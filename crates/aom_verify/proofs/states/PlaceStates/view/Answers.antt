@@ -1,6 +1,6 @@
 -- What is kept of a place is the state there, and past the last there is none.
 use Rattle.std.proofs.Common.{◌<◌, length, None, Some, ap, sym, ◌∙◌, arith}
-use Rattle.aom_shape.proofs.Lists.{at_past}
+use Rattle.aom_verify.proofs.ShapeLemmas.{at_past}
 use Rattle.aom_verify.specs.States.{shapes}
 use Rattle.aom_verify.proofs.Keeping.{kept_there, length_shapes}
 use Rattle.aom_verify.proofs.states.PlaceStates.view.Goals as goal

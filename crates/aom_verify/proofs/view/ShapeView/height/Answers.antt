@@ -1,6 +1,6 @@
 -- There are as many entries as the height of the pile says.
 use Rattle.std.proofs.Common.{sym, ◌∙◌}
-use Rattle.aom_shape.proofs.Piling.{length_listed}
+use Rattle.aom_verify.proofs.ShapeLemmas.{length_listed}
 use Rattle.aom_verify.proofs.view.ShapeView.height.Goals as goal
 
 pub returns : goal.returns

@@ -1,5 +1,5 @@
 use Rattle.std.proofs.Common.{rules, Contains}
-use Rattle.aom_natives.proofs.Ids.{owed-contains}
+use Rattle.aom_program_tests.proofs.NativesLemmas.{owed-contains}
 use Rattle.aom_program_tests.proofs.tests.backlog.BacklogNative.cancel.Goals as goal
 
 pub unreachable-requires : goal.unreachable-requires

@@ -1,0 +1,1 @@
+pub use Rattle.aom_commands.proofs.CommandsLemmas

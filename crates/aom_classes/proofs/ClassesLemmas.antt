@@ -1,0 +1,13 @@
+-- The lemmas that other crates cite; what else stands in these proofs is the crate's own.
+pub use Rattle.aom_classes.proofs.Beginning.{begins_whole}
+pub use Rattle.aom_classes.proofs.Bodies.{linked_is_looped}
+pub use Rattle.aom_classes.proofs.Each.{both, each_push, join}
+pub use Rattle.aom_classes.proofs.Facts.{all_there, at_place, linked_place, of_method}
+pub use Rattle.aom_classes.proofs.Keeping.{child_there, keeper_found, keeper_none, keeper_own, keeper_up, none_kept, none_there, role_alone}
+pub use Rattle.aom_classes.proofs.Leading.{none_leads}
+pub use Rattle.aom_classes.proofs.LoopPlaces.{loop_there, next_there}
+pub use Rattle.aom_classes.proofs.Mentioning.{cancels_own, goes_role}
+pub use Rattle.aom_classes.proofs.Nested.{back_within, scanned_at}
+pub use Rattle.aom_classes.proofs.Nesting.{ClosedBefore, must_pass, next_within}
+pub use Rattle.aom_classes.proofs.Playing.{destroyed, found, main_found, own_found, role_inherits, same_roles}
+pub use Rattle.aom_classes.proofs.Views.{has_class, has_method, in_class, in_method, read, within}

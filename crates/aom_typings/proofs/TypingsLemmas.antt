@@ -1,0 +1,21 @@
+-- The lemmas that other crates cite; what else stands in these proofs is the crate's own.
+pub use Rattle.aom_typings.proofs.Among.{by_flow}
+pub use Rattle.aom_typings.proofs.Lines.{line_first, line_next, line_step}
+pub use Rattle.aom_typings.proofs.Mosts.{below_related, most_has, most_least, run_has, run_related}
+pub use Rattle.aom_typings.proofs.Alone.{line_alone}
+pub use Rattle.aom_typings.proofs.Listed.{among_either, among_right, below_from, below_lists, cancel_among, gone_with, kept_in_line, run_among, runs_among}
+pub use Rattle.aom_typings.proofs.Listed.{stands_among}
+pub use Rattle.aom_typings.proofs.Paid.{call_paid, cancel_paid}
+pub use Rattle.aom_typings.proofs.Regions.{by_kind, ends_before, innermost_of_body, nested, next_is_no_loop, no_loop_here, no_next_here, one_end, one_innermost}
+pub use Rattle.aom_typings.proofs.At.{IsSweptAt, at_each, from_each}
+pub use Rattle.aom_typings.proofs.Adding.{goes_forward, jumps_forward}
+pub use Rattle.aom_typings.proofs.Going.{all_related, found_of, going_alike, going_same, max_same}
+pub use Rattle.aom_typings.proofs.Places.{nothing_there}
+pub use Rattle.aom_typings.proofs.Methods.{destructs_within, method_is_some}
+pub use Rattle.aom_typings.proofs.Capped.{alike_times}
+pub use Rattle.aom_typings.proofs.Capping.{law_up_to}
+pub use Rattle.aom_typings.proofs.Unique.{law_one}
+pub use Rattle.aom_typings.proofs.Alike.{IsCovered, prices_alike}
+pub use Rattle.aom_typings.proofs.Typings.{AreFirst, first_more, has_states, has_typing, image_strongest, method_typed, method_within, none_first}
+pub use Rattle.aom_typings.proofs.Typings.{within_method}
+pub use Rattle.aom_typings.proofs.Within.{all_high, all_within, caller, standing}
