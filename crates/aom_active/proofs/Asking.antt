@@ -15,7 +15,8 @@ use Rattle.aom_image.specs.Image.{Image}
 use Rattle.aom_semantics.specs.Servers.{is_server}
 
 -- another request of a cell that is there
-pub asked_set : (cs : List Cell) (n : ℕ) (r : Option Request) → is_some (named cs n) ≡ true → (m : ℕ) → asked_anew n r (requested cs) m ≡ requested (set_request n r cs) m
+pub asked_set : (cs : List Cell) (n : ℕ) (r : Option Request) → is_some (named cs n) ≡ true → (m : ℕ) →
+    asked_anew n r (requested cs) m ≡ requested (set_request n r cs) m
 asked_set cs n r there m = grind (arith, requested_here cs n r, requested_there cs n m r)
 
 -- another word of a cell
@@ -24,11 +25,13 @@ asked_written [] n w v m = refl
 asked_written (c ∷ cs) n w v m = ap (λ x. cond (c.object.name == m) c.request x) (asked_written cs n w v m)
 
 -- a new cell is not enlisted
-pub asked_new : (cs : List Cell) (name : ℕ) (thing : Thing) (words : List ℤ) (owner : Place) → named cs name ≡ None → (n : ℕ) → requested (with_new name thing words owner cs) n ≡ requested cs n
+pub asked_new : (cs : List Cell) (name : ℕ) (thing : Thing) (words : List ℤ) (owner : Place) → named cs name ≡ None → (n : ℕ) →
+    requested (with_new name thing words owner cs) n ≡ requested cs n
 asked_new cs name thing words owner new n = grind (arith, requested_unnamed cs name new)
 
 -- a cell that goes takes its request with it
-pub asked_gone : (cs : List Cell) (g : Place) (o : Object) → Tidy cs → held cs g ≡ Some o → (n : ℕ) → requested (without g cs) n ≡ asked_anew o.name None (requested cs) n
+pub asked_gone : (cs : List Cell) (g : Place) (o : Object) → Tidy cs → held cs g ≡ Some o → (n : ℕ) →
+    requested (without g cs) n ≡ asked_anew o.name None (requested cs) n
 asked_gone cs g o tidy holds n = grind (arith, requested_unnamed, unnamed cs g o tidy holds, requested_without cs g o n tidy holds)
 
 -- the next order comes after those of all requests, and that of timers after those of all that run
@@ -46,13 +49,16 @@ newest_timer (c ∷ cs) tidy n t e = grind (arith, newest_timer cs tidy.2 n t)
 pub queue_same : (p : Image) (o : Option Object) (v w : Service) → v.queue ≡ w.queue → queue_in p o v ≡ queue_in p o w
 queue_same p x v w same = grind arith
 
-pub queued_same : (p : Image) (cs cs' : List Cell) → ((n : ℕ) → named cs' n ≡ named cs n) → ((n : ℕ) → (service_of cs' n).queue ≡ (service_of cs n).queue) → (n : ℕ) → queued p cs' n ≡ queued p cs n
+pub queued_same : (p : Image) (cs cs' : List Cell) → ((n : ℕ) → named cs' n ≡ named cs n) → ((n : ℕ) → (service_of cs' n).queue ≡ (service_of cs n).queue) →
+    (n : ℕ) → queued p cs' n ≡ queued p cs n
 queued_same p cs cs' names queues n = grind (arith, nat_tests, queue_same p)
 
 -- a cell that goes is no server, and all others are as they were
-pub queued_gone : (p : Image) (cs : List Cell) (g : Place) (o : Object) → Tidy cs → held cs g ≡ Some o → (n : ℕ) → (o.name == n) ≡ false → queued p (without g cs) n ≡ queued p cs n
+pub queued_gone : (p : Image) (cs : List Cell) (g : Place) (o : Object) → Tidy cs → held cs g ≡ Some o → (n : ℕ) → (o.name == n) ≡ false →
+    queued p (without g cs) n ≡ queued p cs n
 queued_gone p cs g o tidy there n other = grind (arith, named_without cs g o n tidy there other, service_without cs g o n tidy there other)
 
 -- these are the queues in which something waits
-pub are_wanted : (p : Image) (cs : List Cell) → ((o : Object) → named cs o.name ≡ Some o → is_server p o.thing ≡ false → (service_of cs o.name).queue ≡ []) → AreWanted (queued p cs) cs
+pub are_wanted : (p : Image) (cs : List Cell) → ((o : Object) → named cs o.name ≡ Some o → is_server p o.thing ≡ false → (service_of cs o.name).queue ≡ []) →
+    AreWanted (queued p cs) cs
 are_wanted p cs none n = grind (arith, nat_tests, named_name cs n, service_unnamed cs n)

@@ -61,8 +61,7 @@ server_is : (h : Option Machine_request) → is_server h ≡ true → h ≡ Some
 server_is h e = grind arith
 
 -- what an object's request becomes is told where its phase and its status are
-object_tells :
-    (x y : State) (u v : ℤ) (r q : Request) (waits : Option Bool) → (phase_of x ≡ r.phase → u ≡ r.status → (phase_of y ≡ q.phase) × (v ≡ q.status)) →
+object_tells : (x y : State) (u v : ℤ) (r q : Request) (waits : Option Bool) → (phase_of x ≡ r.phase → u ≡ r.status → (phase_of y ≡ q.phase) × (v ≡ q.status)) →
     Tells (Some (Machine_object x u)) (Some r) waits → Tells (Some (Machine_object y v)) (Some q) waits
 object_tells x y u v r q waits becomes tells = grind (arith, becomes)
 
@@ -118,13 +117,15 @@ made a new id q f w ch stand follows runs retimes tells kept = record {
   makes = record { limit = ch.limit; stands = stands };
 }
   where
-    stands : (asked : ℕ → Option Request) (queues : ℕ → Option Bool) (r : Request) → StandsFor a asked queues → asked id ≡ Some r → StandsFor new (asked_anew id (Some (f r)) asked) queues
+    stands : (asked : ℕ → Option Request) (queues : ℕ → Option Bool) (r : Request) → StandsFor a asked queues → asked id ≡ Some r →
+        StandsFor new (asked_anew id (Some (f r)) asked) queues
     stands asked queues r s here =
         let now = asked_anew id (Some (f r)) asked in
         let l = follows.listed asked now (kept_anew id r (f r) asked here (kept r)) (record { priorities = s.priorities; order = s.order }) in
         let t = retimes asked r here (record { dues = s.dues; sooner = s.sooner }) in
         record {
-          tells = tells_anew a.table new.table id q (Some (f r)) asked queues ch (tells r (queues id) (subst (λ o. Tells (request_at a.table id) o (queues id)) here (s.tells id))) s.tells;
+          tells = tells_anew a.table new.table id q (Some (f r)) asked queues ch
+              (tells r (queues id) (subst (λ o. Tells (request_at a.table id) o (queues id)) here (s.tells id))) s.tells;
           priorities = l.priorities;
           order = l.order;
           dues = t.dues;
@@ -163,8 +164,8 @@ module _ {old : Active} (a : Active) (same : a ≡ old) (w : IsWhole a) (id : �
       let ch = subst (λ h. Changes a.table t id (with_state Machine_active h)) o.is change in
       subst (λ x. Made x (parts t r a.pending) id waits) same
       (made a (parts t r a.pending) id q waits w ch refl (marked_as t r q ready ch ready_is roster_is (ap is_some o.is) refl)
-      (runs_same a w t id q ch (λ e. sym (ap is_pending o.is) ∙ e)) (retimes_same a.pending.timers id waits (λ x. refl))
-      (λ x v e. object_tells Machine_issued Machine_active o.status o.status x (waits x) v (λ phase status. (refl, status)) (subst (λ h. Tells h (Some x) v) o.is e)) (λ x. (refl, refl)))
+      (runs_same a w t id q ch (λ e. sym (ap is_pending o.is) ∙ e)) (retimes_same a.pending.timers id waits (λ x. refl)) (λ x v e. object_tells Machine_issued
+      Machine_active o.status o.status x (waits x) v (λ phase status. (refl, status)) (subst (λ h. Tells h (Some x) v) o.is e)) (λ x. (refl, refl)))
 
   pub begins_cancel :
       (t : Table) (r : Roster) → state_at old.table id ≡ Some Machine_active → Changes a.table t id (with_state Machine_cancelling (request_at a.table id)) →
@@ -173,10 +174,10 @@ module _ {old : Active} (a : Active) (same : a ≡ old) (w : IsWhole a) (id : �
       let o = state_here Machine_active state in
       let q = Some (Machine_object Machine_cancelling o.status) in
       let ch = subst (λ h. Changes a.table t id (with_state Machine_cancelling h)) o.is change in
-      subst (λ x. Made x (parts t r a.pending) id cancelling) same
-      (made a (parts t r a.pending) id q cancelling w ch refl (marked_as t r q false ch (sym (ap is_ready ch.here)) roster_is (ap is_some o.is) refl)
-      (runs_same a w t id q ch (λ e. sym (ap is_pending o.is) ∙ e)) (retimes_same a.pending.timers id cancelling (λ x. refl))
-      (λ x v e. object_tells Machine_active Machine_cancelling o.status o.status x (cancelling x) v (λ phase status. (refl, status)) (subst (λ h. Tells h (Some x) v) o.is e)) (λ x. (refl, refl)))
+      subst (λ x. Made x (parts t r a.pending) id cancelling) same (made a (parts t r a.pending) id q cancelling w ch refl
+      (marked_as t r q false ch (sym (ap is_ready ch.here)) roster_is (ap is_some o.is) refl) (runs_same a w t id q ch (λ e. sym (ap is_pending o.is) ∙ e))
+      (retimes_same a.pending.timers id cancelling (λ x. refl)) (λ x v e. object_tells Machine_active Machine_cancelling o.status o.status x (cancelling x) v
+      (λ phase status. (refl, status)) (subst (λ h. Tells h (Some x) v) o.is e)) (λ x. (refl, refl)))
 
   pub issues_own : (s t : Table) (code given : ℤ) →
       given ≡ code → state_at old.table id ≡ Some Machine_idle → Changes a.table s id (Some (Machine_object Machine_issued pending)) →
@@ -186,11 +187,10 @@ module _ {old : Active} (a : Active) (same : a ≡ old) (w : IsWhole a) (id : �
       let q = Some (Machine_object Machine_issued (kept_code code)) in
       let over : is_pending (request_at a.table id) ≡ false = ap is_pending o.is in
       let ch = changes_twice a.table s t id (Some (Machine_object Machine_issued pending)) q first (grind arith) in
-      subst (λ x. Made x (parts t a.roster a.pending) id (completed_at_once code)) same
-      (made a (parts t a.roster a.pending) id q (completed_at_once code) w ch refl (follows_same a w t id q ch (ap is_some o.is) refl (sym (ap is_ready o.is)))
-      (runs_same a w t id q ch (λ e. absurd (false≢true (sym over ∙ e)))) (retimes_none a.pending.timers id (completed_at_once code) (no_timer a w t id q ch over) (λ x. refl))
-      (λ x v e. object_tells Machine_idle Machine_issued o.status
-      (kept_code code) x (completed_at_once code x) v (λ phase status. (refl, refl)) (subst (λ h. Tells h (Some x) v) o.is e)) (λ x. (refl, refl)))
+      subst (λ x. Made x (parts t a.roster a.pending) id (completed_at_once code)) same (made a (parts t a.roster a.pending) id q (completed_at_once code)
+      w ch refl (follows_same a w t id q ch (ap is_some o.is) refl (sym (ap is_ready o.is))) (runs_same a w t id q ch (λ e. absurd (false≢true (sym over ∙ e))))
+      (retimes_none a.pending.timers id (completed_at_once code) (no_timer a w t id q ch over) (λ x. refl)) (λ x v e. object_tells Machine_idle Machine_issued
+      o.status (kept_code code) x (completed_at_once code x) v (λ phase status. (refl, refl)) (subst (λ h. Tells h (Some x) v) o.is e)) (λ x. (refl, refl)))
 
   pub ends_cancel : (t : Table) → is_being_cancelled (request_at old.table id) ≡ true → is_pending (request_at old.table id) ≡ false →
       Changes a.table t id (taken (request_at a.table id)) → Made old (parts t a.roster a.pending) id cancelled
@@ -200,14 +200,13 @@ module _ {old : Active} (a : Active) (same : a ≡ old) (w : IsWhole a) (id : �
       let o = cancelled_object (request_at a.table id) being_here in
       let q = Some (Machine_object Machine_idle o.in_it.status) in
       let ch = subst (λ h. Changes a.table t id (taken h)) o.in_it.is change in
-      subst (λ x. Made x (parts t a.roster a.pending) id cancelled) same
-      (made a (parts t a.roster a.pending) id q cancelled w ch refl (follows_same a w t id q ch (ap is_some o.in_it.is) refl (sym (cancelled_waits (request_at a.table id) being_here)))
-      (runs_same a w t id q ch (λ e. absurd (false≢true (sym over ∙ e)))) (retimes_same a.pending.timers id cancelled (λ x. refl))
-      (λ x v e. object_tells o.state Machine_idle o.in_it.status o.in_it.status x (cancelled x) v (λ phase status. (refl, status)) (subst (λ h. Tells h (Some x) v) o.in_it.is e)) (λ x. (refl, refl)))
+      subst (λ x. Made x (parts t a.roster a.pending) id cancelled) same (made a (parts t a.roster a.pending) id q cancelled w ch refl
+      (follows_same a w t id q ch (ap is_some o.in_it.is) refl (sym (cancelled_waits (request_at a.table id) being_here))) (runs_same a w t id q ch
+      (λ e. absurd (false≢true (sym over ∙ e)))) (retimes_same a.pending.timers id cancelled (λ x. refl)) (λ x v e. object_tells o.state Machine_idle
+      o.in_it.status o.in_it.status x (cancelled x) v (λ phase status. (refl, status)) (subst (λ h. Tells h (Some x) v) o.in_it.is e)) (λ x. (refl, refl)))
 
-  pub aborts :
-      (t : Table) (p : Pending) → is_being_cancelled (request_at old.table id) ≡ true → Changes a.table t id (aborted_request (request_at a.table id)) →
-      p ≡ record a.pending { timers = without id_of id a.pending.timers } → Made old (parts t a.roster p) id aborted
+  pub aborts : (t : Table) (p : Pending) → is_being_cancelled (request_at old.table id) ≡ true → Changes a.table t id
+      (aborted_request (request_at a.table id)) → p ≡ record a.pending { timers = without id_of id a.pending.timers } → Made old (parts t a.roster p) id aborted
   aborts t p being change pending_is =
       let being_here : is_being_cancelled (request_at a.table id) ≡ true = ap (λ x. is_being_cancelled (request_at x.table id)) same ∙ being in
       let o = cancelled_object (request_at a.table id) being_here in
@@ -235,11 +234,12 @@ module _ {old : Active} (a : Active) (same : a ≡ old) (w : IsWhole a) (id : �
       let q = Some (Machine_object o.state (pos 0)) in
       let ch = subst (λ h. Changes a.table t id (with_status (pos 0) h)) o.in_it.is change in
       let timers = record a.pending { timers = without id_of id a.pending.timers } in
-      let left = pending_is ∙ ap (λ ts. record a.pending { timers = ts }) (left_some now id a.pending.timers (subst (λ x. AreDistinct id_of x.pending.timers) (sym same) ordered.distinct) due) in
+      let left = pending_is ∙ ap (λ ts. record a.pending { timers = ts })
+      (left_some now id a.pending.timers (subst (λ x. AreDistinct id_of x.pending.timers) (sym same) ordered.distinct) due) in
       subst (λ x. Made x (parts t r p) id timed_out) same (subst (λ y. Made a (parts t r y) id timed_out) (sym left)
       (made a (parts t r timers) id q timed_out w ch (completed_stands o.state (pos 0) refl) (marked_as t r q ready ch ready_is roster_is listed refl)
-      (runs_without a w t id q ch) (retimes_without a.pending.timers id timed_out (λ x. refl))
-      (λ x v e. object_tells o.state o.state o.in_it.status (pos 0) x (timed_out x) v (λ phase status. (phase, refl)) (subst (λ h. Tells h (Some x) v) o.in_it.is e)) (λ x. (refl, refl))))
+      (runs_without a w t id q ch) (retimes_without a.pending.timers id timed_out (λ x. refl)) (λ x v e. object_tells o.state o.state o.in_it.status (pos 0) x
+      (timed_out x) v (λ phase status. (phase, refl)) (subst (λ h. Tells h (Some x) v) o.in_it.is e)) (λ x. (refl, refl))))
 
   -- one that is not completed, as long as no timer runs for it, and it stands where it stood
   issues_as : (f : Request → Request) → ((r : Request) → (f r).phase ≡ Issued) → ((r : Request) → (f r).status ≡ pending) →
@@ -249,10 +249,10 @@ module _ {old : Active} (a : Active) (same : a ≡ old) (w : IsWhole a) (id : �
       let o = state_here Machine_idle state in
       let q = Some (Machine_object Machine_issued pending) in
       let over : is_pending (request_at a.table id) ≡ false = ap is_pending o.is in
-      subst (λ x. Made x (parts t a.roster a.pending) id f) same
-      (made a (parts t a.roster a.pending) id q f w ch refl (follows_same a w t id q ch (ap is_some o.is) refl (sym (ap is_ready o.is)))
-      (runs_same a w t id q ch (λ e. absurd (false≢true (sym over ∙ e)))) (retimes_none a.pending.timers id f (no_timer a w t id q ch over) timer_so)
-      (λ x v e. object_tells Machine_idle Machine_issued o.status pending x (f x) v (λ phase status. (sym (phase_so x), sym (status_so x))) (subst (λ h. Tells h (Some x) v) o.is e)) stays)
+      subst (λ x. Made x (parts t a.roster a.pending) id f) same (made a (parts t a.roster a.pending) id q f w ch refl
+      (follows_same a w t id q ch (ap is_some o.is) refl (sym (ap is_ready o.is))) (runs_same a w t id q ch (λ e. absurd (false≢true (sym over ∙ e))))
+      (retimes_none a.pending.timers id f (no_timer a w t id q ch over) timer_so) (λ x v e. object_tells Machine_idle Machine_issued o.status pending x (f x) v
+      (λ phase status. (sym (phase_so x), sym (status_so x))) (subst (λ h. Tells h (Some x) v) o.is e)) stays)
 
   pub issues_native : (t : Table) → state_at old.table id ≡ Some Machine_idle →
       Changes a.table t id (Some (Machine_object Machine_issued pending)) → Made old (parts t a.roster a.pending) id (begun_with pending)
@@ -276,9 +276,9 @@ module _ {old : Active} (a : Active) (same : a ≡ old) (w : IsWhole a) (id : �
       (subst (λ h. Changes a.table t id (with_status (kept_code given) h)) o.in_it.is change) in
       let timers = record a.pending { timers = without id_of id a.pending.timers } in
       subst (λ x. Made x (parts t r p) id f) same (subst (λ y. Made a (parts t r y) id f) (sym pending_is)
-      (made a (parts t r timers) id q f w ch (completed_stands o.state (kept_code code) (kept_is_over code)) (marked_as t r q ready ch ready_is roster_is listed refl)
-      (runs_without a w t id q ch) (retimes_without a.pending.timers id f (λ x. refl))
-      (λ x v e. object_tells o.state o.state o.in_it.status (kept_code code) x (f x) v (λ phase status. (phase, refl)) (subst (λ h. Tells h (Some x) v) o.in_it.is e)) (λ x. (refl, refl))))
+      (made a (parts t r timers) id q f w ch (completed_stands o.state (kept_code code) (kept_is_over code)) (marked_as t r q ready ch ready_is roster_is listed
+      refl) (runs_without a w t id q ch) (retimes_without a.pending.timers id f (λ x. refl)) (λ x v e. object_tells o.state o.state o.in_it.status
+      (kept_code code) x (f x) v (λ phase status. (phase, refl)) (subst (λ h. Tells h (Some x) v) o.in_it.is e)) (λ x. (refl, refl))))
 
   -- the first that is ready holds a signal, and is enlisted
   pub pick_is_ready : first_ready a.roster.entries ≡ Some id → is_ready (request_at a.table id) ≡ true
@@ -313,21 +313,24 @@ module _ {old : Active} (a : Active) (same : a ≡ old) (w : IsWhole a) where
   none_completes now p result none due pending_is = subst (λ r. Completes now old (parts a.table a.roster p) r) (sym none)
       (grind (arith, nat_tests, left_none now a.pending.timers due, none_by))
 
-  pub is_first_due : (now id : ℕ) → due_by now a.pending.timers ≡ Some id → (asked : ℕ → Option Request) (queues : ℕ → Option Bool) → StandsFor old asked queues → IsFirstDue now id asked
+  pub is_first_due : (now id : ℕ) → due_by now a.pending.timers ≡ Some id → (asked : ℕ → Option Request) (queues : ℕ → Option Bool) →
+      StandsFor old asked queues → IsFirstDue now id asked
   is_first_due now id due asked queues s = search (arith, nat_tests, first_by asked now id a.pending.timers)
 
   pub none_picked : (first result : Option ℕ) → first ≡ None → (IsNone first → All (λ e. e.is_ready ≡ false) a.roster.entries) → result ≡ None → Picks old old result
   none_picked first result none waits is = subst (λ r. Picks old old r) (sym is)
       (refl, λ asked queues s. picks_none a w asked queues (subst (λ x. StandsFor x asked queues) (sym same) s) (waits (subst IsNone (sym none) refl)))
 
-  pub is_first_ready : (id : ℕ) → first_ready a.roster.entries ≡ Some id → (asked : ℕ → Option Request) (queues : ℕ → Option Bool) → StandsFor old asked queues → IsFirstReady id asked queues
+  pub is_first_ready : (id : ℕ) → first_ready a.roster.entries ≡ Some id → (asked : ℕ → Option Request) (queues : ℕ → Option Bool) →
+      StandsFor old asked queues → IsFirstReady id asked queues
   is_first_ready id first asked queues s = picks_first a w asked queues (subst (λ x. StandsFor x asked queues) (sym same) s) id first
 
   -- of a server nothing changes, and an object is idle
   pub server_picked : (id : ℕ) (b : Bool) → b ≡ is_server (request_at a.table id) → b ≡ true → TakesUp (is_server (request_at old.table id)) old old id
   server_picked id b is serves = grind (arith, nat_tests, is)
 
-  pub object_picked : (id : ℕ) (new : Active) (b : Bool) → b ≡ is_server (request_at a.table id) → b ≡ false → Makes old new id taken_up → TakesUp (is_server (request_at old.table id)) old new id
+  pub object_picked : (id : ℕ) (new : Active) (b : Bool) → b ≡ is_server (request_at a.table id) → b ≡ false → Makes old new id taken_up →
+      TakesUp (is_server (request_at old.table id)) old new id
   object_picked id new b is plain makes = grind (arith, nat_tests, is, makes)
 
 -- ---- an object that is enlisted, one that is no more, and a timer that is set
@@ -353,10 +356,8 @@ module _ {old : Active} (a : Active) (same : a ≡ old) (w : IsWhole a) (id : �
       may_stand (Some h) ≡ true → is_ready (Some h) ≡ false → ((order : ℕ) (priority : ℤ) → Tells (Some h) (Some (enlisted_with order priority)) waits) →
       (t : Table) (r : Roster) (priority given : ℤ) → given ≡ priority → IsSound old.roster → request_at old.table id ≡ None → Changes a.table t id (Some h) →
       r ≡ record a.roster { entries = placed before (waiting id given) a.roster.entries } → Enlisted old (parts t r a.pending) id priority waits
-  enlists_it h waits may idles tells t r priority given given_is ordered fresh ch roster_is =
-      subst (λ x. Enlisted x (parts t r a.pending) id priority waits) same
-      (subst (λ x. Enlisted a (parts t x a.pending) id priority waits) (grind (arith, nat_tests))
-      (record {
+  enlists_it h waits may idles tells t r priority given given_is ordered fresh ch roster_is = subst (λ x. Enlisted x (parts t r a.pending) id priority waits)
+      same (subst (λ x. Enlisted a (parts t x a.pending) id priority waits) (grind (arith, nat_tests)) (record {
         whole = whole_from a (parts t grown a.pending) id q w ch may
             (enters_placed a w t id q ch priority absent refl idles) (runs_same a w t id q ch (λ e. absurd (false≢true (sym (ap is_pending free) ∙ e))));
         enlists = record { limit = ch.limit; stands = stands };
@@ -416,7 +417,8 @@ module _ {old : Active} (a : Active) (same : a ≡ old) (w : IsWhole a) (id : �
       signals : (o : Option Request) (v : Option Bool) (x : Bool) → Tells (Some (Machine_server x)) o v → Tells (Some (Machine_server b)) o (Some b)
       signals o v x tells = grind arith
 
-      stands : (asked : ℕ → Option Request) (queues : ℕ → Option Bool) → StandsFor a asked queues → StandsFor (parts t r a.pending) asked (queued_anew id (Some b) queues)
+      stands : (asked : ℕ → Option Request) (queues : ℕ → Option Bool) → StandsFor a asked queues →
+          StandsFor (parts t r a.pending) asked (queued_anew id (Some b) queues)
       stands asked queues s =
           let l = follows.listed asked asked (λ n. kept_itself (asked n)) (record { priorities = s.priorities; order = s.order }) in
           record { tells = grind (arith, nat_tests); priorities = l.priorities; order = l.order; dues = s.dues; sooner = s.sooner }
@@ -427,9 +429,8 @@ module _ {old : Active} (a : Active) (same : a ≡ old) (w : IsWhole a) (id : �
   pub removes_it :
       (t : Table) (r : Roster) (p : Pending) → Changes a.table t id None → r ≡ record a.roster { entries = without (λ e. e.id) id a.roster.entries } →
       p ≡ record a.pending { timers = without id_of id a.pending.timers } → Removed old (parts t r p) id
-  removes_it t r p ch roster_is pending_is = subst (λ x. Removed x (parts t r p) id) same (subst (λ x. Removed a (parts t x p) id) (sym roster_is)
-      (subst (λ x. Removed a (parts t less x) id) (sym pending_is)
-      (record {
+  removes_it t r p ch roster_is pending_is = subst (λ x. Removed x (parts t r p) id) same
+      (subst (λ x. Removed a (parts t x p) id) (sym roster_is) (subst (λ x. Removed a (parts t less x) id) (sym pending_is) (record {
         whole = whole_from a (parts t less fewer) id None w ch refl (enters_without a w t id None ch refl) (runs_without a w t id None ch);
         removes = record { limit = ch.limit; stands = stands };
       })))
@@ -450,8 +451,7 @@ module _ {old : Active} (a : Active) (same : a ≡ old) (w : IsWhole a) (id : �
       AreInOrder old.pending → state_at old.table id ≡ Some Machine_idle → Changes a.table t id (Some (Machine_object Machine_issued pending)) →
       p ≡ record a.pending { timers = placed no_later (timer_of id due) a.pending.timers } → Timed old (parts t a.roster p) id due
   sets_timer t p due ordered state ch pending_is = subst (λ x. Timed x (parts t a.roster p) id due) same
-      (subst (λ x. Timed a (parts t a.roster x) id due) (sym pending_is)
-      (record {
+      (subst (λ x. Timed a (parts t a.roster x) id due) (sym pending_is) (record {
         whole = whole_from a (parts t a.roster more) id q w ch refl (follows_same a w t id q ch (ap is_some o.is) refl (sym (ap is_ready o.is))).enters
             (runs_placed a w t id q ch due unset refl);
         times = record { limit = ch.limit; stands = stands };
@@ -491,5 +491,6 @@ module _ {old : Active} (a : Active) (same : a ≡ old) (w : IsWhole a) (id : �
   pub has_place : (s : State) → IsSound old.roster → state_at old.table id ≡ Some s → id < a.pending.limit
   has_place s ordered state =
       let o = state_here a same w id s state in
-      let found = standing (λ e. e.id) id (λ e. e.id < a.roster.limit) a.roster.entries (w.enlisted id ∙ ap is_some o.is) (subst (λ x. IsSound x.roster) (sym same) ordered).below in
+      let found = standing (λ e. e.id) id (λ e. e.id < a.roster.limit) a.roster.entries (w.enlisted id ∙ ap is_some o.is)
+      (subst (λ x. IsSound x.roster) (sym same) ordered).below in
       subst (λ n. id < n) (w.places ∙ sym w.dues) (subst (λ n. n < a.roster.limit) found.number_is found.holds)

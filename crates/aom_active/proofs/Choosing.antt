@@ -116,7 +116,8 @@ chosen (c ∷ cs) id r tidy asked ready first = go (c.object.name == id) refl as
       request = w.request;
     }
       where
-        by_ready : (q : Request) → c.request ≡ Some q → (b : Bool) → goes_now c q ≡ b → cond b (Some (before_others (first_seat c q) (Some w.candidate))) (Some w.candidate) ≡ Some w.candidate
+        by_ready : (q : Request) → c.request ≡ Some q → (b : Bool) → goes_now c q ≡ b →
+            cond b (Some (before_others (first_seat c q) (Some w.candidate))) (Some w.candidate) ≡ Some w.candidate
         by_ready q here true is = ap (λ g. Some (cond g w.candidate (first_seat c q))) (ap (λ p. goes_before p q) w.request ∙ first c.object.name q
             (eqb-false c.object.name id other) (asked_first c cs ∙ here) (ap (λ v. is_ready q || has_more v.queue) (service_first c cs) ∙ is))
         by_ready q here false is = refl
@@ -124,7 +125,8 @@ chosen (c ∷ cs) id r tidy asked ready first = go (c.object.name == id) refl as
         by_request : (q : Option Request) → c.request ≡ q → among_ready c q (Some w.candidate) ≡ Some w.candidate
         by_request x here = grind (arith, nat_tests, by_ready)
 
-    go : (b : Bool) → (c.object.name == id) ≡ b → cond b c.request (requested cs id) ≡ Some r → (requested cs id ≡ Some r → IsChosen cs id r) → IsChosen (c ∷ cs) id r
+    go : (b : Bool) → (c.object.name == id) ≡ b → cond b c.request (requested cs id) ≡ Some r →
+        (requested cs id ≡ Some r → IsChosen cs id r) → IsChosen (c ∷ cs) id r
     go x same here rest = grind (arith, nat_tests, in_front, eqb-true, behind)
 
 -- the first ready object is the candidate that the checked machine takes

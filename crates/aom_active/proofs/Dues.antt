@@ -14,7 +14,8 @@ use Rattle.aom_active.specs.Agrees.{Active, StandsFor, due_in, timer_in}
 use Rattle.aom_active.specs.Meanings.{IsFirstDue, IsNextDue, NoneDue}
 
 -- a request with a timer is among those that have one, and one with none is not
-among_some : (o : Object) (q : Option Request) (t : Timer) (others : Option Timed) → timer_in q ≡ Some t → among_timers o q others ≡ Some (sooner (record { object = o; timer = t }) others)
+among_some : (o : Object) (q : Option Request) (t : Timer) (others : Option Timed) → timer_in q ≡ Some t →
+    among_timers o q others ≡ Some (sooner (record { object = o; timer = t }) others)
 among_some o q t others e = grind arith
 
 among_none : (o : Object) (q : Option Request) (others : Option Timed) → timer_in q ≡ None → among_timers o q others ≡ others
@@ -48,7 +49,8 @@ running (c ∷ cs) tidy x e = by_timer (timer_in c.request) refl (λ f. later (r
     here : (t : Timer) → timer_in c.request ≡ Some t → Running (c ∷ cs) (first_running c t)
     here t is = record { lives = named_first c cs; runs = timer_first c cs ∙ is }
 
-    by_others : (t : Timer) → timer_in c.request ≡ Some t → (others : Option Timed) → Some (sooner (first_running c t) others) ≡ Some x → (others ≡ Some x → Running (c ∷ cs) x) → Running (c ∷ cs) x
+    by_others : (t : Timer) → timer_in c.request ≡ Some t → (others : Option Timed) → Some (sooner (first_running c t) others) ≡ Some x →
+        (others ≡ Some x → Running (c ∷ cs) x) → Running (c ∷ cs) x
     by_others t is None e rest = let same : first_running c t ≡ x = cc in subst (λ y. Running (c ∷ cs) y) same (here t is)
     by_others t is (Some b) e rest = go (is_sooner b.timer t) e
       where
@@ -74,7 +76,8 @@ record IsSoonest (cs : List Cell) (id : ℕ) (t : Timer) : Type 0 where
 soonest : (cs : List Cell) (id : ℕ) (t : Timer) → Tidy cs → timer_in (requested cs id) ≡ Some t →
     ((n : ℕ) (u : Timer) → n ≢ id → timer_in (requested cs n) ≡ Some u → is_sooner t u ≡ true) → IsSoonest cs id t
 soonest [] id t tidy runs first = cc
-soonest (c ∷ cs) id t tidy runs first = go (c.object.name == id) refl runs (λ here. soonest cs id t tidy.2 here (λ n u other e. first n u other (timer_later c cs n u tidy e)))
+soonest (c ∷ cs) id t tidy runs first =
+    go (c.object.name == id) refl runs (λ here. soonest cs id t tidy.2 here (λ n u other e. first n u other (timer_later c cs n u tidy e)))
   where
     alone : (others : Option Timed) → first_due cs ≡ others → c.object.name ≡ id → sooner (first_running c t) others ≡ first_running c t
     alone None e same = refl
@@ -105,7 +108,8 @@ soonest (c ∷ cs) id t tidy runs first = go (c.object.name == id) refl runs (λ
         by_timer (Some u) is = among_some c.object c.request u (Some w.timed) is ∙ ap (λ s. Some (cond s w.timed (first_running c u)))
             (ap (λ v. is_sooner v u) w.timer ∙ first c.object.name u (eqb-false c.object.name id other) (timer_first c cs ∙ is))
 
-    go : (b : Bool) → (c.object.name == id) ≡ b → timer_in (cond b c.request (requested cs id)) ≡ Some t → (timer_in (requested cs id) ≡ Some t → IsSoonest cs id t) → IsSoonest (c ∷ cs) id t
+    go : (b : Bool) → (c.object.name == id) ≡ b → timer_in (cond b c.request (requested cs id)) ≡ Some t →
+        (timer_in (requested cs id) ≡ Some t → IsSoonest cs id t) → IsSoonest (c ∷ cs) id t
     go x same here rest = grind (arith, nat_tests, in_front, eqb-true, behind)
 
 -- the first timer that is due is the one that the checked machine takes

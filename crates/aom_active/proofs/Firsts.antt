@@ -48,7 +48,8 @@ first_timer asked t ts s = record { timer = own.timer; runs = own.is; due_is = o
     own = grind (arith, nat_tests, timer_there, eq-eqb t.id t.id)
 
     first : (n : ℕ) (u : Timer) → n ≢ t.id → timer_in (asked n) ≡ Some u → is_sooner own.timer u ≡ true
-    first n u other e = by_place (standing id_of n (λ v. IsSooner (asked t.id) (asked v.id)) ts (stands-if_set n ts set) (pairs-head (λ v w. IsSooner (asked v.id) (asked w.id)) t ts s.sooner))
+    first n u other e = by_place (standing id_of n (λ v. IsSooner (asked t.id) (asked v.id)) ts (stands-if_set n ts set)
+        (pairs-head (λ v w. IsSooner (asked v.id) (asked w.id)) t ts s.sooner))
       where
         later : (b : Bool) → (t.id == n) ≡ b → cond b (Some t.due) (due_of n ts) ≡ Some u.due → due_of n ts ≡ Some u.due
         later true same is = absurd (other (sym (eqb-true t.id n same)))
@@ -58,7 +59,8 @@ first_timer asked t ts s = record { timer = own.timer; runs = own.is; due_is = o
         set = ap is_some (later (t.id == n) refl (s.dues n ∙ ap (option_map (λ v. v.due)) e))
 
         by_place : Numbered id_of n (λ v. IsSooner (asked t.id) (asked v.id)) → is_sooner own.timer u ≡ true
-        by_place w = subst (λ o. ComesSooner (Some own.timer) o) (ap (λ k. timer_in (asked k)) w.number_is ∙ e) (subst (λ o. ComesSooner o (timer_in (asked w.item.id))) own.is w.holds)
+        by_place w = subst (λ o. ComesSooner (Some own.timer) o) (ap (λ k. timer_in (asked k)) w.number_is ∙ e)
+            (subst (λ o. ComesSooner o (timer_in (asked w.item.id))) own.is w.holds)
 
 -- what is due is the first
 record IsDueFirst (now id : ℕ) (ts : List Machine_timer) : Type 0 where
@@ -78,7 +80,8 @@ pub first_by : (asked : ℕ → Option Request) (now id : ℕ) (ts : List Machin
 first_by asked now id ts s e =
     let d = due_first now id ts e in
     let f = first_timer asked d.timer d.rest (subst (Timely asked) d.is s) in
-    subst (λ n. IsFirstDue now n asked) d.name (record { timer = f.timer; runs = f.runs; due = omega (arith, f.due_is, leb-true d.timer.due now d.le); first = f.first })
+    subst (λ n. IsFirstDue now n asked) d.name
+    (record { timer = f.timer; runs = f.runs; due = omega (arith, f.due_is, leb-true d.timer.due now d.le); first = f.first })
 
 no_earlier : (t u : Timer) → is_sooner t u ≡ true → t.due ≤ u.due
 no_earlier t u e = grind (arith, nat_tests)
@@ -106,8 +109,8 @@ left_none now ts e = grind arith
 pub left_some : (now id : ℕ) (ts : List Machine_timer) → AreDistinct id_of ts → due_by now ts ≡ Some id → left_by now ts ≡ without id_of id ts
 left_some now id ts distinct e =
     let d = due_first now id ts e in
-    subst (λ l. left_by now l ≡ without id_of id l) (sym d.is)
-    (ap (λ b. cond b d.rest (d.timer ∷ d.rest)) d.le ∙ without-at id_of id (d.timer ∷ d.rest) 0 (subst (AreDistinct id_of) d.is distinct) (at_head d.timer d.rest d.name))
+    subst (λ l. left_by now l ≡ without id_of id l) (sym d.is) (ap (λ b. cond b d.rest (d.timer ∷ d.rest)) d.le
+    ∙ without-at id_of id (d.timer ∷ d.rest) 0 (subst (AreDistinct id_of) d.is distinct) (at_head d.timer d.rest d.name))
 
 -- the first is set no more then
 pub fewer_left : (now id : ℕ) (ts : List Machine_timer) → due_by now ts ≡ Some id → length (left_by now ts) < length ts
@@ -127,11 +130,13 @@ record IsFirstEntry (R : ScheduleEntry → ScheduleEntry → Type 0) (P : Schedu
   holds : P entry
   first : All (λ f. f.id ≢ id → f.is_ready ≡ true → R entry f) es
 
-first_entry : (R : ScheduleEntry → ScheduleEntry → Type 0) (P : ScheduleEntry → Type 0) (id : ℕ) (es : List ScheduleEntry) → first_ready es ≡ Some id → AllPairs R es → All P es → IsFirstEntry R P id es
+first_entry : (R : ScheduleEntry → ScheduleEntry → Type 0) (P : ScheduleEntry → Type 0) (id : ℕ) (es : List ScheduleEntry) → first_ready es ≡ Some id →
+    AllPairs R es → All P es → IsFirstEntry R P id es
 first_entry R P id [] e pairs all = cc
 first_entry R P id (x ∷ xs) e pairs all = go x.is_ready refl e (λ later. first_entry R P id xs later (pairs-tail R x xs pairs) (All-tail P x xs all))
   where
-    go : (b : Bool) → x.is_ready ≡ b → cond b (Some x.id) (first_ready xs) ≡ Some id → (first_ready xs ≡ Some id → IsFirstEntry R P id xs) → IsFirstEntry R P id (x ∷ xs)
+    go : (b : Bool) → x.is_ready ≡ b → cond b (Some x.id) (first_ready xs) ≡ Some id → (first_ready xs ≡ Some id → IsFirstEntry R P id xs) →
+        IsFirstEntry R P id (x ∷ xs)
     go true ready e rest = record {
       entry = x;
       name = same_Some x.id id e;
@@ -178,7 +183,8 @@ first_is_ready a w id e =
 
 module _ (a : Active) (w : IsWhole a) (asked : ℕ → Option Request) (queues : ℕ → Option Bool) (s : StandsFor a asked queues) where
   -- the entry of a request that is ready
-  entry_of : (P : ScheduleEntry → Type 0) → All P a.roster.entries → (n : ℕ) (r : Request) → asked n ≡ Some r → goes r (queues n) ≡ true → Numbered (λ e. e.id) n (λ e. P e × (e.is_ready ≡ true))
+  entry_of : (P : ScheduleEntry → Type 0) → All P a.roster.entries → (n : ℕ) (r : Request) → asked n ≡ Some r → goes r (queues n) ≡ true →
+      Numbered (λ e. e.id) n (λ e. P e × (e.is_ready ≡ true))
   entry_of P all n r e ready = record { item = found.item; number_is = found.number_is; holds = grind arith }
     where
       held_ready : Held.is_ready (request_at a.table n) ≡ true

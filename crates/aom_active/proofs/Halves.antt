@@ -48,7 +48,8 @@ IsKept (Some r) (Some q) = (r.priority ≡ q.priority) × (r.order ≡ q.order)
 pub kept_itself : (r : Option Request) → IsKept r r
 kept_itself x = grind arith
 
-pub kept_anew : (id : ℕ) (r q : Request) (asked : ℕ → Option Request) → asked id ≡ Some r → IsKept (Some r) (Some q) → (n : ℕ) → IsKept (asked n) (asked_anew id (Some q) asked n)
+pub kept_anew : (id : ℕ) (r q : Request) (asked : ℕ → Option Request) → asked id ≡ Some r → IsKept (Some r) (Some q) → (n : ℕ) →
+    IsKept (asked n) (asked_anew id (Some q) asked n)
 kept_anew id r q asked here kept n = grind (arith, nat_tests, eqb-true id n, kept_itself (asked n))
 
 priority_kept : (p : ℤ) (r q : Option Request) → IsKept r q → HasPriority p r → HasPriority p q
@@ -80,7 +81,8 @@ listed_marked asked id b es l = record {
   order = marked_pairs (λ e f. GoesBefore (asked e.id) (asked f.id)) (λ e f c d h. h) id b es l.order;
 }
 
-pub listed_without : (asked : ℕ → Option Request) (id : ℕ) (r : Option Request) (es : List ScheduleEntry) → Listed asked es → Listed (asked_anew id r asked) (without (λ e. e.id) id es)
+pub listed_without : (asked : ℕ → Option Request) (id : ℕ) (r : Option Request) (es : List ScheduleEntry) → Listed asked es →
+    Listed (asked_anew id r asked) (without (λ e. e.id) id es)
 listed_without asked id r es l = record {
   priorities = All-weaker (λ e. (e.id ≢ id) × HasPriority e.priority (asked e.id)) (λ e. HasPriority e.priority (asked_anew id r asked e.id))
       (λ e h. subst (HasPriority e.priority) (sym (asked_other id e.id r asked h.0)) h.1) (without (λ e. e.id) id es)
@@ -93,8 +95,9 @@ listed_without asked id r es l = record {
       (AllPairs-filter (λ e f. GoesBefore (asked e.id) (asked f.id)) (λ e. not (e.id == id)) es l.order);
 }
 
-pub listed_placed : (asked : ℕ → Option Request) (id order : ℕ) (priority : ℤ) (es : List ScheduleEntry) → Listed asked es → All (λ e. e.id ≢ id) es → AllPairs (λ e f.
-    before e f ≡ true) es → IsNewest order asked → Listed (asked_anew id (Some (enlisted_with order priority)) asked) (placed before (waiting id priority) es)
+pub listed_placed : (asked : ℕ → Option Request) (id order : ℕ) (priority : ℤ) (es : List ScheduleEntry) → Listed asked es →
+    All (λ e. e.id ≢ id) es → AllPairs (λ e f. before e f ≡ true) es → IsNewest order asked →
+    Listed (asked_anew id (Some (enlisted_with order priority)) asked) (placed before (waiting id priority) es)
 listed_placed asked id order priority es l absent sorted newest = record {
   priorities = All-placed before
       (λ e. HasPriority e.priority (now e.id)) new es (subst (HasPriority priority) (sym (asked_same id (Some mine) asked)) refl) (All-weaker P
@@ -138,11 +141,13 @@ pub record Timely (asked : ℕ → Option Request) (ts : List Machine_timer) : T
   pub dues : (n : ℕ) → due_of n ts ≡ due_in (asked n)
   pub sooner : AllPairs (λ t u. IsSooner (asked t.id) (asked u.id)) ts
 
-pub timely_kept : (asked other : ℕ → Option Request) (ts : List Machine_timer) → ((n : ℕ) → timer_in (asked n) ≡ timer_in (other n)) → Timely asked ts → Timely other ts
+pub timely_kept : (asked other : ℕ → Option Request) (ts : List Machine_timer) → ((n : ℕ) → timer_in (asked n) ≡ timer_in (other n)) →
+    Timely asked ts → Timely other ts
 timely_kept asked other ts same t = record { dues = λ n. t.dues n ∙ ap (option_map (λ u. u.due)) (same n); sooner = grind (arith, nat_tests) }
 
 -- the timer of a request that is changed so that it keeps it
-pub timer_anew : (id : ℕ) (r q : Request) (asked : ℕ → Option Request) → asked id ≡ Some r → r.timer ≡ q.timer → (n : ℕ) → timer_in (asked n) ≡ timer_in (asked_anew id (Some q) asked n)
+pub timer_anew : (id : ℕ) (r q : Request) (asked : ℕ → Option Request) → asked id ≡ Some r → r.timer ≡ q.timer → (n : ℕ) →
+    timer_in (asked n) ≡ timer_in (asked_anew id (Some q) asked n)
 timer_anew id r q asked here same n = grind (arith, nat_tests, eqb-true id n)
 
 pub timely_without : (asked : ℕ → Option Request) (id : ℕ) (r : Option Request) (ts : List Machine_timer) →
@@ -200,8 +205,10 @@ timely_placed asked id due order r ts limit t unset ordered newest = record {
     go : (n : ℕ) (b : Bool) → cond b (Some due) (due_of n ts) ≡ due_in (cond b (Some mine) (asked n))
     go n x = grind arith
 
-    is_after : (u : Machine_timer) (o : Option Timer) → timer_in (asked u.id) ≡ o → Some u.due ≡ option_map (λ v. v.due) o → no_later u (timer_of id due) ≡ true → ComesSooner o (timer_in (Some mine))
+    is_after : (u : Machine_timer) (o : Option Timer) → timer_in (asked u.id) ≡ o → Some u.due ≡ option_map (λ v. v.due) o →
+        no_later u (timer_of id due) ≡ true → ComesSooner o (timer_in (Some mine))
     is_after u x is has first = grind (arith, nat_tests, after_timers, order, same_Some u.due)
 
-    is_ahead : (u : Machine_timer) (o : Option Timer) → Some u.due ≡ option_map (λ v. v.due) o → no_later u (timer_of id due) ≡ false → ComesSooner (timer_in (Some mine)) o
+    is_ahead : (u : Machine_timer) (o : Option Timer) → Some u.due ≡ option_map (λ v. v.due) o → no_later u (timer_of id due) ≡ false →
+        ComesSooner (timer_in (Some mine)) o
     is_ahead u x has later = grind (arith, nat_tests, before_timers, order, same_Some u.due)

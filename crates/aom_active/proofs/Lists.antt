@@ -60,7 +60,8 @@ module _ {A : Type 0} (number : A → ℕ) where
 
   pub stands_without : (id n : ℕ) (xs : List A) → stands n (without number id xs) ≡ cond (id == n) false (stands n xs)
   stands_without id n [] = grind (arith, nat_tests)
-  stands_without id n (x ∷ xs) = go (number x == id) (number x == n) (id == n) refl refl refl (stands_without id n xs) ∙ ap (λ s. cond (id == n) false s) (sym (stands_front n x xs))
+  stands_without id n (x ∷ xs) = go (number x == id) (number x == n) (id == n) refl refl refl (stands_without id n xs)
+      ∙ ap (λ s. cond (id == n) false s) (sym (stands_front n x xs))
     where
       go : (a b c : Bool) → (number x == id) ≡ a → (number x == n) ≡ b → (id == n) ≡ c → stands n (without number id xs) ≡ cond c false (stands n xs) →
           stands n (cond (not a) (x ∷ (without number id xs)) (without number id xs)) ≡ cond c false (cond b true (stands n xs))
@@ -87,14 +88,16 @@ module _ {A : Type 0} (number : A → ℕ) where
 -- ---- entries
 
 -- what a mark does not touch holds after it
-pub marked_keeps : (P : ScheduleEntry → Type 0) → ((e : ScheduleEntry) (b : Bool) → P e → P (record e { is_ready = b })) → (id : ℕ) (b : Bool) (e : ScheduleEntry) → P e → P (marked_entry id b e)
+pub marked_keeps : (P : ScheduleEntry → Type 0) → ((e : ScheduleEntry) (b : Bool) → P e → P (record e { is_ready = b })) →
+    (id : ℕ) (b : Bool) (e : ScheduleEntry) → P e → P (marked_entry id b e)
 marked_keeps P keeps id b e p = cond_both (e.id == id) (record e { is_ready = b }) e P (λ _. keeps e b p) (λ _. p)
 
-pub marked_all : (P : ScheduleEntry → Type 0) → ((e : ScheduleEntry) (b : Bool) → P e → P (record e { is_ready = b })) → (id : ℕ) (b : Bool) (es : List ScheduleEntry) → All P es → All P (marked id b es)
+pub marked_all : (P : ScheduleEntry → Type 0) → ((e : ScheduleEntry) (b : Bool) → P e → P (record e { is_ready = b })) →
+    (id : ℕ) (b : Bool) (es : List ScheduleEntry) → All P es → All P (marked id b es)
 marked_all P keeps id b es all = All-map P (marked_entry id b) es (All-weaker P (λ e. P (marked_entry id b e)) (marked_keeps P keeps id b) es all)
 
-pub marked_pairs : (R : ScheduleEntry → ScheduleEntry → Type 0) → ((e f : ScheduleEntry) (b c : Bool) → R e f → R (record e { is_ready = b }) (record f { is_ready = c })) →
-    (id : ℕ) (b : Bool) (es : List ScheduleEntry) → AllPairs R es → AllPairs R (marked id b es)
+pub marked_pairs : (R : ScheduleEntry → ScheduleEntry → Type 0) → ((e f : ScheduleEntry) (b c : Bool) → R e f →
+    R (record e { is_ready = b }) (record f { is_ready = c })) → (id : ℕ) (b : Bool) (es : List ScheduleEntry) → AllPairs R es → AllPairs R (marked id b es)
 marked_pairs R keeps id b es pairs = grind (arith, nat_tests, pairs_map R, marked_keeps)
 
 -- ---- timers

@@ -44,7 +44,8 @@ module _ {A : Type 0} (test : A → Bool) (xs : List A) (d : A) where
       on : n + 1 ≡ suc n
       on = omega arith
 
-      go : count_by test (take n xs) ≡ count_to passes n → (b : Bool) → passes n ≡ b → count_by test (take (suc n) xs) ≡ cond b (suc (count_to passes n)) (count_to passes n)
+      go : count_by test (take n xs) ≡ count_to passes n → (b : Bool) → passes n ≡ b →
+          count_by test (take (suc n) xs) ≡ cond b (suc (count_to passes n)) (count_to passes n)
       go before true e = grind (arith, nat_tests, on, count_by_more_yes test xs n d)
       go before false e = sym (ap (λ k. count_by test (take k xs)) on) ∙ count_by_more_no test xs n d (omega arith) e ∙ before
 
@@ -85,9 +86,8 @@ unnamed_signal cs n none = ap (λ r. tells_signal r (has_more (service_of cs n).
 
 counts_cells : (cs : List Cell) (m : ℕ) → Tidy cs → ((n : ℕ) → signals_at cs n ≡ true → n < m) → count_to (signals_at cs) m ≡ signal_count cs
 counts_cells [] m tidy low = none_to (signals_at []) m (λ i. refl)
-counts_cells (c ∷ cs) m tidy low =
-    same_counts (signals_at (c ∷ cs)) (with_one c.object.name (signals c c.request) (signals_at cs) new) m (λ i less. signals_first c cs i)
-    ∙ one_more c.object.name (signals c c.request) (signals_at cs) new m (λ is. low c.object.name (grind (arith, eq-eqb)))
+counts_cells (c ∷ cs) m tidy low = same_counts (signals_at (c ∷ cs)) (with_one c.object.name (signals c c.request) (signals_at cs) new) m
+    (λ i less. signals_first c cs i) ∙ one_more c.object.name (signals c c.request) (signals_at cs) new m (λ is. low c.object.name (grind (arith, eq-eqb)))
     ∙ ap (λ k. cond (signals c c.request) (suc k) k) (counts_cells cs m tidy.2 (λ n is. low n (signals_first c cs n ∙ other n is)))
   where
     new : signals_at cs c.object.name ≡ false
@@ -99,10 +99,12 @@ counts_cells (c ∷ cs) m tidy low =
 -- ---- the table
 
 -- a request of the table signals as the request that it tells
-same_signal : (h : Option Machine_request) (r : Option Request) (waits : Option Bool) → may_stand h ≡ true → Tells h r waits → holds_signal h ≡ tells_signal r (is_wanted waits)
+same_signal : (h : Option Machine_request) (r : Option Request) (waits : Option Bool) → may_stand h ≡ true → Tells h r waits →
+    holds_signal h ≡ tells_signal r (is_wanted waits)
 same_signal h r waits may tells = grind arith
 
-module _ (a : Active) (w : IsWhole a) (cs : List Cell) (queues : ℕ → Option Bool) (tidy : Tidy cs) (wanted : AreWanted queues cs) (s : StandsFor a (requested cs) queues) where
+module _ (a : Active) (w : IsWhole a) (cs : List Cell) (queues : ℕ → Option Bool) (tidy : Tidy cs) (wanted : AreWanted queues cs)
+    (s : StandsFor a (requested cs) queues) where
   abbrev held_signal : ℕ → Bool
   held_signal n = holds_signal (request_at a.table n)
 
@@ -119,4 +121,5 @@ module _ (a : Active) (w : IsWhole a) (cs : List Cell) (queues : ℕ → Option 
 
 -- from the contract of the requests
 pub signal_count_from : {old : Active} (a : Active) → a ≡ old → IsWhole a → (result : ℕ) → result ≡ tables.signals a.table → IsSignalCount old result
-signal_count_from a same w result is = λ cs queues tidy wanted s. is ∙ same_count a w cs queues tidy wanted (subst (λ x. StandsFor x (requested cs) queues) (sym same) s)
+signal_count_from a same w result is = λ cs queues tidy wanted s. is
+    ∙ same_count a w cs queues tidy wanted (subst (λ x. StandsFor x (requested cs) queues) (sym same) s)

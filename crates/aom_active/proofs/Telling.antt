@@ -19,7 +19,8 @@ use Rattle.aom_active.specs.Turns.{StandingFollows}
 
 -- the state of a phase
 abbrev pub held_state : Phase → State
-held_state phase = elim phase [ Idle ↦ Machine_idle | Issued ↦ Machine_issued | Waiting ↦ Machine_active | Cancelling ↦ Machine_cancelling | Aborted ↦ Machine_aborted ]
+held_state phase =
+    elim phase [ Idle ↦ Machine_idle | Issued ↦ Machine_issued | Waiting ↦ Machine_active | Cancelling ↦ Machine_cancelling | Aborted ↦ Machine_aborted ]
 
 tells_some : (h : Option Machine_request) (o : Option Request) (waits : Option Bool) → Tells h o waits → is_some h ≡ is_some o
 tells_some h o waits tells = grind arith

@@ -67,7 +67,8 @@ module _ (a : Active) (w : IsWhole a) (t : Table) (id : ℕ) (q : Option Machine
       each : (n : ℕ) → is_ready (request_at a.table n) ≡ is_ready (request_at t n)
       each n = grind (arith, nat_tests, request_anew a.table t id q ch n, eqb-true id n)
 
-  pub follows_marked : is_some (request_at a.table id) ≡ true → is_some q ≡ true → Follows a.roster t (record a.roster { entries = marked id (is_ready q) a.roster.entries })
+  pub follows_marked : is_some (request_at a.table id) ≡ true → is_some q ≡ true →
+      Follows a.roster t (record a.roster { entries = marked id (is_ready q) a.roster.entries })
   follows_marked listed some = record {
     enters = record {
       places = w.places ∙ sym ch.limit;
@@ -83,11 +84,13 @@ module _ (a : Active) (w : IsWhole a) (t : Table) (id : ℕ) (q : Option Machine
           (cond b (record e { is_ready = is_ready q }) e).is_ready ≡ is_ready (request_at t (cond b (record e { is_ready = is_ready q }) e).id)
       by_id e x same h = grind (arith, nat_tests, eqb-true, eqb-false)
 
-      each : (e : ScheduleEntry) → e.is_ready ≡ is_ready (request_at a.table e.id) → (marked_entry id (is_ready q) e).is_ready ≡ is_ready (request_at t (marked_entry id (is_ready q) e).id)
+      each : (e : ScheduleEntry) → e.is_ready ≡ is_ready (request_at a.table e.id) →
+          (marked_entry id (is_ready q) e).is_ready ≡ is_ready (request_at t (marked_entry id (is_ready q) e).id)
       each e h = by_id e (e.id == id) refl h
 
   -- what of the requests of other objects is as before
-  marks_apart : (es : List ScheduleEntry) → IsAbsent (λ e. e.id) id es → All (λ e. e.is_ready ≡ is_ready (request_at a.table e.id)) es → All (λ e. e.is_ready ≡ is_ready (request_at t e.id)) es
+  marks_apart : (es : List ScheduleEntry) → IsAbsent (λ e. e.id) id es → All (λ e. e.is_ready ≡ is_ready (request_at a.table e.id)) es →
+      All (λ e. e.is_ready ≡ is_ready (request_at t e.id)) es
   marks_apart es absent marks = grind (arith, nat_tests, All-weaker, both, marks)
 
   pub enters_without : q ≡ None → Enters t (record a.roster { entries = without (λ e. e.id) id a.roster.entries })
@@ -104,8 +107,7 @@ module _ (a : Active) (w : IsWhole a) (t : Table) (id : ℕ) (q : Option Machine
   enters_placed priority absent some waits = record {
     places = w.places ∙ sym ch.limit;
     enlisted = grind (arith, nat_tests, some_anew a.table t id q a.roster, stands_placed);
-    marks =
-        All-placed before (λ e. e.is_ready ≡ is_ready (request_at t e.id)) (waiting id priority) a.roster.entries (sym waits ∙ sym (ap is_ready ch.here))
+    marks = All-placed before (λ e. e.is_ready ≡ is_ready (request_at t e.id)) (waiting id priority) a.roster.entries (sym waits ∙ sym (ap is_ready ch.here))
         (marks_apart a.roster.entries absent w.marks);
   }
 
@@ -132,7 +134,8 @@ module _ (a : Active) (w : IsWhole a) (t : Table) (id : ℕ) (q : Option Machine
       go : (n : ℕ) (b : Bool) → is_some (cond b None (due_of n a.pending.timers)) ≡ true → is_pending (cond b q (request_at a.table n)) ≡ true
       go n b set = grind (arith, w.waits n)
 
-  pub runs_placed : (due : ℕ) → due_of id a.pending.timers ≡ None → is_pending q ≡ true → Runs t (record a.pending { timers = placed no_later (timer_of id due) a.pending.timers })
+  pub runs_placed : (due : ℕ) → due_of id a.pending.timers ≡ None → is_pending q ≡ true →
+      Runs t (record a.pending { timers = placed no_later (timer_of id due) a.pending.timers })
   runs_placed due unset waiting = record { dues = w.dues ∙ sym ch.limit; waits = grind (arith, nat_tests, request_anew a.table t id q ch, due_placed) }
     where
       go : (n : ℕ) (b : Bool) → is_some (cond b (Some due) (due_of n a.pending.timers)) ≡ true → is_pending (cond b q (request_at a.table n)) ≡ true

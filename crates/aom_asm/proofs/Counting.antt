@@ -1,7 +1,8 @@
 -- How many statements declare a name by a keyword, and how many stand before the end of a method.
 use Rattle.std.proofs.lemmas.Bool.{false≢true, false_from_ne_true}
 use Rattle.std.proofs.lemmas.Option.{same_Some, none-some}
-use Rattle.std.proofs.Common.{◌≡◌, ◌∙◌, refl, sym, ap, subst, arith, ℕ, suc, ◌+◌, Bool, true, false, List, [], ◌∷◌, ◌++◌, length, length-append, cond, Option, Some, None, Ok}
+use Rattle.std.proofs.Common.{◌≡◌, ◌∙◌, refl, sym, ap, subst, arith, ℕ, suc, ◌+◌, Bool, true, false, List, [], ◌∷◌, ◌++◌, length, length-append, cond, Option}
+use Rattle.std.proofs.Common.{Some, None, Ok}
 use Rattle.std.specs.Prelude.{if◌then◌else◌}
 use Rattle.std.specs.List.{find}
 use Rattle.std.specs.Str.{bytes_eq}
@@ -61,15 +62,16 @@ pub before_end : List Statement → ℕ
 before_end [] = 0
 before_end (s ∷ ss) = if is_end s.words then 0 else suc (before_end ss)
 
-more : (labels with_one : List (List ℕ)) (ss : List Statement) (b : Bool) → length with_one ≡ length labels + 1 → length (labels_of with_one ss) ≡ length with_one + before_end ss
-    → length (if b then labels else labels_of with_one ss) ≡ length labels + (if b then 0 else suc (before_end ss))
+more : (labels with_one : List (List ℕ)) (ss : List Statement) (b : Bool) → length with_one ≡ length labels + 1 → length (labels_of with_one ss)
+    ≡ length with_one + before_end ss → length (if b then labels else labels_of with_one ss) ≡ length labels + (if b then 0 else suc (before_end ss))
 more labels with_one ss true one rest = omega arith
 more labels with_one ss false one rest = omega (arith, one, rest)
 
 pub length_labels : (labels : List (List ℕ)) (ss : List Statement) → length (labels_of labels ss) ≡ length labels + before_end ss
 unfolding before_end
 length_labels labels [] = omega arith
-length_labels labels (s ∷ ss) = more labels (labels ++ label_in s.words ∷ []) ss (is_end s.words) (length-append labels (label_in s.words ∷ [])) (length_labels (labels ++ label_in s.words ∷ []) ss)
+length_labels labels (s ∷ ss) = more labels (labels ++ label_in s.words ∷ []) ss (is_end s.words) (length-append labels (label_in s.words ∷ []))
+    (length_labels (labels ++ label_in s.words ∷ []) ss)
 
 pub at_end : (s : Statement) (ss : List Statement) → is_end s.words ≡ true → before_end (s ∷ ss) ≡ 0
 unfolding before_end
@@ -116,8 +118,7 @@ begins_with ws key rest is =
 -- a name behind its keyword
 pub names_one : (key : Keyword) (ws : List (List ℕ)) (n : List ℕ) (rest : List (List ℕ)) → ws ≡ keyword_text key ∷ n ∷ rest → one_of (name_after key ws) ≡ 1
 unfolding one_of
-names_one key ws n rest is =
-    ap (λ ws. one_of (name_after key ws)) is
+names_one key ws n rest is = ap (λ ws. one_of (name_after key ws)) is
     ∙ ap (λ (b : Bool). one_of (if b then Some n else None)) ((bytes_eq-Decides (keyword_text key) (keyword_text key)).1 refl)
 
 -- no name, where the words do not begin with the keyword and another one

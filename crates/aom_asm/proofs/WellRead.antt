@@ -121,8 +121,9 @@ record Read (scope : Scope) (p : Program) (ss : List Statement) : Type 0 where
 module _ (headers : HeadersInRange) (classes_in : ClassesInRange) (headings : HeadingsInRange) (instructions : InstructionsInRange) (scope : Scope)
     (before : Version) (natives : ℕ) (settled : scope.is_strict ≡ true → All (ClassFits before (length scope.classes) natives) scope.kinds) where
   -- a class
-  class_step : (ss : List Statement) (h : Header) (cs : List ClassDecl) (ms : List Method) (size cl ml : ℕ) (ws : List (List ℕ)) (q : Program)
-      → cl ≡ suc (declares k.Class ss) → ml ≡ declares k.Method ss → Holds scope h cs ms size None cl ml → with_class scope (program h cs ms None size) ws ≡ Ok q → Read scope q ss
+  class_step : (ss : List Statement) (h : Header) (cs : List ClassDecl) (ms : List Method) (size cl ml : ℕ) (ws : List (List ℕ)) (q : Program) →
+      cl ≡ suc (declares k.Class ss) → ml ≡ declares k.Method ss → Holds scope h cs ms size None cl ml →
+      with_class scope (program h cs ms None size) ws ≡ Ok q → Read scope q ss
   class_step ss h cs ms size cl ml ws q some none holds is = let i = passed (nat_lt (length cs) 256) (class_statement scope h.version h.natives (length cs)
       (count_by is_server cs) ws >>= λ c. grown (28 + family_bytes h.version) size >>= λ n. Ok (program h (cs ++ c.0 ∷ []) ms None n)) LimitPassed q is in
       let s = steps (class_statement scope h.version h.natives (length cs) (count_by is_server cs) ws)
@@ -133,11 +134,13 @@ module _ (headers : HeadersInRange) (classes_in : ClassesInRange) (headings : He
       let less : length cs < 256 = ltb-true (length cs) 256 i.0 in
       let range = classes_in scope h.version h.natives (length cs) (count_by is_server cs) ws c s.first.1 s.read in
       let longer : length (cs ++ c ∷ []) ≡ length cs + 1 = length-append cs (c ∷ []) in
-      let summed : sum_by (class_bytes h.version) (cs ++ c ∷ []) ≡ sum_by (class_bytes h.version) cs + class_bytes h.version c = sum_by_push (class_bytes h.version) cs c in
+      let summed : sum_by (class_bytes h.version) (cs ++ c ∷ []) ≡ sum_by (class_bytes h.version) cs + class_bytes h.version c =
+      sum_by_push (class_bytes h.version) cs c in
       let names = holds.class_names in
       let methods = holds.method_names in
       let spelling = holds.spelling in
-      let servers : count_by is_server (cs ++ c ∷ []) ≤ 8 = subst (λ n. n ≤ 8) (sym (counted_push cs c)) (few_counted (count_by is_server cs) (is_server c) range.server holds.done.servers) in
+      let servers : count_by is_server (cs ++ c ∷ []) ≤ 8 =
+      subst (λ n. n ≤ 8) (sym (counted_push cs c)) (few_counted (count_by is_server cs) (is_server c) range.server holds.done.servers) in
       subst (λ q. Read scope q ss) (ok_is (program h (cs ++ c ∷ []) ms None t.first) q t.second) (record {
         parts = record {
           class_names = omega arith;
@@ -159,8 +162,9 @@ module _ (headers : HeadersInRange) (classes_in : ClassesInRange) (headings : He
       })
 
   -- the beginning of a method
-  heading_step : (ss : List Statement) (h : Header) (cs : List ClassDecl) (ms : List Method) (size cl ml : ℕ) (ws : List (List ℕ)) (q : Program)
-      → cl ≡ declares k.Class ss → ml ≡ suc (declares k.Method ss) → Holds scope h cs ms size None cl ml → with_heading scope ss (program h cs ms None size) ws ≡ Ok q → Read scope q ss
+  heading_step : (ss : List Statement) (h : Header) (cs : List ClassDecl) (ms : List Method) (size cl ml : ℕ) (ws : List (List ℕ)) (q : Program) →
+      cl ≡ declares k.Class ss → ml ≡ suc (declares k.Method ss) → Holds scope h cs ms size None cl ml →
+      with_heading scope ss (program h cs ms None size) ws ≡ Ok q → Read scope q ss
   heading_step ss h cs ms size cl ml ws q none some holds is =
       let begun : Heading → Option Body = λ m. Some (record { heading = m; labels = labels_of [] ss; code = [] }) in
       let i = passed (nat_lt (length ms) 1024) (heading scope h.version
@@ -170,7 +174,8 @@ module _ (headers : HeadersInRange) (classes_in : ClassesInRange) (headings : He
       let t = steps (grown (24 + family_bytes h.version) size) (λ n. Ok (program h cs ms (begun m) n)) q s.second in
       let g = grown_is (24 + family_bytes h.version) size t.first t.read in
       let less : length ms < 1024 = ltb-true (length ms) 1024 i.0 in
-      let range = λ (strict : scope.is_strict ≡ true). (headings before natives scope h.version (record { is_strict = strict; kinds = settled strict }) (length ms) ws m s.first.1 s.read).heading in
+      let range = λ (strict : scope.is_strict ≡ true).
+      (headings before natives scope h.version (record { is_strict = strict; kinds = settled strict }) (length ms) ws m s.first.1 s.read).heading in
       let names = holds.class_names in
       let methods = holds.method_names in
       let spelling = holds.spelling in
@@ -193,7 +198,8 @@ module _ (headers : HeadersInRange) (classes_in : ClassesInRange) (headings : He
       let s = steps (with_instruction scope h.version b ws) (λ c. grown 8 size >>= λ n. Ok (program h cs ms (Some c) n)) q is in
       let t = steps (grown 8 size) (λ n. Ok (program h cs ms (Some s.first) n)) q s.second in
       let g = grown_is 8 size t.first t.read in
-      let i = passed (nat_lt (length b.code) 1024) (instruction scope h.version b.labels (length b.code) ws >>= λ i. Ok (longer_by i.0)) LimitPassed s.first s.read in
+      let i = passed (nat_lt (length b.code) 1024) (instruction scope h.version b.labels (length b.code) ws >>= λ i. Ok (longer_by i.0))
+      LimitPassed s.first s.read in
       let u = steps (instruction scope h.version b.labels (length b.code) ws) (λ i. Ok (longer_by i.0)) s.first i.1 in
       let less : length b.code < 1024 = ltb-true (length b.code) 1024 i.0 in
       let added = u.first.0 in
@@ -215,14 +221,35 @@ module _ (headers : HeadersInRange) (classes_in : ClassesInRange) (headings : He
 
   -- a method at its end, where there is a place for each label
   abbrev whole_of : Body → Method
-  whole_of b = record { class = b.heading.class; over = b.heading.over; role = b.heading.role; flags = b.heading.flags; before = b.heading.before; after = b.heading.after; arguments = b.heading.arguments; gives = b.heading.gives; code = b.code }
+  whole_of b = record {
+    class = b.heading.class;
+    over = b.heading.over;
+    role = b.heading.role;
+    flags = b.heading.flags;
+    before = b.heading.before;
+    after = b.heading.after;
+    arguments = b.heading.arguments;
+    gives = b.heading.gives;
+    code = b.code;
+  }
 
   method_fits : (version : Version) (b : Body) (left : ℕ) → BodyHolds scope version b left → scope.is_strict ≡ true →
       length b.labels ≡ length b.code → 1 ≤ length b.code → MethodFits version (length scope.classes) (length scope.methods) (whole_of b)
   method_fits version b left body strict places some =
       let range = body.heading strict in
       let code = subst (λ n. All (InstrFits (limits version (length scope.classes) (length scope.methods) n)) b.code) places (body.code strict) in
-      record { class = range.class; flags = range.flags; before = range.before; after = range.after; argument_count = range.argument_count; arguments = range.arguments; gives = range.gives; some_code = some; code_length = body.few; code = code }
+      record {
+        class = range.class;
+        flags = range.flags;
+        before = range.before;
+        after = range.after;
+        argument_count = range.argument_count;
+        arguments = range.arguments;
+        gives = range.gives;
+        some_code = some;
+        code_length = body.few;
+        code = code;
+      }
 
   -- the end of a method
   end_step : (ss : List Statement) (h : Header) (cs : List ClassDecl) (ms : List Method) (size left : ℕ) (b : Body) (ws : List (List ℕ)) (q : Program)
@@ -237,11 +264,13 @@ module _ (headers : HeadersInRange) (classes_in : ClassesInRange) (headings : He
       let some : length b.code ≡ 0 → ⊥ = eqb-false (length b.code) 0 i.0 in
       let longer : length (ms ++ whole ∷ []) ≡ length ms + 1 = length-append ms (whole ∷ []) in
       let places : length b.labels ≡ length b.code = (let labels = body.labels in omega arith) in
-      let summed : sum_by (spelled h.version) (ms ++ whole ∷ []) ≡ sum_by (spelled h.version) ms + spelled h.version whole = sum_by_push (spelled h.version) ms whole in
+      let summed : sum_by (spelled h.version) (ms ++ whole ∷ []) ≡ sum_by (spelled h.version) ms + spelled h.version whole =
+      sum_by_push (spelled h.version) ms whole in
       let names = holds.method_names in
       let few = holds.few_methods in
       let spelling = holds.spelling in
-      let same : program h cs (ms ++ whole ∷ []) None size ≡ q = ap (λ m. program h cs (ms ++ m ∷ []) None size) made ∙ ok_is (program h cs (ms ++ s.first ∷ []) None size) q t.second in
+      let same : program h cs (ms ++ whole ∷ []) None size ≡ q = ap (λ m. program h cs (ms ++ m ∷ []) None size) made
+      ∙ ok_is (program h cs (ms ++ s.first ∷ []) None size) q t.second in
       subst (λ q. Read scope q ss) same (record {
         parts = record {
           class_names = holds.class_names;
@@ -268,14 +297,14 @@ module _ (headers : HeadersInRange) (classes_in : ClassesInRange) (headings : He
   -- a name behind a keyword, where more was read behind it
   class_named : (h : Header) (cs : List ClassDecl) (ms : List Method) (size : ℕ) (ws rest : List (List ℕ)) (q : Program) →
       ws ≡ keyword_text k.Class ∷ rest → with_class scope (program h cs ms None size) rest ≡ Ok q → one_of (name_after k.Class ws) ≡ 1
-  class_named h cs ms size ws rest q begins is =
-      cons_given (λ r. with_class scope (program h cs ms None size) r ≡ Ok q) rest is (λ e. no_ok _ _ (passed (nat_lt (length cs) 256) (Err BadShape) LimitPassed q e).1)
+  class_named h cs ms size ws rest q begins is = cons_given
+      (λ r. with_class scope (program h cs ms None size) r ≡ Ok q) rest is (λ e. no_ok _ _ (passed (nat_lt (length cs) 256) (Err BadShape) LimitPassed q e).1)
       (λ n left same e. names_one k.Class ws n left (begins ∙ ap (λ v. keyword_text k.Class ∷ v) same))
 
   method_named : (ss : List Statement) (h : Header) (cs : List ClassDecl) (ms : List Method) (size : ℕ) (ws rest : List (List ℕ)) (q : Program) →
       ws ≡ keyword_text k.Method ∷ rest → with_heading scope ss (program h cs ms None size) rest ≡ Ok q → one_of (name_after k.Method ws) ≡ 1
-  method_named ss h cs ms size ws rest q begins is =
-      cons_given (λ r. with_heading scope ss (program h cs ms None size) r ≡ Ok q) rest is (λ e. no_ok _ _ (passed (nat_lt (length ms) 1024) (Err BadShape) LimitPassed q e).1)
+  method_named ss h cs ms size ws rest q begins is = cons_given (λ r. with_heading scope ss (program h cs ms None size) r ≡ Ok q) rest is
+      (λ e. no_ok _ _ (passed (nat_lt (length ms) 1024) (Err BadShape) LimitPassed q e).1)
       (λ n left same e. names_one k.Method ws n left (begins ∙ ap (λ v. keyword_text k.Method ∷ v) same))
 
   module _ (s : Statement) (ss : List Statement) (h : Header) (cs : List ClassDecl) (ms : List Method) (size : ℕ) (q : Program) where
@@ -298,15 +327,18 @@ module _ (headers : HeadersInRange) (classes_in : ClassesInRange) (headings : He
     none_declared o silent holds =
         let classes : declares k.Class (s ∷ ss) ≡ declares k.Class ss = omega (arith, declares_more k.Class s ss 0 silent.class) in
         let methods : declares k.Method (s ∷ ss) ≡ declares k.Method ss = omega (arith, declares_more k.Method s ss 0 silent.method) in
-        subst (λ n. Holds scope h cs ms size o n (declares k.Method ss)) classes (subst (λ n. Holds scope h cs ms size o (declares k.Class (s ∷ ss)) n) methods holds)
+        subst (λ n. Holds scope h cs ms size o n (declares k.Method ss)) classes
+        (subst (λ n. Holds scope h cs ms size o (declares k.Class (s ∷ ss)) n) methods holds)
 
     -- an instruction, which declares no name
-    spoken : (b : Body) → Holds scope h cs ms size (Some b) (declares k.Class (s ∷ ss)) (declares k.Method (s ∷ ss)) → BodyHolds scope h.version b (before_end (s ∷ ss)) → is_end s.words ≡ false
-        → (with_instruction scope h.version b s.words >>= λ c. grown 8 size >>= λ n. Ok (program h cs ms (Some c) n)) ≡ Ok q → Read scope q ss
+    spoken : (b : Body) → Holds scope h cs ms size (Some b) (declares k.Class (s ∷ ss)) (declares k.Method (s ∷ ss)) →
+        BodyHolds scope h.version b (before_end (s ∷ ss)) → is_end s.words ≡ false →
+        (with_instruction scope h.version b s.words >>= λ c. grown 8 size >>= λ n. Ok (program h cs ms (Some c) n)) ≡ Ok q → Read scope q ss
     spoken b holds body goes_on is =
         let added : Instr → Body = λ i. record b { code = b.code ++ i ∷ [] } in
         let first = steps (with_instruction scope h.version b s.words) (λ c. grown 8 size >>= λ n. Ok (program h cs ms (Some c) n)) q is in
-        let i = passed (nat_lt (length b.code) 1024) (instruction scope h.version b.labels (length b.code) s.words >>= λ i. Ok (added i.0)) LimitPassed first.first first.read in
+        let i = passed (nat_lt (length b.code) 1024) (instruction scope h.version b.labels (length b.code) s.words >>= λ i. Ok (added i.0)) LimitPassed
+        first.first first.read in
         let said = steps (instruction scope h.version b.labels (length b.code) s.words) (λ i. Ok (added i.0)) first.first i.1 in
         code_step ss h cs ms size (before_end (s ∷ ss)) b s.words q
         (not_at_end s ss goes_on) (none_declared (Some b) (code_silent scope h.version b.labels (length b.code) s.words said.first said.read) holds) body is
@@ -316,7 +348,8 @@ module _ (headers : HeadersInRange) (classes_in : ClassesInRange) (headings : He
     body_step b holds body is = go (is_end s.words) refl
       where
         one : Bool × List (List ℕ) → Result Program AsmFaultKind
-        one t = if t.0 then with_method (program h cs ms None size) b t.1 else (with_instruction scope h.version b t.1 >>= λ c. grown 8 size >>= λ n. Ok (program h cs ms (Some c) n))
+        one t = if t.0 then with_method (program h cs ms None size) b t.1 else
+            (with_instruction scope h.version b t.1 >>= λ c. grown 8 size >>= λ n. Ok (program h cs ms (Some c) n))
 
         go : (e : Bool) → is_end s.words ≡ e → Read scope q ss
         go true ends = end_step ss h cs ms size (before_end (s ∷ ss)) b (took k.End s.words).1 q (at_end s ss ends)
@@ -352,7 +385,8 @@ module _ (headers : HeadersInRange) (classes_in : ClassesInRange) (headings : He
   rest_read last p [] q read is = closes p q read (said last (closed p) q is)
   rest_read last p (s ∷ ss) q read is =
       let t = steps_then (at_line s.line (step scope ss p s.words)) (λ q. read_rest last scope q ss) q is in
-      rest_read last t.first ss q (stepped s ss p.header p.classes p.methods p.size t.first p.body read.parts read.body (said s.line (step scope ss p s.words) t.first t.read)) t.second
+      rest_read last t.first ss q
+      (stepped s ss p.header p.classes p.methods p.size t.first p.body read.parts read.body (said s.line (step scope ss p s.words) t.first t.read)) t.second
 
   -- ---- a whole program
 
@@ -381,7 +415,8 @@ module _ (headers : HeadersInRange) (classes_in : ClassesInRange) (headings : He
         body = tt;
       })
 
-  program_read : (last : ℕ) (ss : List Statement) (q : Program) → length scope.classes ≡ declares k.Class ss → length scope.methods ≡ declares k.Method ss → Started last scope q ss → AtEnd q
+  program_read : (last : ℕ) (ss : List Statement) (q : Program) → length scope.classes ≡ declares k.Class ss → length scope.methods ≡ declares k.Method ss →
+      Started last scope q ss → AtEnd q
   program_read last _ q class_names method_names (started s ss p starts rest) = rest_read last p ss q (opens s ss p class_names method_names starts) rest
 
   -- with names told apart it is an image
@@ -395,7 +430,8 @@ module _ (headers : HeadersInRange) (classes_in : ClassesInRange) (headings : He
       let spelling = parts.spelling in
       let class_count : length scope.classes ≡ length q.classes = omega (arith, declares_none k.Class) in
       let method_count : length scope.methods ≡ length q.methods = omega (arith, declares_none k.Method) in
-      let classes : ClassesFit q.header.version q.header.natives q.classes = record { count = parts.done.few_classes; each = subst (λ n. All (ClassFits q.header.version n q.header.natives) q.classes) class_count parts.done.classes; servers = parts.done.servers } in
+      let classes : ClassesFit q.header.version q.header.natives q.classes =
+      record { count = parts.done.few_classes; each = subst (λ n. All (ClassFits q.header.version n q.header.natives) q.classes) class_count parts.done.classes; servers = parts.done.servers } in
       let each : All (MethodFits q.header.version (length q.classes) (length q.methods)) q.methods =
       subst (λ n. All (MethodFits q.header.version n (length q.methods)) q.methods) class_count
       (subst (λ n. All (MethodFits q.header.version (length scope.classes) n) q.methods) method_count (parts.done.methods strict)) in
@@ -430,9 +466,8 @@ module _ (headers : HeadersInRange) (classes_in : ClassesInRange) (headings : He
       let first = s.first in
       let t = steps_then (read_program last (second first) ss) (λ p. Ok (image_of p)) i s.second in
       let kinds = first_classes last ss first s.read in
-      let at = program_read headers classes_in headings instructions
-      (second first) first.header.version first.header.natives (λ strict. kinds) last ss t.first (count_declared k.Class ss) (count_declared k.Method ss)
-      (program_starts last (second first) ss t.first t.read) in
+      let at = program_read headers classes_in headings instructions (second first) first.header.version first.header.natives (λ strict. kinds) last ss t.first
+      (count_declared k.Class ss) (count_declared k.Method ss) (program_starts last (second first) ss t.first t.read) in
       subst WellFormed (ok_is (image_of t.first) i t.second)
       (well_formed headers classes_in headings instructions (second first) first.header.version first.header.natives (λ strict. kinds) t.first refl at)
 

@@ -69,7 +69,8 @@ covered p t d one other = record {
 module _ (p : Image) (formed : WellFormed p)
     (linked : IsLinked p) (t d : Typing) (one : IsStrongest p t) (other : IsStrongest p d) (c e : Prices) (are : ArePrices p t c) (also : ArePrices p d e) where
   same : SayTheSame p c e
-  same = law_one p d c e formed linked (pays_before p d linked other) (prices_alike p t d c one.typed other.typed (covered p t d one other) (covered p d t other one) are) also
+  same = law_one p d c e formed linked (pays_before p d linked other)
+      (prices_alike p t d c one.typed other.typed (covered p t d one other) (covered p d t other one) are) also
 
   same_role : (k : ℕ) (role : Role) → role_price p c k role ≡ role_price p e k role
   same_role k role = go (role_of p k role) refl
@@ -120,7 +121,8 @@ module _ (p : Image) (prices : List ℕ) (h : ArePriced p prices) where
     destruction_found x = omega (
       arith,
       found_of p formed linked whole h.told.whole.are.classes x,
-      going_alike 4294967296 p (price_by prices) (destructor_price whole) refl x (λ k runs. omega (arith, price_found k (method_is_some p k (destructs_within p x k runs)))),
+      going_alike 4294967296 p (price_by prices) (destructor_price whole) refl x
+          (λ k runs. omega (arith, price_found k (method_is_some p k (destructs_within p x k runs)))),
     )
 
     root_found : (root : Option ℕ) → root_by p prices root ≡ min 4294967296 (root_price whole root)
@@ -145,7 +147,8 @@ module _ (p : Image) (prices : List ℕ) (h : ArePriced p prices) where
 -- ---- what is declared
 
 -- a budget is below 2^32, so what counts for 2^32 is more
-class_below : (version : Version) (classes natives : ℕ) (class : ClassDecl) (most : ℕ) → ClassFits version classes natives class → budget_of class ≡ Some most → most < 4294967296
+class_below : (version : Version) (classes natives : ℕ) (class : ClassDecl) (most : ℕ) → ClassFits version classes natives class →
+    budget_of class ≡ Some most → most < 4294967296
 class_below version classes natives class most fits e = go (is_dispatched class.kind) e
   where
     go : (b : Bool) → (if b then Some class.budget else None) ≡ Some most → most < 4294967296
@@ -170,11 +173,11 @@ declares_within p k most e = grind (arith, slice_get_within p.classes k)
 -- ---- what was found against what is declared
 
 pub main_within : (p : Image) (prices : List ℕ) (declared cost : ℕ) → declared ≡ p.header.budget → cost ≡ main_by p prices → cost ≤ declared → IsWithin p prices Main
-main_within p prices declared cost declares costs le most e = let same : p.header.budget ≡ most = same_Some p.header.budget most e in omega (arith, le, costs, declares, same)
+main_within p prices declared cost declares costs le most e = let same : p.header.budget ≡ most = same_Some p.header.budget most e in
+    omega (arith, le, costs, declares, same)
 
-pub main_over :
-    (p : Image) (prices : List ℕ) (declared cost : ℕ) (fault : BudgetFault) → declared ≡ p.header.budget → cost ≡ main_by p prices → declared < cost → fault ≡ OverBudget Main cost declared →
-    TellsOver p prices Main fault
+pub main_over : (p : Image) (prices : List ℕ) (declared cost : ℕ) (fault : BudgetFault) → declared ≡ p.header.budget → cost ≡ main_by p prices →
+    declared < cost → fault ≡ OverBudget Main cost declared → TellsOver p prices Main fault
 main_over p prices declared cost fault declares costs over told =
     record { most = p.header.budget; declares = refl; over = omega (arith, over, costs, declares); is = told ∙ ap₂ (OverBudget Main) costs declares }
 
@@ -191,10 +194,10 @@ module _ (p : Image) (prices : List ℕ) (k : ℕ) (class : ClassDecl) (is : cla
   within_none none most e = let declares = declares_here None none in absurd cc
 
   pub within_some : (declared cost : ℕ) → budget_of class ≡ Some declared → cost ≡ payer_by p prices (Class k) → cost ≤ declared → IsWithin p prices (Class k)
-  within_some declared cost declares costs le most e = let same : declared ≡ most = same_Some declared most (sym (declares_here (Some declared) declares) ∙ e) in omega (arith, le, costs, same)
+  within_some declared cost declares costs le most e = let same : declared ≡ most =
+      same_Some declared most (sym (declares_here (Some declared) declares) ∙ e) in omega (arith, le, costs, same)
 
-  pub tells_first :
-      (declared cost : ℕ) (fault : BudgetFault) → ClassesWithin p prices k → budget_of class ≡ Some declared →
+  pub tells_first : (declared cost : ℕ) (fault : BudgetFault) → ClassesWithin p prices k → budget_of class ≡ Some declared →
       cost ≡ payer_by p prices (Class k) → declared < cost → fault ≡ OverBudget (Class k) cost declared → TellsFirst p prices fault
   tells_first declared cost fault earlier declares costs over told = record {
     class = k;
@@ -220,7 +223,8 @@ module _ (p : Image) (prices : List ℕ) (formed : WellFormed p) (linked : IsLin
       within (Class k) most e = costs_within (Class k) (classes k (declares_within p k most e)) most e
 
   -- a fault that tells of the first payer that is over is why the image is refused
-  refuses_over : (payer : Payer) (fault : BudgetFault) → TellsOver p prices payer fault → ((before : Payer) → IsBefore before payer → IsWithin p prices before) → Refuses p fault
+  refuses_over : (payer : Payer) (fault : BudgetFault) → TellsOver p prices payer fault →
+      ((before : Payer) → IsBefore before payer → IsWithin p prices before) → Refuses p fault
   refuses_over payer fault tells earlier = subst (Refuses p) (sym tells.is) (record {
     typing = h.typing;
     strongest = h.strongest;
@@ -241,8 +245,10 @@ module _ (p : Image) (prices : List ℕ) (formed : WellFormed p) (linked : IsLin
 -- ---- what an accepted image keeps to
 
 -- a table pays for each dispatch within what is declared of it
-pub affordable : (p : Image) (prices : List ℕ) → WellFormed p → IsLinked p → BudgetsWithin p → ArePriced p prices → (t : Typing) × IsStrongest p t × (c : Prices) × IsAffordable p t c × CostsWithin p c
-affordable p prices formed linked b h = (h.typing, h.strongest, whole p prices h, record { priced = h.told.whole.pays; declared = within Main p.header.budget refl }, within)
+pub affordable : (p : Image) (prices : List ℕ) → WellFormed p → IsLinked p → BudgetsWithin p → ArePriced p prices →
+    (t : Typing) × IsStrongest p t × (c : Prices) × IsAffordable p t c × CostsWithin p c
+affordable p prices formed linked b h =
+    (h.typing, h.strongest, whole p prices h, record { priced = h.told.whole.pays; declared = within Main p.header.budget refl }, within)
   where
     within : CostsWithin p (whole p prices h)
     within payer most e = grind (arith, nat_tests, same_payer p formed linked h.typing b.typing h.strongest b.strongest)
@@ -263,8 +269,10 @@ refuses_none p x formed linked h budgets within low = grind (arith, nat_tests, n
 pub told_or_wants : (p : Image) (fault : BudgetFault) → Refuses p fault → RefusesOrWants p fault
 told_or_wants p x h = grind arith
 
-pub wants_memory : (p : Image) (fault : BudgetFault) → WellFormed p → IsLinked p → RefusesOrWants p fault → BudgetsWithin p → DepthsWithin p → HeightsWithin p → fault ≡ OutOfMemory
-wants_memory p (OverBudget payer found most) formed linked h budgets within low = absurd (refuses_none p (OverBudget payer found most) formed linked h budgets within low)
+pub wants_memory : (p : Image) (fault : BudgetFault) → WellFormed p → IsLinked p → RefusesOrWants p fault → BudgetsWithin p → DepthsWithin p →
+    HeightsWithin p → fault ≡ OutOfMemory
+wants_memory p (OverBudget payer found most) formed linked h budgets within low =
+    absurd (refuses_none p (OverBudget payer found most) formed linked h budgets within low)
 wants_memory p TooDeep formed linked h budgets within low = absurd (refuses_none p TooDeep formed linked h budgets within low)
 wants_memory p CleanupTooDeep formed linked h budgets within low = absurd (refuses_none p CleanupTooDeep formed linked h budgets within low)
 wants_memory p OutOfMemory formed linked h budgets within low = refl

@@ -5,7 +5,8 @@ use Rattle.aom_image.specs.Image.{Image}
 use Rattle.aom_image.specs.Views.{class_in, method_at, method_class}
 use Rattle.aom_image.specs.declared.method.Method.{Method}
 
-pub class_found : (p : Image) (ms : List Method) (m i : ℕ) (d : Method) → ms ≡ p.methods → i ≡ m → i < length ms → d ≡ slice_index_or ms i d → d.class ≡ method_class p m
+pub class_found : (p : Image) (ms : List Method) (m i : ℕ) (d : Method) → ms ≡ p.methods → i ≡ m → i < length ms → d ≡ slice_index_or ms i d →
+    d.class ≡ method_class p m
 unfolding class_in method_at
 class_found p ms m i d e f lt at = rw (← e, ← f, slice_get_read ms (length ms) i d refl lt at) refl
 

@@ -14,7 +14,8 @@ or_raised x y z v = grind arith
 
 -- ---- along overriders
 
-pub lead_step : (p : Image) (n x k t v : ℕ) → max t (cond (leads_in p (suc n) (Some x) k) v 0) ≡ max (max t (cond (x == k) v 0)) (cond (leads_in p n (over_of p x) k) v 0)
+pub lead_step : (p : Image) (n x k t v : ℕ) →
+    max t (cond (leads_in p (suc n) (Some x) k) v 0) ≡ max (max t (cond (x == k) v 0)) (cond (leads_in p n (over_of p x) k) v 0)
 unfolding leads_in
 lead_step p n x k t v = or_raised (x == k) (leads_in p n (over_of p x) k) t v
 
@@ -34,8 +35,7 @@ module _ (p : Image) (n k t v w : ℕ) where
   pub lead_ends : (x i u : ℕ) (o : Option ℕ) → o ≡ Some x → i ≡ x → n ≡ 0 → u ≡ max t (cond (i == k) v 0) → max t (cond (leads_in p n o k) v 0) ≡ w → u ≡ w
   lead_ends x i u o is same last raised h = grind (arith, nat_tests, lead_last p x k t v)
 
-  pub lead_goes :
-      (x i u : ℕ) (o next : Option ℕ) → o ≡ Some x → i ≡ x → (n ≡ 0 → ⊥) → next ≡ over_of p x → u ≡ max t (cond (i == k) v 0) →
+  pub lead_goes : (x i u : ℕ) (o next : Option ℕ) → o ≡ Some x → i ≡ x → (n ≡ 0 → ⊥) → next ≡ over_of p x → u ≡ max t (cond (i == k) v 0) →
       max t (cond (leads_in p n o k) v 0) ≡ w → max u (cond (leads_in p (n - 1) next k) v 0) ≡ w
   lead_goes x i u o next is same some over raised h = grind (arith, nat_tests, lead_step p (n - 1) x k t v)
 
@@ -57,8 +57,7 @@ parent_step p c d = grind (arith, nat_tests, from_none p c d, from_parent p c, e
 pub class_step : (p : Image) (c d t v : ℕ) → max t (cond (descends p c d) v 0) ≡ max (max t (cond (c == d) v 0)) (cond (some_descends p (parent_of p c) d) v 0)
 class_step p c d t v = ap (λ b. max t (cond b v 0)) (parent_step p c d) ∙ or_raised (c == d) (some_descends p (parent_of p c) d) t v
 
-pub class_goes :
-    (p : Image) (k t v w x i u : ℕ) (o next : Option ℕ) → o ≡ Some x → i ≡ x → next ≡ parent_of p x → u ≡ max t (cond (i == k) v 0) →
+pub class_goes : (p : Image) (k t v w x i u : ℕ) (o next : Option ℕ) → o ≡ Some x → i ≡ x → next ≡ parent_of p x → u ≡ max t (cond (i == k) v 0) →
     max t (cond (some_descends p o k) v 0) ≡ w → max u (cond (some_descends p next k) v 0) ≡ w
 class_goes p k t v w x i u o next is same parent raised h = grind (arith, nat_tests, class_step p x k t v)
 

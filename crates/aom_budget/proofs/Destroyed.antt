@@ -41,13 +41,12 @@ pub cancels_most : (p : Image) (ns : List ℕ) (c : ℕ) → most_at ns (cancels
 cancels_most p ns c = grind (arith, nat_tests, below_most p ns, below_related, most_listed ns)
 
 -- one class more is looked at, and all are
-pub most_one :
-    (p : Image) (f : ℕ → ℕ) (c n i x y own more : ℕ) → i ≡ n → x ≡ cond (descends p i c) (kept (f i)) 0 → y ≡ max more x →
+pub most_one : (p : Image) (f : ℕ → ℕ) (c n i x y own more : ℕ) → i ≡ n → x ≡ cond (descends p i c) (kept (f i)) 0 → y ≡ max more x →
     more ≡ max own (most_of (λ k. descends p k c) (λ k. kept (f k)) n) → y ≡ max own (most_of (λ k. descends p k c) (λ k. kept (f k)) (n + 1))
 most_one p f c n i x y own more same is most h = grind (arith, nat_tests)
 
-pub most_all :
-    (p : Image) (f : ℕ → ℕ) (c n x : ℕ) → n ≡ length p.classes → x ≡ max (kept (f c)) (most_of (λ k. descends p k c) (λ k. kept (f k)) n) → x ≡ kept (most_below p f c)
+pub most_all : (p : Image) (f : ℕ → ℕ) (c n x : ℕ) → n ≡ length p.classes → x ≡ max (kept (f c)) (most_of (λ k. descends p k c) (λ k. kept (f k)) n) →
+    x ≡ kept (most_below p f c)
 most_all p f c n x all h = h ∙ ap (λ k. max (kept (f c)) (most_of (λ j. descends p j c) (λ j. kept (f j)) k)) all ∙ most_kept p f c
 
 module _ (p : Image) (formed : WellFormed p) (prices : List ℕ) where
@@ -57,8 +56,7 @@ module _ (p : Image) (formed : WellFormed p) (prices : List ℕ) where
   absent_going : (c : ℕ) → length p.classes ≤ c → whole_going p (price_by prices) (Object c) ≡ 1
   absent_going c past = grind (arith, nat_tests, absent_line p formed c past, absent_kind p formed c past)
 
-  pub destroyed_made :
-      (old table : List ℕ) → length old ≡ length p.classes → ((c : ℕ) → at 0 old c ≤ destruction_by p prices (Object c)) →
+  pub destroyed_made : (old table : List ℕ) → length old ≡ length p.classes → ((c : ℕ) → at 0 old c ≤ destruction_by p prices (Object c)) →
       IsRaised p (λ y. kept (whole_going p (price_by prices) (Object y))) old (length p.classes) table → IsDestroyed p prices table
   destroyed_made old table size below raised = record { size = raised.size ∙ size; each = λ c. ⊎_elim (within c) (past c) (cases_lt c (length p.classes)) }
     where

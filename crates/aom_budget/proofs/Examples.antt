@@ -97,7 +97,8 @@ chain_of_257 p first calls = record { method = 256; count = 257; frames = chain 
 
 -- ---- budgets
 
--- class 0 is active: it runs in the method 0, and the method 1 is its error method; class 1 has sessions, whose service is the method 2; class 2 is their server, which accepts in the method 3
+-- class 0 is active: it runs in the method 0, and the method 1 is its error method; class 1 has sessions, whose service is the method 2; class 2 is their
+-- server, which accepts in the method 3
 dispatched : Image
 dispatched = record {
   header = a_header 4 0 0 None 100;
@@ -137,4 +138,5 @@ within_to_the_step most e = let same : 12 ≡ most = same_Some 12 most e in omeg
 
 over_by_a_step : TellsFirst dispatched (7 ∷ 6 ∷ 1 ∷ 1 ∷ 1 ∷ []) (OverBudget (Class 0) 13 12)
 unfolding dispatched method class_at role_of own_role keeper_in parent_in plays role_number
-over_by_a_step = record { class = 0; tells = record { most = 12; declares = refl; over = omega arith; is = refl }; earlier = λ k below. absurd (omega (arith, below)) }
+over_by_a_step =
+    record { class = 0; tells = record { most = 12; declares = refl; over = omega arith; is = refl }; earlier = λ k below. absurd (omega (arith, below)) }

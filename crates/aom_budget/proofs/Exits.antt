@@ -35,7 +35,8 @@ is_first_or_rest from last to rest n h = elim h.among [
   | inr c ↦ inr (record { out = h.out; among = c; past = h.past; is = h.is })
 ]
 
-one_past : (from : List ℕ) (last to : ℕ) → cond (nat_lt last to) (at 0 from to) 0 ≤ 4294967296 → IsMost 4294967296 (PastOf from last (to ∷ [])) (cond (nat_lt last to) (at 0 from to) 0)
+one_past : (from : List ℕ) (last to : ℕ) → cond (nat_lt last to) (at 0 from to) 0 ≤ 4294967296 →
+    IsMost 4294967296 (PastOf from last (to ∷ [])) (cond (nat_lt last to) (at 0 from to) 0)
 one_past from last to low = elim (leb_tells to last) [
   | inl w ↦ rw (le-ltb last to w.1) (of_none 4294967296 (PastOf from last (to ∷ [])) (λ k h. elim h.among [
     | inl e ↦ let past : last < to = rw e at h.past in absurd (omega (arith, past, w.1))
@@ -52,21 +53,21 @@ one_past from last to low = elim (leb_tells to last) [
       })
 ]
 
-most_of_past : (from : List ℕ) (last : ℕ) (places : List ℕ) → most_past from last places ≤ 4294967296 → IsMost 4294967296 (PastOf from last places) (most_past from last places)
+most_of_past : (from : List ℕ) (last : ℕ) (places : List ℕ) → most_past from last places ≤ 4294967296 →
+    IsMost 4294967296 (PastOf from last places) (most_past from last places)
 most_of_past from last [] low = of_none 4294967296 (PastOf from last []) (λ k h. h.among)
 most_of_past from last (to ∷ rest) low =
     let first = one_past from last to (omega (arith, low)) in
     let others = most_of_past from last rest (omega (arith, low)) in
-    alike 4294967296 (λ n. PastOf from last (to ∷ []) n ⊎ PastOf from last rest n) (PastOf from last (to ∷ rest)) _ (first_or_rest from last to rest) (is_first_or_rest from last to rest)
-    (of_either 4294967296 (PastOf from last (to ∷ [])) (PastOf from last rest) _ _ first others)
+    alike 4294967296 (λ n. PastOf from last (to ∷ []) n ⊎ PastOf from last rest n) (PastOf from last (to ∷ rest)) _ (first_or_rest from last to rest)
+    (is_first_or_rest from last to rest) (of_either 4294967296 (PastOf from last (to ∷ [])) (PastOf from last rest) _ _ first others)
 
 module _ (p : Image) (m : ℕ) (s : Shapes) (from : List ℕ) (first last place : ℕ) where
   pub no_exit : at None s place ≡ None → IsMost 4294967296 (ExitsAt p m s from first last place) 0
   no_exit none = of_none 4294967296 (ExitsAt p m s from first last place) (λ n h. let f = h.there in cc)
 
-  pub exits :
-      (sh : Shape) (i : Instr) (n : ℕ) → IsIn first last place → at None s place ≡ Some sh → instr_at p m place ≡ Some i → n ≡ most_past from last (targets_of place sh i) → n ≤ 4294967296 →
-      IsMost 4294967296 (ExitsAt p m s from first last place) n
+  pub exits : (sh : Shape) (i : Instr) (n : ℕ) → IsIn first last place → at None s place ≡ Some sh → instr_at p m place ≡ Some i →
+      n ≡ most_past from last (targets_of place sh i) → n ≤ 4294967296 → IsMost 4294967296 (ExitsAt p m s from first last place) n
   exits sh i n inside there stands is low =
       let most = most_of_past from last (targets_of place sh i) (omega (arith, is, low)) in
       rw is (alike 4294967296 (PastOf from last (targets_of place sh i)) (ExitsAt p m s from first last place) _
@@ -74,8 +75,8 @@ module _ (p : Image) (m : ℕ) (s : Shapes) (from : List ℕ) (first last place 
       (λ k h.
       let same : h.shape ≡ sh = let f = h.there in cc in
       let one : h.instr ≡ i = let f = h.stands in cc in
-      record { out = h.out; among = rw (same, one) at h.flow; past = h.outside; is = h.is })
-      most)
+      record { out = h.out; among = rw (same, one) at h.flow; past = h.outside; is = h.is }) most)
 
 pub none_before : (p : Image) (m : ℕ) (s : Shapes) (from : List ℕ) (first last : ℕ) → IsMost 4294967296 (Before (ExitsAt p m s from first last) (first + 1)) 0
-none_before p m s from first last = of_none 4294967296 (Before (ExitsAt p m s from first last) (first + 1)) (λ n h. absurd (omega (arith, h.below, h.comes.inside.0)))
+none_before p m s from first last =
+    of_none 4294967296 (Before (ExitsAt p m s from first last) (first + 1)) (λ n h. absurd (omega (arith, h.below, h.comes.inside.0)))

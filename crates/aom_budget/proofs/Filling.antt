@@ -39,17 +39,13 @@ module _ (p : Image) (cap : ℕ) (its_own : Shape → ℕ) (calls : Shape → In
   pub unreached : at None s place ≡ None → IsMost cap (ComesTo p its_own calls of m s place) 0
   unreached none = of_none cap (ComesTo p its_own calls of m s place) (λ n c. let f = c.there in cc)
 
-  reached :
-      (sh : Shape) (i : Instr) (n : ℕ) → at None s place ≡ Some sh → instr_at p m place ≡ Some i → IsMost cap (OfSome of (calls sh i)) n →
+  reached : (sh : Shape) (i : Instr) (n : ℕ) → at None s place ≡ Some sh → instr_at p m place ≡ Some i → IsMost cap (OfSome of (calls sh i)) n →
       IsMost cap (ComesTo p its_own calls of m s place) (min (its_own sh + n) cap)
-  reached sh i n there stands h =
-      alike cap (Joined (its_own sh) (OfSome of (calls sh i))) (ComesTo p its_own calls of m s place) _
-      (λ k is. record { shape = sh; there = there; instr = i; stands = stands; is = is })
-      (λ k c.
+  reached sh i n there stands h = alike cap (Joined (its_own sh) (OfSome of (calls sh i))) (ComesTo p its_own calls of m s place) _
+      (λ k is. record { shape = sh; there = there; instr = i; stands = stands; is = is }) (λ k c.
       let alike : c.shape ≡ sh = let f = c.there in cc in
       let one : c.instr ≡ i = let f = c.stands in cc in
-      rw (alike, one) at c.is)
-      (joined cap (its_own sh) (OfSome of (calls sh i)) n h)
+      rw (alike, one) at c.is) (joined cap (its_own sh) (OfSome of (calls sh i)) n h)
 
 -- ---- what is called is found already
 
@@ -64,7 +60,8 @@ enters p x k h = grind (arith, nat_tests, run_from p)
 
 module _ (p : Image) (m : ℕ) (s : Shapes) (place : ℕ) (sh : Shape) (i : Instr) (linked : IsLinked p) (strongest : IsMethodStrongest p m s) where
   module _ (there : at None s place ≡ Some sh) (stands : instr_at p m place ≡ Some i) where
-    called_found : (cap : ℕ) (of : ℕ → ℕ → Type 0) (table : List ℕ) → IsFilled p cap of m table → (k : ℕ) → Among k (callees p m sh i) → IsMost cap (of k) (at 0 table k)
+    called_found : (cap : ℕ) (of : ℕ → ℕ → Type 0) (table : List ℕ) → IsFilled p cap of m table → (k : ℕ) → Among k (callees p m sh i) →
+        IsMost cap (of k) (at 0 table k)
     called_found cap of table filled k c =
         let calls : CallsAt p m s place k = record { shape = sh; there = there; instr = i; stands = stands; calls = c } in
         filled.each k (called_lower p m k linked (record { states = s; strongest = strongest; place = place; calls = calls }))
@@ -74,7 +71,8 @@ module _ (p : Image) (m : ℕ) (s : Shapes) (place : ℕ) (sh : Shape) (i : Inst
         let over = of_methods 257 (Frames p) ds (callees p m sh i) (called_found 257 (Frames p) ds filled) in
         rw is (reached p 257 (λ x. 1) (callees p m) (Frames p) m s place sh i _ there stands over)
 
-    pub height_found : (hs : List ℕ) (n : ℕ) → IsFilled p 1025 (Heights p) m hs → n ≡ min (length sh.entries + most_at hs (entered p i)) 1025 → IsMost 1025 (EntriesAt p m s place) n
+    pub height_found : (hs : List ℕ) (n : ℕ) → IsFilled p 1025 (Heights p) m hs → n ≡ min (length sh.entries + most_at hs (entered p i)) 1025 →
+        IsMost 1025 (EntriesAt p m s place) n
     height_found hs n filled is =
         let found = called_found 1025 (Heights p) hs filled in
         let over = of_methods 1025 (Heights p) hs (entered p i) (λ k c. found k (entered_called p m sh i k (enters p i k c))) in
@@ -96,14 +94,16 @@ reached_within s place sh e = grind (arith, nat_tests, leb_tells, at_past None s
 
 module _ (p : Image) (linked : IsLinked p) (m : ℕ) (s : Shapes) (strongest : IsMethodStrongest p m s) where
   -- what comes to a place that is reached comes before the end
-  before_at : (its : Shape → ℕ) (calls : Shape → Instr → List ℕ) (of : ℕ → ℕ → Type 0) (n place : ℕ) → ComesTo p its calls of m s place n → Before (ComesTo p its calls of m s) (length s) n
+  before_at : (its : Shape → ℕ) (calls : Shape → Instr → List ℕ) (of : ℕ → ℕ → Type 0) (n place : ℕ) → ComesTo p its calls of m s place n →
+      Before (ComesTo p its calls of m s) (length s) n
   before_at its calls of n place comes = record { place = place; below = reached_within s place comes.shape comes.there; comes = comes }
 
   framed : (n : ℕ) → Before (FramesAt p m s) (length s) n → Frames p m n
   framed n h = elim h.comes.is [
     | inl e ↦ let w = of_method p m h.place h.comes.instr h.comes.stands in subst (Frames p m) (sym e) (alone (rw w.1 refl))
     | inr w ↦
-        let calls : CallsAt p m s h.place w.1.method = record { shape = h.comes.shape; there = h.comes.there; instr = h.comes.instr; stands = h.comes.stands; calls = w.1.among } in
+        let calls : CallsAt p m s h.place w.1.method =
+        record { shape = h.comes.shape; there = h.comes.there; instr = h.comes.instr; stands = h.comes.stands; calls = w.1.among } in
         let call : MayCall p m w.1.method = record { states = s; strongest = strongest; place = h.place; calls = calls } in
         let same : suc w.0 ≡ n = omega (arith, w.2) in
         subst (Frames p m) same (calling call w.1.has)
@@ -113,7 +113,8 @@ module _ (p : Image) (linked : IsLinked p) (m : ℕ) (s : Shapes) (strongest : I
   frames_before n (alone some) =
       let entry = strongest.typed.entry in
       let applies = strongest.typed.each 0 entry.next entry.there in
-      before_at (λ x. 1) (callees p m) (Frames p) n 0 (record { shape = entry.next; there = entry.there; instr = applies.instr; stands = applies.stands; is = inl refl })
+      before_at (λ x. 1) (callees p m) (Frames p) n 0
+      (record { shape = entry.next; there = entry.there; instr = applies.instr; stands = applies.stands; is = inl refl })
   frames_before n (calling {k = k} {n = above} call frames) =
       let meets = (call.strongest.least s strongest.typed).each call.place call.calls.shape call.calls.there in
       let among = calls_more p m meets.next call.calls.shape call.calls.instr k meets.no_more call.calls.calls in
@@ -200,9 +201,8 @@ filled_first p cap of n e = record {
   others = λ m past. at_noughts n m;
 }
 
-pub filled_more :
-    (p : Image) (cap : ℕ) (of : ℕ → ℕ → Type 0) (m : ℕ) (table : List ℕ) (n : ℕ) → IsFilled p cap of m table → m < length p.methods → IsMost cap (of m) n →
-    IsFilled p cap of (suc m) (slice_set table m n)
+pub filled_more : (p : Image) (cap : ℕ) (of : ℕ → ℕ → Type 0) (m : ℕ) (table : List ℕ) (n : ℕ) → IsFilled p cap of m table → m < length p.methods →
+    IsMost cap (of m) n → IsFilled p cap of (suc m) (slice_set table m n)
 filled_more p cap of m table n h within most =
     let inside : m < length table = omega (arith, within, h.size) in
     record {

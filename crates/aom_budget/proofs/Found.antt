@@ -25,7 +25,8 @@ pub record IsSet (p : Image) (ns : List ℕ) (m v : ℕ) (now : List ℕ) : Type
   pub unset : at 0 ns m ≡ 0
   pub is : now ≡ slice_set ns m v
 
-pub is_set : (p : Image) (ns now : List ℕ) (m i v : ℕ) → IsSome (method_at p m) → length ns ≡ length p.methods → at 0 ns m ≡ 0 → i ≡ m → now ≡ slice_set ns i v → IsSet p ns m v now
+pub is_set : (p : Image) (ns now : List ℕ) (m i v : ℕ) → IsSome (method_at p m) → length ns ≡ length p.methods → at 0 ns m ≡ 0 → i ≡ m →
+    now ≡ slice_set ns i v → IsSet p ns m v now
 is_set p ns now m i v some sized unset same is = record { there = method_within p m some; sized = sized; unset = unset; is = is ∙ ap (λ j. slice_set ns j v) same }
 
 module _ (p : Image) (ns : List ℕ) (m v : ℕ) (now : List ℕ) (h : IsSet p ns m v now) where
@@ -38,8 +39,7 @@ module _ (p : Image) (ns : List ℕ) (m v : ℕ) (now : List ℕ) (h : IsSet p n
   pub set_size : length now ≡ length p.methods
   set_size = ap (λ (xs : List ℕ). length xs) h.is ∙ length-set ns m v ∙ h.sized
 
-  pub called_now :
-      WellFormed p → (q : Image) (u : ℕ) (old new : List ℕ) → q ≡ p → u ≡ v → IsCalled p ns old → length new ≡ length old →
+  pub called_now : WellFormed p → (q : Image) (u : ℕ) (old new : List ℕ) → q ≡ p → u ≡ v → IsCalled p ns old → length new ≡ length old →
       ((k : ℕ) → k < length old → at 0 new k ≡ max (at 0 old k) (cond (is_body q m k) u 0)) → IsCalled p now new
   called_now formed q u old new same is called size each = grind (
     arith,

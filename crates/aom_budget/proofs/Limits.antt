@@ -43,7 +43,8 @@ begins p t m h some =
 
 -- ---- within the limits
 
-module _ (p : Image) (cap : ℕ) (of : ℕ → ℕ → Type 0) (table : List ℕ) (filled : IsFilled p cap of (length p.methods) table) (most : ℕ) (keeps : KeepsTo most table) (few : most < cap) where
+module _ (p : Image) (cap : ℕ) (of : ℕ → ℕ → Type 0) (table : List ℕ) (filled : IsFilled p cap of (length p.methods) table) (most : ℕ)
+    (keeps : KeepsTo most table) (few : most < cap) where
   most_of : (m : ℕ) → IsSome (method_at p m) → (k : ℕ) → of m k → k ≤ at 0 table m
   most_of m some = no_more cap (of m) (at 0 table m) (filled.each m (method_within p m some)) (omega (arith, keeps.each m, few))
 
@@ -65,7 +66,8 @@ are_depths p ds linked filled keeps =
           most_of p 257 (Frames p) ds filled 256 keeps few m (caller p m k call) (suc (at 0 ds k)) (calling call frames);
     }
 
-pub are_heights : (p : Image) (t : Typing) (hs : List ℕ) → IsLinked p → IsStrongest p t → IsFilled p 1025 (Heights p) (length p.methods) hs → KeepsTo 1024 hs → AreHeights p hs
+pub are_heights : (p : Image) (t : Typing) (hs : List ℕ) → IsLinked p → IsStrongest p t → IsFilled p 1025 (Heights p) (length p.methods) hs →
+    KeepsTo 1024 hs → AreHeights p hs
 are_heights p t hs linked strongest filled keeps =
     let few : 1024 < 1025 = omega arith in
     let most = most_of p 1025 (Heights p) hs filled 1024 keeps few in

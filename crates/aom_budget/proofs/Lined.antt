@@ -1,6 +1,7 @@
 -- A line of destructors, class by class from below, and what is in it.
 use Rattle.std.proofs.lemmas.Bool.Decides.{nat_tests}
-use Rattle.std.proofs.Common.{Bool, IfSome, List, None, Option, Some, [], ap, arith, inl, inr, length, refl, suc, sym, true, zero, ℕ, ◌++◌, ◌+◌, ◌==◌, ◌||◌, ◌∙◌, ◌∷◌, ◌≡◌, ◌≤◌}
+use Rattle.std.proofs.Common.{Bool, IfSome, List, None, Option, Some, [], ap, arith, inl, inr, length, refl, suc, sym, true, zero, ℕ, ◌++◌, ◌+◌, ◌==◌, ◌||◌}
+use Rattle.std.proofs.Common.{◌∙◌, ◌∷◌, ◌≡◌, ◌≤◌}
 use Rattle.std.specs.Prelude.{max}
 use Rattle.std.proofs.lemmas.Bool.{eq-eqb}
 use Rattle.std.proofs.lemmas.Option.{slice_get_past, same_Some}
@@ -52,8 +53,7 @@ module _ (p : Image) where
 
 module _ (p : Image) (cost : Option ℕ → ℕ) where
   -- one class more
-  pub line_goes :
-      (x own t y : ℕ) (o next : Option ℕ) (w : ℕ) → o ≡ Some x → own ≡ cost (own_role p x Destruct) → y ≡ kept (t + own) → next ≡ parent_of p x →
+  pub line_goes : (x own t y : ℕ) (o next : Option ℕ) (w : ℕ) → o ≡ Some x → own ≡ cost (own_role p x Destruct) → y ≡ kept (t + own) → next ≡ parent_of p x →
       kept (t + line_from p cost o) ≡ w → kept (y + line_from p cost next) ≡ w
   line_goes x own t y o next w is price sum parent h = grind (arith, nat_tests, line_step p cost x)
 
@@ -83,12 +83,12 @@ module _ (p : Image) where
   lines_step : (c : ℕ) → lines_of p (Some c) ≡ (listed (own_role p c Destruct) ++ lines_of p (parent_of p c))
   lines_step x = grind (arith, nat_tests, none_below p, nothing_after, none_listed, parent_below p, enough_listed)
 
-  pub most_step : (ds : List ℕ) (c : ℕ) → most_at ds (lines_of p (Some c)) ≡ max (most_at ds (listed (own_role p c Destruct))) (most_at ds (lines_of p (parent_of p c)))
+  pub most_step : (ds : List ℕ) (c : ℕ) →
+      most_at ds (lines_of p (Some c)) ≡ max (most_at ds (listed (own_role p c Destruct))) (most_at ds (lines_of p (parent_of p c)))
   most_step ds c = ap (most_at ds) (lines_step c) ∙ most_append ds (listed (own_role p c Destruct)) (lines_of p (parent_of p c))
 
-  pub most_goes :
-      (ds : List ℕ) (x own t y : ℕ) (o next : Option ℕ) (w : ℕ) → o ≡ Some x → own ≡ most_at ds (listed (own_role p x Destruct)) → y ≡ max t own → next ≡ parent_of p x →
-      max t (most_at ds (lines_of p o)) ≡ w → max y (most_at ds (lines_of p next)) ≡ w
+  pub most_goes : (ds : List ℕ) (x own t y : ℕ) (o next : Option ℕ) (w : ℕ) → o ≡ Some x → own ≡ most_at ds (listed (own_role p x Destruct)) → y ≡ max t own →
+      next ≡ parent_of p x → max t (most_at ds (lines_of p o)) ≡ w → max y (most_at ds (lines_of p next)) ≡ w
   most_goes ds x own t y o next w is depth most parent h = grind (arith, nat_tests, most_step ds x)
 
 pub most_listed : (ns : List ℕ) (o : Option ℕ) → most_at ns (listed o) ≡ price_by ns o

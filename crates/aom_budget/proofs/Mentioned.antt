@@ -165,7 +165,8 @@ module _ (p : Image) (m : ℕ) where
 
   readied_at_low : (es : List CleanupEntry) (k : ℕ) → IsTrue (list_all (entry_low p m) es) → IsTrue (list_all (entry_low p m) (readied_at es k))
   readied_at_low [] k h = refl
-  readied_at_low (e ∷ es) zero h = let w = both (entry_low p m e) (list_all (entry_low p m) es) h in join (entry_low p m (readied_entry e)) (list_all (entry_low p m) es) (readied_entry_low e w.0) w.1
+  readied_at_low (e ∷ es) zero h = let w = both (entry_low p m e) (list_all (entry_low p m) es) h in
+      join (entry_low p m (readied_entry e)) (list_all (entry_low p m) es) (readied_entry_low e w.0) w.1
   readied_at_low (e ∷ es) (suc k) h = grind (arith, nat_tests, both, join, readied_at_low es k)
 
   argument_low : (x : Argument) (r : ℕ) (sh : Shape) → IsLow p m sh → IsLow p m (argument_moved x r sh)
@@ -201,7 +202,8 @@ module _ (p : Image) (m : ℕ) where
 
   lasting_low : (target : Target) (called first ended : ℕ) (sh : Shape) →
       IsLow p m sh → IsLow p m (while_called target (method_class p called) ended (arguments_moved (arguments_of p called) first sh))
-  lasting_low target called first ended sh h = called_low target (method_class p called) ended (arguments_moved (arguments_of p called) first sh) (arguments_low (arguments_of p called) first sh h)
+  lasting_low target called first ended sh h =
+      called_low target (method_class p called) ended (arguments_moved (arguments_of p called) first sh) (arguments_low (arguments_of p called) first sh h)
 
   -- ---- flows
 
@@ -232,14 +234,17 @@ module _ (p : Image) (m : ℕ) where
     after_low pc sh As_before low h = h
     after_low pc sh (Holding a kind) low h = set_low sh a kind h low
     after_low pc sh (Moved a b) low h = set_low (set_register sh b Null) a (register sh b) (set_low sh b Null h refl) (h.registers b)
-    after_low pc sh (Taken a f) low h = set_low (set_field sh f Empty) a _ (field_low sh f Empty h) (filled_low (field_thing p (holder_of p m) f) (field sh f) (fields f))
+    after_low pc sh (Taken a f) low h =
+        set_low (set_field sh f Empty) a _ (field_low sh f Empty h) (filled_low (field_thing p (holder_of p m) f) (field sh f) (fields f))
     after_low pc sh (Filled f b) low h = field_low (set_register sh b Null) f _ (set_low sh b Null h refl)
-    after_low pc sh (Pushed a) low h = with_low (entry_of (register sh a)) (set_register sh a Null) (pushed_low (register sh a) (h.registers a)) (set_low sh a Null h refl)
+    after_low pc sh (Pushed a) low h =
+        with_low (entry_of (register sh a)) (set_register sh a Null) (pushed_low (register sh a) (h.registers a)) (set_low sh a Null h refl)
     after_low pc sh Pushed_operation low h = with_low Operation sh refl h
     after_low pc sh (Popped a) low h = set_low _ a (top_kind sh.entries) (without_low sh h) (top_low sh.entries h.entries)
     after_low pc sh Dropped low h = without_low sh h
     after_low pc sh (Called target called first c) low h = brought_low (gives_of p called) c _ low (lasting_low target called first (after_of p called) sh h)
-    after_low pc sh (Caught target called first c) low h = caught_low (gives_of p called) c _ low (lasting_low target called first (resting p (method_class p called)) sh h)
+    after_low pc sh (Caught target called first c) low h =
+        caught_low (gives_of p called) c _ low (lasting_low target called first (resting p (method_class p called)) sh h)
     after_low pc sh (Left_in states) low h = record { registers = h.registers; entries = h.entries }
     after_low pc sh Cancelled low h = record { registers = h.registers; entries = h.entries }
     after_low pc sh (Handed a) low h = let held = set_low sh a (Maybe Message Ready) h refl in record { registers = held.registers; entries = h.entries }
@@ -382,7 +387,8 @@ module _ (p : Image) (m : ℕ) where
   meets_kept : (s : Shapes) (to : ℕ) (sh : Shape) → IsLow p m sh → Meets s to sh → Meets (all_kept p m s) to sh
   meets_kept s to sh low h =
       let owned = owned_all h.next.registers (λ i. weaker_owned (register h.next i) (register sh i) (h.no_more.registers i) (low.registers i)) in
-      let stay : IsTrue (stays p m h.next) = join (list_all (owned_low p m) h.next.registers) (list_all (entry_low p m) h.next.entries) owned (rw h.no_more.entries low.entries) in
+      let stay : IsTrue (stays p m h.next) =
+      join (list_all (owned_low p m) h.next.registers) (list_all (entry_low p m) h.next.entries) owned (rw h.no_more.entries low.entries) in
       let there : kept p m (Some h.next) ≡ Some (raised_shape p m h.next) = rw stay refl in
       record {
         next = raised_shape p m h.next;
@@ -409,13 +415,15 @@ module _ (p : Image) (m : ℕ) where
   ordered linked d e = at_place (CallsOrdered p) p.methods m d linked.calls e
 
   -- the method of an instruction, and what it runs and mentions
-  runs_ordered : IsLinked p → (pc : ℕ) (i : Instr) → instr_at p m pc ≡ Some i → (d : Method) × (method_at p m ≡ Some d) × CallsOrdered p m d × RunsBelow p m d.class i
+  runs_ordered : IsLinked p → (pc : ℕ) (i : Instr) → instr_at p m pc ≡ Some i →
+      (d : Method) × (method_at p m ≡ Some d) × CallsOrdered p m d × RunsBelow p m d.class i
   runs_ordered linked pc i e =
       let w = of_method p m pc i e in
       let calls = ordered linked w.0 w.1 in
       (w.0, w.1, calls, all_there (RunsBelow p m w.0.class) w.0.code pc i calls.code w.2)
 
-  raised_applies : (s : Shapes) (pc : ℕ) (sh : Shape) → IsLinked p → IsMethodTyped p m s → at None s pc ≡ Some sh → IsTrue (stays p m sh) → Applies p m (all_kept p m s) pc (raised_shape p m sh)
+  raised_applies : (s : Shapes) (pc : ℕ) (sh : Shape) → IsLinked p → IsMethodTyped p m s → at None s pc ≡ Some sh → IsTrue (stays p m sh) →
+      Applies p m (all_kept p m s) pc (raised_shape p m sh)
   raised_applies s pc sh linked h there stay =
       let applies = h.each pc sh there in
       let runs = runs_ordered linked pc applies.instr applies.stands in
@@ -451,7 +459,8 @@ module _ (p : Image) (m : ℕ) where
       let back : SaysNoMore (raised_shape p m sh) sh = rw is at meets.no_more in
       let both_stay = both (list_all (owned_low p m) sh.registers) (list_all (entry_low p m) sh.entries) stay in
       record {
-        registers = λ i. was_low (register sh i) (owned_at sh.registers i both_stay.0) (subst (λ k. Weaker k (register sh i)) (at_raised sh.registers i) (back.registers i));
+        registers = λ i. was_low (register sh i) (owned_at sh.registers i both_stay.0)
+            (subst (λ k. Weaker k (register sh i)) (at_raised sh.registers i) (back.registers i));
         entries = both_stay.1;
       }
 

@@ -43,12 +43,14 @@ is_first_or_other of k ks n h = elim h.among [
   | inr c ↦ inr (record { method = h.method; among = c; has = h.has })
 ]
 
-pub of_methods : (cap : ℕ) (of : ℕ → ℕ → Type 0) (table ks : List ℕ) → ((k : ℕ) → Among k ks → IsMost cap (of k) (at 0 table k)) → IsMost cap (OfSome of ks) (most_at table ks)
+pub of_methods : (cap : ℕ) (of : ℕ → ℕ → Type 0) (table ks : List ℕ) → ((k : ℕ) → Among k ks → IsMost cap (of k) (at 0 table k)) →
+    IsMost cap (OfSome of ks) (most_at table ks)
 of_methods cap of table [] right = of_none cap (OfSome of []) (λ n h. h.among)
 of_methods cap of table (k ∷ ks) right =
     let first = right k (inl refl) in
     let others = of_methods cap of table ks (λ j c. right j (inr c)) in
-    alike cap (λ n. of k n ⊎ OfSome of ks n) (OfSome of (k ∷ ks)) _ (first_or_others of k ks) (is_first_or_other of k ks) (of_either cap (of k) (OfSome of ks) _ _ first others)
+    alike cap (λ n. of k n ⊎ OfSome of ks n) (OfSome of (k ∷ ks)) _ (first_or_others of k ks) (is_first_or_other of k ks)
+    (of_either cap (of k) (OfSome of ks) _ _ first others)
 
 -- ---- of the places below a count
 
@@ -64,7 +66,8 @@ split_last here count n h = elim (eqb_tells h.place count) [
   | inr w ↦ inl (record { place = h.place; below = omega (arith, h.below, w.1); comes = h.comes })
 ]
 
-pub before_more : (cap : ℕ) (here : ℕ → ℕ → Type 0) (count x y : ℕ) → IsMost cap (Before here count) x → IsMost cap (here count) y → IsMost cap (Before here (count + 1)) (max x y)
+pub before_more : (cap : ℕ) (here : ℕ → ℕ → Type 0) (count x y : ℕ) → IsMost cap (Before here count) x → IsMost cap (here count) y →
+    IsMost cap (Before here (count + 1)) (max x y)
 before_more cap here count x y h i = grind (
   arith,
   nat_tests,

@@ -23,11 +23,11 @@ module _ (p : Image) (P : ℕ → Type 0) (j : ℕ) (down : (k x : ℕ) → over
     where
       go : (b : Bool) → (x == j) ≡ b → (b || leads_in p n (over_of p x) j) ≡ true → ((y : ℕ) → leads_in p n (Some y) j ≡ true → P y) → P x
       go true same h later = subst P (sym (eqb-true x j same)) base
-      go false other h later = some_given (λ o. leads_in p n o j ≡ true) (over_of p x) h (λ none. absurd (no_lead p n j none)) (λ y is rest. down x y is (later y rest))
+      go false other h later =
+          some_given (λ o. leads_in p n o j ≡ true) (over_of p x) h (λ none. absurd (no_lead p n j none)) (λ y is rest. down x y is (later y rest))
 
   pub over_along : (k : ℕ) → overrides p k j ≡ true → P k
-  over_along k over =
-      some_given (λ o. leads_in p (length p.methods) o j ≡ true) (over_of p k) over (λ none. absurd (no_lead p (length p.methods) j none))
+  over_along k over = some_given (λ o. leads_in p (length p.methods) o j ≡ true) (over_of p k) over (λ none. absurd (no_lead p (length p.methods) j none))
       (λ x is rest. down k x is (led (length p.methods) x rest))
 
 -- a method that overrides is one of the image's
@@ -58,4 +58,5 @@ method_within p x d is = slice_get_within p.methods x d is
 pub overridden_there : (p : Image) → WellFormed p → (k j : ℕ) → overrides p k j ≡ true → j < length p.methods
 overridden_there p formed k j over =
     let w = overrider_is p k j over in
-    over_along p (λ x. x < length p.methods → j < length p.methods) j (λ x y is later here. later (over_there p formed x y (method_at p x) refl is)) (λ h. h) k over (method_within p k w.0 w.1)
+    over_along p (λ x. x < length p.methods → j < length p.methods) j (λ x y is later here. later (over_there p formed x y (method_at p x) refl is))
+    (λ h. h) k over (method_within p k w.0 w.1)

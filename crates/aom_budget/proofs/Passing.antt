@@ -30,7 +30,8 @@ use Rattle.aom_classes.specs.Roles.{role_of}
 use Rattle.aom_typings.specs.Prices.{Prices, call_price, cancel_price, price, kind_price, own, perhaps_price}
 use Rattle.aom_typings.specs.Costs.{AmongFlows, Region, Whole, Round, destructor_price}
 use Rattle.aom_typings.specs.Sweeping.{Afters, IsInnermost, IsSweptFrom, all_going, most_within}
-use Rattle.aom_budget.specs.Pricing.{kept, cancel_by, price_by, destruction_by, kind_by, own_by, null_targets, empty_targets, states_targets, targets_of, most_to, after_in, Found, Agrees, IsPassed}
+use Rattle.aom_budget.specs.Pricing.{kept, cancel_by, price_by, destruction_by, kind_by, own_by, null_targets, empty_targets, states_targets, targets_of}
+use Rattle.aom_budget.specs.Pricing.{most_to, after_in, Found, Agrees, IsPassed}
 use Rattle.aom_budget.proofs.ImageLemmas.{some_given}
 use Rattle.aom_roles.specs.Tests.{AllTrue}
 
@@ -45,7 +46,8 @@ null_same p m place sh x a to = grind arith
 empty_same : (p : Image) (m place : ℕ) (sh : Shape) (x : Filling) (f to : ℕ) → empty_targets (suc place) x to ≡ targets (flow_jump_empty p m place sh x f to)
 empty_same p m place sh x f to = grind arith
 
-states_same : (sh : Shape) (next here to there : ℕ) → states_targets next (bit_and sh.states here) to (bit_and sh.states there) ≡ targets (flow_narrowed sh next here ++ flow_narrowed sh to there)
+states_same : (sh : Shape) (next here to there : ℕ) →
+    states_targets next (bit_and sh.states here) to (bit_and sh.states there) ≡ targets (flow_narrowed sh next here ++ flow_narrowed sh to there)
 states_same sh next here to there = grind (arith, nat_tests)
 
 pub targets_same : (p : Image) (m place : ℕ) (sh : Shape) (i : Instr) → AllTrue (rule_needs p m place sh i) → targets_of place sh i ≡ targets (flows p m place sh i)
@@ -59,7 +61,8 @@ among_flows to (f ∷ fs) (inr h) = inr (among_flows to fs h)
 pub flows_among : (to : ℕ) (fs : List Flow) → AmongFlows to fs → Among to (targets fs)
 flows_among to fs h = by_flow to (λ gs. Among to (targets gs)) (λ f gs e. inl (sym e)) (λ f gs rest. inr rest) fs h
 
-pub most_same : (c : Prices) (m : ℕ) (r : Region) (from : List ℕ) (fs : List Flow) → ((to : ℕ) → AmongFlows to fs → c.from m to ≡ at 0 from to) → most_within c m r fs ≡ most_to from r (targets fs)
+pub most_same : (c : Prices) (m : ℕ) (r : Region) (from : List ℕ) (fs : List Flow) → ((to : ℕ) → AmongFlows to fs → c.from m to ≡ at 0 from to) →
+    most_within c m r fs ≡ most_to from r (targets fs)
 most_same c m r from [] same = refl
 most_same c m r from (f ∷ fs) same = rw (same f.0 (inl refl), most_same c m r from fs (λ to h. same to (inr h))) refl
 
@@ -111,9 +114,8 @@ pub record Extends (p : Image) (m x : ℕ) (old new : Found) : Type 0 where
   pub froms : (y : ℕ) → x < y → at 0 new.from y ≡ at 0 old.from y
   pub afters : (f to d n : ℕ) → x < to → Body p m f to d n → at 0 new.after f ≡ at 0 old.after f
 
-agrees_before :
-    (p : Image) (prices : List ℕ) (m : ℕ) (s : Shapes) (x : ℕ) (old new : Found) (t : Typing) (c : Prices) (a : Afters) → Extends p m x old new → Agrees p prices m s x new t c a →
-    Agrees p prices m s (suc x) old t c a
+agrees_before : (p : Image) (prices : List ℕ) (m : ℕ) (s : Shapes) (x : ℕ) (old new : Found) (t : Typing) (c : Prices) (a : Afters) → Extends p m x old new →
+    Agrees p prices m s x new t c a → Agrees p prices m s (suc x) old t c a
 agrees_before p prices m s x old new t c a e h = record {
   states = h.states;
   froms = λ y after. h.froms y (omega (arith, after)) ∙ e.froms y after;
@@ -126,7 +128,8 @@ agrees_before p prices m s x old new t c a e h = record {
 later : (x y : ℕ) → x ≤ y → y ≢ x → suc x ≤ y
 later x y le differs = omega (arith, le, differs)
 
-swept_more : (p : Image) (t : Typing) (c : Prices) (a : Afters) (m x : ℕ) → IsSweptFrom kept p t c a m (suc x) → IsSweptAt kept p t c a m x → IsSweptFrom kept p t c a m x
+swept_more : (p : Image) (t : Typing) (c : Prices) (a : Afters) (m x : ℕ) → IsSweptFrom kept p t c a m (suc x) → IsSweptAt kept p t c a m x →
+    IsSweptFrom kept p t c a m x
 swept_more p t c a m x h here = from_each kept p t c a m x (λ y le. elim (eqb_tells y x) [
   | inl w ↦ rw w.1 here
   | inr w ↦ at_each kept p t c a m (suc x) h y (later x y le w.1)
@@ -134,7 +137,8 @@ swept_more p t c a m x h here = from_each kept p t c a m x (λ y le. elim (eqb_t
 
 -- ---- one place more
 
-module _ (p : Image) (prices : List ℕ) (m : ℕ) (s : Shapes) (looped : IsLooped p) (x : ℕ) (old new : Found) (extends : Extends p m x old new) (h : IsPassed p prices m s (suc x) old) where
+module _ (p : Image) (prices : List ℕ) (m : ℕ) (s : Shapes) (looped : IsLooped p) (x : ℕ) (old new : Found) (extends : Extends p m x old new)
+    (h : IsPassed p prices m s (suc x) old) where
   -- of a region that ends later
   after_same : (r : Region) (y : ℕ) → IsInnermost p m y r → x < y → after_in new.after r ≡ after_in old.after r
   after_same Whole y inner le = refl
@@ -147,8 +151,8 @@ module _ (p : Image) (prices : List ℕ) (m : ℕ) (s : Shapes) (looped : IsLoop
       extends.afters g e inner.body.0 inner.body.1 (omega (arith, le, ends)) inner.body.2
 
   -- a round is what is found at the body's first place, less what follows
-  pub round_found :
-      (t : Typing) (c : Prices) (a : Afters) → Agrees p prices m s x new t c a → (to d n : ℕ) → Body p m x to d n → IsSome (shape_at t m (suc x)) → c.from m (suc x) ≡ c.round m x + a m x
+  pub round_found : (t : Typing) (c : Prices) (a : Afters) → Agrees p prices m s x new t c a → (to d n : ℕ) → Body p m x to d n →
+      IsSome (shape_at t m (suc x)) → c.from m (suc x) ≡ c.round m x + a m x
   round_found t c a agrees to d n b some =
       let inner = innermost_of_body p looped m x to d n b in
       let there : IsSome (at None s (suc x)) = subst (λ y. IsSome (at None y (suc x))) agrees.states some in
@@ -158,11 +162,9 @@ module _ (p : Image) (prices : List ℕ) (m : ℕ) (s : Shapes) (looped : IsLoop
       let first : c.from m (suc x) ≡ at 0 old.from (suc x) = agrees.froms (suc x) (omega arith) ∙ extends.froms (suc x) (omega arith) in
       omega (arith, covered, agrees.rounds x, follows, first)
 
-  pub passed_more :
-      ((t : Typing) (c : Prices) (a : Afters) → Agrees p prices m s x new t c a → IsSweptAt kept p t c a m x) →
+  pub passed_more : ((t : Typing) (c : Prices) (a : Afters) → Agrees p prices m s x new t c a → IsSweptAt kept p t c a m x) →
       ((f d n : ℕ) (r : Region) → Body p m f x d n → IsInnermost p m f r → after_in new.after r ≤ at 0 new.after f) →
-      ((sh : Shape) (r : Region) → at None s x ≡ Some sh → IsInnermost p m x r → after_in new.after r ≤ at 0 new.from x) →
-      IsPassed p prices m s x new
+      ((sh : Shape) (r : Region) → at None s x ≡ Some sh → IsInnermost p m x r → after_in new.after r ≤ at 0 new.from x) → IsPassed p prices m s x new
   passed_more here around covers = record {
     around = λ f to d n r le b inner. elim (eqb_tells to x) [
       | inl w ↦ around f d n r (rw w.1 at b) inner

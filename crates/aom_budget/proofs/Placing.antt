@@ -48,8 +48,8 @@ module _ (p : Image) (prices : List ℕ) (m : ℕ) (s : Shapes) (looped : IsLoop
   targets_at x sh i there stands = targets_same p m x sh i (needs_at x sh i there stands)
 
   called_below : (x : ℕ) (sh : Shape) (i : Instr) → at None s x ≡ Some sh → instr_at p m x ≡ Some i → (k : ℕ) → Among k (callees p m sh i) → k < m
-  called_below x sh i there stands k c =
-      called_lower p m k linked (record { states = s; strongest = strongest; place = x; calls = record { shape = sh; there = there; instr = i; stands = stands; calls = c } })
+  called_below x sh i there stands k c = called_lower p m k linked
+      (record { states = s; strongest = strongest; place = x; calls = record { shape = sh; there = there; instr = i; stands = stands; calls = c } })
 
   -- what is no next goes on at later places
   forward : (x to : ℕ) (sh : Shape) (i : Instr) → instr_at p m x ≡ Some i → next_in (Some i) ≡ None → AmongFlows to (flows p m x sh i) → x < to
@@ -58,9 +58,8 @@ module _ (p : Image) (prices : List ℕ) (m : ℕ) (s : Shapes) (looped : IsLoop
   module _ (x : ℕ) (old new : Found) (extends : Extends p m x old new) (h : IsPassed p prices m s (suc x) old) where
     -- ---- a plain instruction
 
-    module _
-        (i : Instr) (stands : instr_at p m x ≡ Some i) (no_loop : loop_in (Some i) ≡ None) (no_next : next_in (Some i) ≡ None) (r : Region) (inner : IsInnermost p m x r)
-        (same : new.after ≡ old.after) where
+    module _ (i : Instr) (stands : instr_at p m x ≡ Some i) (no_loop : loop_in (Some i) ≡ None) (no_next : next_in (Some i) ≡ None) (r : Region)
+        (inner : IsInnermost p m x r) (same : new.after ≡ old.after) where
       plain_after : (c : Prices) (a : Afters) (t : Typing) → Agrees p prices m s x new t c a → after a m r ≡ after_in old.after r
       plain_after c a t agrees = go r inner
         where
@@ -68,8 +67,7 @@ module _ (p : Image) (prices : List ℕ) (m : ℕ) (s : Shapes) (looped : IsLoop
           go Whole w = refl
           go (Round f e) w = agrees.afters f e w.body.0 w.body.1 w.inside.1 w.body.2 ∙ ap (λ l. at 0 l f) same
 
-      plain_most :
-          (c : Prices) (a : Afters) (t : Typing) (sh : Shape) → at None s x ≡ Some sh → Agrees p prices m s x new t c a →
+      plain_most : (c : Prices) (a : Afters) (t : Typing) (sh : Shape) → at None s x ≡ Some sh → Agrees p prices m s x new t c a →
           most_within c m r (flows p m x sh i) ≡ most_to old.from r (targets_of x sh i)
       plain_most c a t sh there agrees =
           let each = λ (to : ℕ) (among : AmongFlows to (flows p m x sh i)).
@@ -77,28 +75,21 @@ module _ (p : Image) (prices : List ℕ) (m : ℕ) (s : Shapes) (looped : IsLoop
           agrees.froms to (omega (arith, past)) ∙ extends.froms to past in
           most_same c m r old.from (flows p m x sh i) each ∙ ap (λ l. most_to old.from r l) (sym (targets_at x sh i there stands))
 
-      plain_value :
-          (c : Prices) (a : Afters) (t : Typing) (sh : Shape) → at None s x ≡ Some sh → Agrees p prices m s x new t c a →
-          at 0 new.from x ≡ plain_cost p m prices old r x sh i →
-          c.from m x ≡ kept (own p m c sh i + max (after a m r) (most_within c m r (flows p m x sh i)))
+      plain_value : (c : Prices) (a : Afters) (t : Typing) (sh : Shape) → at None s x ≡ Some sh → Agrees p prices m s x new t c a → at 0 new.from x
+          ≡ plain_cost p m prices old r x sh i → c.from m x ≡ kept (own p m c sh i + max (after a m r) (most_within c m r (flows p m x sh i)))
       plain_value c a t sh there agrees is =
           rw (own_same p prices m c agrees.lower agrees.classes sh i (called_below x sh i there stands), plain_after c a t agrees, plain_most c a t sh there agrees)
           (agrees.froms x (omega arith) ∙ is)
 
-      pub plain_more :
-          after_in old.after r ≤ 4294967296 →
-          ((sh : Shape) → at None s x ≡ Some sh → at 0 new.from x ≡ plain_cost p m prices old r x sh i) →
+      pub plain_more : after_in old.after r ≤ 4294967296 → ((sh : Shape) → at None s x ≡ Some sh → at 0 new.from x ≡ plain_cost p m prices old r x sh i) →
           IsPassed p prices m s x new
-      plain_more low value = passed_more p prices m s looped x old new extends h
-          (λ t c a agrees. record {
-            plain = grind (arith, nat_tests, same_Some i, one_innermost p looped m x r, stands_there t x, plain_value c a t);
-            loops = λ d n sh there. absurd (no_loop_here i d n no_loop (same_Some i (Loop d n) (sym stands ∙ there.instr)));
-            nexts = λ d f sh there. absurd (no_next_here i d (suc f) no_next (same_Some i (Next d (suc f)) (sym stands ∙ there.instr)));
-            rounds = round_found p prices m s looped x old new extends h t c a agrees;
-            afters = λ f d n u b w. absurd (no_body_ends p m x f x d n i stands no_next b refl);
-          })
-          (λ f d n u b w. absurd (no_body_ends p m x f x d n i stands no_next b refl))
-          (λ sh u there w.
+      plain_more low value = passed_more p prices m s looped x old new extends h (λ t c a agrees. record {
+        plain = grind (arith, nat_tests, same_Some i, one_innermost p looped m x r, stands_there t x, plain_value c a t);
+        loops = λ d n sh there. absurd (no_loop_here i d n no_loop (same_Some i (Loop d n) (sym stands ∙ there.instr)));
+        nexts = λ d f sh there. absurd (no_next_here i d (suc f) no_next (same_Some i (Next d (suc f)) (sym stands ∙ there.instr)));
+        rounds = round_found p prices m s looped x old new extends h t c a agrees;
+        afters = λ f d n u b w. absurd (no_body_ends p m x f x d n i stands no_next b refl);
+      }) (λ f d n u b w. absurd (no_body_ends p m x f x d n i stands no_next b refl)) (λ sh u there w.
           let is = value sh there in
           let same_region : u ≡ r = one_innermost p looped m x u r w inner in
           let covered : after_in old.after r ≤ at 0 new.from x = omega (arith, is, low) in
@@ -118,9 +109,8 @@ module _ (p : Image) (prices : List ℕ) (m : ℕ) (s : Shapes) (looped : IsLoop
           let first : c.from m (suc x) ≡ at 0 old.from (suc x) = agrees.froms (suc x) (omega arith) ∙ extends.froms (suc x) (omega arith) in
           rw (agrees.rounds x, first, follows) refl
 
-      loop_value :
-          (t : Typing) (c : Prices) (a : Afters) → Agrees p prices m s x new t c a → at 0 new.from x ≡ kept (1 + (n - 1) * round_of + at 0 old.from (suc x)) →
-          c.from m x ≡ kept (1 + (n - 1) * c.round m x + c.from m (suc x))
+      loop_value : (t : Typing) (c : Prices) (a : Afters) → Agrees p prices m s x new t c a → at 0 new.from x
+          ≡ kept (1 + (n - 1) * round_of + at 0 old.from (suc x)) → c.from m x ≡ kept (1 + (n - 1) * c.round m x + c.from m (suc x))
       loop_value t c a agrees is = grind (arith, nat_tests, rounds_same t c a agrees)
 
       body_reached : (sh : Shape) → at None s x ≡ Some sh → (y : Shape) × (at None s (suc x) ≡ Some y)
@@ -133,24 +123,20 @@ module _ (p : Image) (prices : List ℕ) (m : ℕ) (s : Shapes) (looped : IsLoop
       loop_covers : (v q y around low : ℕ) → v ≡ kept (1 + q + y) → around ≤ low → low ≤ y → y ≤ 4294967296 → around ≤ v
       loop_covers v q y around low is le more small = omega (arith, is, le, more, small)
 
-      pub loop_more :
-          AreKept old.from → ((sh : Shape) → at None s x ≡ Some sh → at 0 new.from x ≡ kept (1 + (n - 1) * round_of + at 0 old.from (suc x))) →
+      pub loop_more : AreKept old.from → ((sh : Shape) → at None s x ≡ Some sh → at 0 new.from x ≡ kept (1 + (n - 1) * round_of + at 0 old.from (suc x))) →
           IsPassed p prices m s x new
       unfolding next_in loop_in
-      loop_more small value = passed_more p prices m s looped x old new extends h
-          (λ t c a agrees. record {
-            plain = λ sh j u there j_no_loop j_no_next u_inner. absurd (no_loop_here j d n j_no_loop (same_Some j (Loop d n) (sym there.instr ∙ stands)));
-            loops = λ e l sh there.
-                let one : Some (Loop d n) ≡ Some (Loop e l) = sym stands ∙ there.instr in
-                let rounds : l ≡ n = cc in
-                let here = stands_there t x sh agrees.states there.shape in
-                rw rounds (loop_value t c a agrees (value sh here));
-            nexts = λ e f sh there. absurd (no_next_here (Loop d n) e (suc f) refl (same_Some (Loop d n) (Next e (suc f)) (sym stands ∙ there.instr)));
-            rounds = round_found p prices m s looped x old new extends h t c a agrees;
-            afters = λ f e l u b w. absurd (no_body_ends p m x f x e l (Loop d n) stands refl b refl);
-          })
-          (λ f e l u b w. absurd (no_body_ends p m x f x e l (Loop d n) stands refl b refl))
-          (λ sh u there w.
+      loop_more small value = passed_more p prices m s looped x old new extends h (λ t c a agrees. record {
+        plain = λ sh j u there j_no_loop j_no_next u_inner. absurd (no_loop_here j d n j_no_loop (same_Some j (Loop d n) (sym there.instr ∙ stands)));
+        loops = λ e l sh there.
+            let one : Some (Loop d n) ≡ Some (Loop e l) = sym stands ∙ there.instr in
+            let rounds : l ≡ n = cc in
+            let here = stands_there t x sh agrees.states there.shape in
+            rw rounds (loop_value t c a agrees (value sh here));
+        nexts = λ e f sh there. absurd (no_next_here (Loop d n) e (suc f) refl (same_Some (Loop d n) (Next e (suc f)) (sym stands ∙ there.instr)));
+        rounds = round_found p prices m s looped x old new extends h t c a agrees;
+        afters = λ f e l u b w. absurd (no_body_ends p m x f x e l (Loop d n) stands refl b refl);
+      }) (λ f e l u b w. absurd (no_body_ends p m x f x e l (Loop d n) stands refl b refl)) (λ sh u there w.
           let begins = looped.begins m x d n stands in
           let body = begins.2 in
           let around = h.around x begins.1 d n u body.later body w in
@@ -160,7 +146,8 @@ module _ (p : Image) (prices : List ℕ) (m : ℕ) (s : Shapes) (looped : IsLoop
 
     -- ---- a next
 
-    module _ (f d n : ℕ) (body : Body p m f x d n) (r : Region) (outside : IsInnermost p m (suc x) r) (u : ℕ) (exits : IsMost 4294967296 (Before (ExitsAt p m s old.from f x) (suc x)) u) where
+    module _ (f d n : ℕ) (body : Body p m f x d n) (r : Region) (outside : IsInnermost p m (suc x) r) (u : ℕ)
+        (exits : IsMost 4294967296 (Before (ExitsAt p m s old.from f x) (suc x)) u) where
       abbrev pub follows : ℕ
       follows = max (after_in old.after r) u
 
@@ -209,7 +196,8 @@ module _ (p : Image) (prices : List ℕ) (m : ℕ) (s : Shapes) (looped : IsLoop
           shape = b.comes.shape;
           instr = b.comes.instr;
           stands = record { shape = there_stands t b.place b.comes.shape same b.comes.there; instr = b.comes.stands };
-          flow = among_flows b.comes.out _ (subst (λ l. Among b.comes.out l) (targets_at b.place b.comes.shape b.comes.instr b.comes.there b.comes.stands) b.comes.flow);
+          flow = among_flows b.comes.out _
+              (subst (λ l. Among b.comes.out l) (targets_at b.place b.comes.shape b.comes.instr b.comes.there b.comes.stands) b.comes.flow);
           outside = b.comes.outside;
         }
 
@@ -234,25 +222,22 @@ module _ (p : Image) (prices : List ℕ) (m : ℕ) (s : Shapes) (looped : IsLoop
 
         pub next_more : ((sh : Shape) → at None s x ≡ Some sh → at 0 new.from x ≡ kept (1 + follows)) → follows ≤ 4294967296 → IsPassed p prices m s x new
         unfolding next_in loop_in
-        next_more value low = passed_more p prices m s looped x old new extends h
-            (λ t c a agrees. record {
-              plain = grind (arith, nat_tests, no_next_here, same_Some);
-              loops = λ e l sh there. absurd (no_loop_here (Next d (suc f)) e l refl (same_Some (Next d (suc f)) (Loop e l) (sym body.ends ∙ there.instr)));
-              nexts = λ e g sh there.
-                  let back = one_next e g (sym body.ends ∙ there.instr) in
-                  let here = stands_there t x sh agrees.states there.shape in
-                  rw (back, closed t c a agrees) (agrees.froms x (omega arith) ∙ value sh here);
-              rounds = round_found p prices m s looped x old new extends h t c a agrees;
-              afters = λ g e l v b w.
-                  let begins = one_begin p m f g x d n e l body b in
-                  let region : r ≡ v = one_innermost p looped m f r v round_it (rw (sym begins) at w) in
-                  subst (λ y. IsAfter p t c a m y x v) begins (subst (λ y. IsAfter p t c a m f x y) region (follows_after t c a agrees));
-            })
-            (λ g e l v b w.
+        next_more value low = passed_more p prices m s looped x old new extends h (λ t c a agrees. record {
+          plain = grind (arith, nat_tests, no_next_here, same_Some);
+          loops = λ e l sh there. absurd (no_loop_here (Next d (suc f)) e l refl (same_Some (Next d (suc f)) (Loop e l) (sym body.ends ∙ there.instr)));
+          nexts = λ e g sh there.
+              let back = one_next e g (sym body.ends ∙ there.instr) in
+              let here = stands_there t x sh agrees.states there.shape in
+              rw (back, closed t c a agrees) (agrees.froms x (omega arith) ∙ value sh here);
+          rounds = round_found p prices m s looped x old new extends h t c a agrees;
+          afters = λ g e l v b w.
+              let begins = one_begin p m f g x d n e l body b in
+              let region : r ≡ v = one_innermost p looped m f r v round_it (rw (sym begins) at w) in
+              subst (λ y. IsAfter p t c a m y x v) begins (subst (λ y. IsAfter p t c a m f x y) region (follows_after t c a agrees));
+        }) (λ g e l v b w.
             let begins = one_begin p m f g x d n e l body b in
             let region : v ≡ r = sym (one_innermost p looped m f r v round_it (rw (sym begins) at w)) in
-            rw (region, sym begins, is) (rw (after_outside r outside) (omega arith)))
-            (λ sh v there w.
+            rw (region, sym begins, is) (rw (after_outside r outside) (omega arith))) (λ sh v there w.
             let region : v ≡ Round f x = one_innermost p looped m x v (Round f x) w (next_here p m looped f x d n body) in
             rw region (omega (arith, is, value sh there, low)))
           where

@@ -1,6 +1,7 @@
 -- What was found of each method makes one table, and it says the prices.
 use Rattle.std.proofs.lemmas.Bool.Decides.{nat_tests}
-use Rattle.std.proofs.Common.{◌≡◌, ℕ, zero, suc, ◌<◌, ◌≤◌, ◌+◌, ◌-◌, ◌⊎◌, ⊎_elim, List, [], ◌∷◌, length, Option, Some, None, IsSome, slice_set, replicate, inl, inr, refl, sym, ap, ◌∙◌, subst, arith}
+use Rattle.std.proofs.Common.{◌≡◌, ℕ, zero, suc, ◌<◌, ◌≤◌, ◌+◌, ◌-◌, ◌⊎◌, ⊎_elim, List, [], ◌∷◌, length, Option, Some, None, IsSome, slice_set, replicate, inl}
+use Rattle.std.proofs.Common.{inr, refl, sym, ap, ◌∙◌, subst, arith}
 use Rattle.std.proofs.lemmas.Bool.{cases_lt}
 use Rattle.std.proofs.lemmas.Bool.Decides.{eqb_tells}
 use Rattle.std.proofs.lemmas.List.{length-set, length-replicate}
@@ -101,8 +102,8 @@ module _ (p : Image) (prices : List ℕ) (n : ℕ) (h : ArePricedBelow p n price
     found = λ k. found_in k (cases_lt k n);
     strongest = λ k below. inside k below (λ o. IsMethodStrongest p k (states_in k o)) (λ w. (h.each k w).strongest);
     is = λ k below. inside k below (λ o. at 0 (found_in k o).from 0 ≡ at 0 prices k) (λ w. (h.each k w).is);
-    swept = λ k below. inside k below
-        (λ o. (t : Typing) (c : Prices) (a : Afters) → Agrees p prices k (states_in k o) 0 (found_in k o) t c a → IsSweptFrom kept p t c a k 0) (λ w. (h.each k w).swept);
+    swept = λ k below. inside k below (λ o. (t : Typing) (c : Prices) (a : Afters) → Agrees p prices k (states_in k o) 0 (found_in k o) t c a →
+        IsSweptFrom kept p t c a k 0) (λ w. (h.each k w).swept);
   }
 
 module _ (p : Image) (prices : List ℕ) (h : Chosen p prices (length p.methods)) (linked : IsLinked p) where
@@ -188,7 +189,8 @@ still_priced p prices m k n v le h = record {
   });
 }
 
-pub priced_more : (p : Image) (prices : List ℕ) (m n : ℕ) → ArePricedBelow p m prices → m < length p.methods → IsMethodPriced p prices m n → ArePricedBelow p (m + 1) (slice_set prices m n)
+pub priced_more : (p : Image) (prices : List ℕ) (m n : ℕ) → ArePricedBelow p m prices → m < length p.methods → IsMethodPriced p prices m n →
+    ArePricedBelow p (m + 1) (slice_set prices m n)
 priced_more p prices m n h within here =
     let inside : m < length prices = omega (arith, within, h.size) in
     record {

@@ -1,6 +1,7 @@
 -- A quiet method has no cleanup entries, and calls none that has.
 use Rattle.std.proofs.lemmas.Bool.Decides.{nat_tests}
-use Rattle.std.proofs.Common.{◌≡◌, ℕ, zero, suc, ◌≤◌, true, false, List, [], ◌∷◌, ◌++◌, length, map, IfSome, IsTrue, Option, Some, None, inl, inr, refl, subst, sym, ap, ◌∙◌, arith}
+use Rattle.std.proofs.Common.{◌≡◌, ℕ, zero, suc, ◌≤◌, true, false, List, [], ◌∷◌, ◌++◌, length, map, IfSome, IsTrue, Option, Some, None, inl, inr, refl, subst}
+use Rattle.std.proofs.Common.{sym, ap, ◌∙◌, arith}
 use Rattle.aom_budget.proofs.ImageLemmas.{nil_given, some_given}
 use Rattle.std.specs.Prelude.{not}
 use Rattle.std.proofs.lemmas.Bool.{true≢false}
@@ -204,7 +205,8 @@ stands_lowest p m place sh linked quiet h =
 
 -- ---- heights
 
-entered_quiet : (p : Image) (m pc : ℕ) (sh : Shape) (i : Instr) (k : ℕ) → IsLinked p → is_quiet p m ≡ true → Enters p i k → AllTrue (rule_needs p m pc sh i) → is_quiet p k ≡ true
+entered_quiet : (p : Image) (m pc : ℕ) (sh : Shape) (i : Instr) (k : ℕ) → IsLinked p → is_quiet p m ≡ true → Enters p i k →
+    AllTrue (rule_needs p m pc sh i) → is_quiet p k ≡ true
 entered_quiet p m pc sh x k linked quiet enters needs = grind (
   arith,
   nat_tests,

@@ -44,19 +44,16 @@ module _ (p : Image) (m : ℕ) where
   one_begin f g x d n k l b c = let same : Some (Next d (suc f)) ≡ Some (Next k (suc g)) = sym b.ends ∙ c.ends in let one : suc f ≡ suc g = cc in omega (arith, one)
 
   module _ (looped : IsLooped p) where
-    plain_here : (x : ℕ) (i : Instr) (r : Region) → instr_at p m x ≡ Some i → loop_in (Some i) ≡ None → next_in (Some i) ≡ None → IsInnermost p m (suc x) r → IsInnermost p m x r
+    plain_here : (x : ℕ) (i : Instr) (r : Region) → instr_at p m x ≡ Some i → loop_in (Some i) ≡ None → next_in (Some i) ≡ None →
+        IsInnermost p m (suc x) r → IsInnermost p m x r
     unfolding Enters
-    plain_here x i r stands no_loop no_next h =
-        same_loops (suc x) x r
-        (λ f e d n b inside. elim (eqb_tells f x) [
-          | inl w ↦ absurd (no_body_begins x f e d n i stands no_loop b w.1)
-          | inr w ↦ (omega (arith, inside.0, w.1), omega (arith, inside.1))
-        ])
-        (λ f e d n b inside. elim (eqb_tells e x) [
-          | inl w ↦ absurd (no_body_ends x f e d n i stands no_next b w.1)
-          | inr w ↦ (omega (arith, inside.0), omega (arith, inside.1, w.1))
-        ])
-        h
+    plain_here x i r stands no_loop no_next h = same_loops (suc x) x r (λ f e d n b inside. elim (eqb_tells f x) [
+      | inl w ↦ absurd (no_body_begins x f e d n i stands no_loop b w.1)
+      | inr w ↦ (omega (arith, inside.0, w.1), omega (arith, inside.1))
+    ]) (λ f e d n b inside. elim (eqb_tells e x) [
+      | inl w ↦ absurd (no_body_ends x f e d n i stands no_next b w.1)
+      | inr w ↦ (omega (arith, inside.0), omega (arith, inside.1, w.1))
+    ]) h
 
     -- the loops after a body are those round it
     pub next_around : (f x d n : ℕ) (r : Region) → Body p m f x d n → IsInnermost p m (suc x) r → IsInnermost p m f r
@@ -102,9 +99,8 @@ module _ (p : Image) (m : ℕ) where
 
     -- ---- the loops that the pass is in
 
-    pub within_plain :
-        (x : ℕ) (i : Instr) (inner : Option rounds.Round) (around : List (Option rounds.Round)) → instr_at p m x ≡ Some i → loop_in (Some i) ≡ None → next_in (Some i) ≡ None →
-        IsWithin p m (suc x) inner around → IsWithin p m x inner around
+    pub within_plain : (x : ℕ) (i : Instr) (inner : Option rounds.Round) (around : List (Option rounds.Round)) → instr_at p m x ≡ Some i →
+        loop_in (Some i) ≡ None → next_in (Some i) ≡ None → IsWithin p m (suc x) inner around → IsWithin p m x inner around
     within_plain x i inner around stands no_loop no_next h = record {
       here = plain_here x i (region_of inner) stands no_loop no_next h.here;
       loops = λ f e d n before after b. elim (eqb_tells e x) [
@@ -113,9 +109,8 @@ module _ (p : Image) (m : ℕ) where
       ];
     }
 
-    pub within_loop :
-        (x d n : ℕ) (inner : Option rounds.Round) (around : List (Option rounds.Round)) → instr_at p m x ≡ Some (Loop d n) → IsWithin p m (suc x) inner around →
-        IsWithin p m x (at None around x) around
+    pub within_loop : (x d n : ℕ) (inner : Option rounds.Round) (around : List (Option rounds.Round)) → instr_at p m x ≡ Some (Loop d n) →
+        IsWithin p m (suc x) inner around → IsWithin p m x (at None around x) around
     unfolding next_in
     within_loop x d n inner around stands h =
         let begins = looped.begins m x d n stands in
@@ -127,9 +122,8 @@ module _ (p : Image) (m : ℕ) where
           ];
         }
 
-    pub within_next :
-        (f x d n : ℕ) (inner : Option rounds.Round) (around : List (Option rounds.Round)) → Body p m f x d n → f < length around → IsWithin p m (suc x) inner around →
-        IsWithin p m x (Some (record { first = f; last = x })) (slice_set around f inner)
+    pub within_next : (f x d n : ℕ) (inner : Option rounds.Round) (around : List (Option rounds.Round)) → Body p m f x d n → f < length around →
+        IsWithin p m (suc x) inner around → IsWithin p m x (Some (record { first = f; last = x })) (slice_set around f inner)
     within_next f x d n inner around body room h = record {
       here = next_here f x d n body;
       loops = λ g k c l before after b. elim (eqb_tells k x) [

@@ -1,5 +1,6 @@
 -- One place more of a pass, with the loops that it is in.
-use Rattle.std.proofs.Common.{◌≡◌, ◌≢◌, ℕ, suc, ◌<◌, ◌≤◌, ◌+◌, ◌-◌, ◌*◌, List, length, replicate, Option, Some, None, IsSome, slice_set, sym, ap, ◌∙◌, subst, arith}
+use Rattle.std.proofs.Common.{◌≡◌, ◌≢◌, ℕ, suc, ◌<◌, ◌≤◌, ◌+◌, ◌-◌, ◌*◌, List, length, replicate, Option, Some, None, IsSome, slice_set, sym, ap, ◌∙◌, subst}
+use Rattle.std.proofs.Common.{arith}
 use Rattle.std.specs.Prelude.{max}
 use Rattle.std.proofs.lemmas.List.{length-set, length-replicate}
 use Rattle.aom_image.specs.Image.{Image}
@@ -32,10 +33,10 @@ instr_there p m n place h within =
     has_instr p m (replicate n None) place (record { method = h.method; is = h.is; size = size ∙ h.size }) (omega (arith, within, size))
 
 -- a next closes a loop that begins before it
-pub next_closes :
-    (p q : Image) → q ≡ p → WellFormed q → IsLinked p → (m place d to : ℕ) (i : Instr) → instr_at p m place ≡ Some i → i ≡ Next d to →
+pub next_closes : (p q : Image) → q ≡ p → WellFormed q → IsLinked p → (m place d to : ℕ) (i : Instr) → instr_at p m place ≡ Some i → i ≡ Next d to →
     (from : ℕ) × (n : ℕ) × Body p m from place d n × (to ≡ suc from)
-next_closes p q same formed linked m place d to i stands is = (linked_is_looped p (subst WellFormed same formed) linked).closes m place d to (stands ∙ ap (λ j. Some j) is)
+next_closes p q same formed linked m place d to i stands is =
+    (linked_is_looped p (subst WellFormed same formed) linked).closes m place d to (stands ∙ ap (λ j. Some j) is)
 
 pub no_loop : (i : Instr) → ((d n : ℕ) → i ≢ Loop d n) → loop_in (Some i) ≡ None
 no_loop i h = by_kind (loop_in (Some i) ≡ None) i (λ loop next. loop) (λ d n e. absurd (h d n e)) (next_is_no_loop i)
@@ -49,8 +50,10 @@ low_in after Whole low = omega arith
 low_in after (Round f e) low = low.each f
 
 module _ (p : Image) (prices : List ℕ) (m : ℕ) (s : Shapes) (looped : IsLooped p) (linked : IsLinked p) (strongest : IsMethodStrongest p m s) where
-  module _ (x : ℕ) (from after : List ℕ) (inner : Option rounds.Round) (around : List (Option rounds.Round)) (h : IsPassing p prices m s (suc x) from after inner around) where
-    module _ (low : AreKept from) (low_after : AreKept after) (from' after' : List ℕ) (others : (y : ℕ) → y ≢ x → at 0 from' y ≡ at 0 from y) (size : length from' ≡ length from) where
+  module _ (x : ℕ) (from after : List ℕ) (inner : Option rounds.Round) (around : List (Option rounds.Round))
+      (h : IsPassing p prices m s (suc x) from after inner around) where
+    module _ (low : AreKept from) (low_after : AreKept after) (from' after' : List ℕ) (others : (y : ℕ) → y ≢ x → at 0 from' y ≡ at 0 from y)
+        (size : length from' ≡ length from) where
       kept_on : (same : after' ≡ after) → Extends p m x (found_by from after) (found_by from' after')
       kept_on same = record { froms = λ y past. others y (λ e. omega (arith, past, e)); afters = λ f to d n past b. ap (λ l. at 0 l f) same }
 
@@ -62,7 +65,8 @@ module _ (p : Image) (prices : List ℕ) (m : ℕ) (s : Shapes) (looped : IsLoop
           let within = within_plain p m looped x i inner around stands no_loop no_next h.within in
           let low_there = low_in after (region_of inner) low_after in
           record {
-            passed = plain_more p prices m s looped linked strongest x _ _ (kept_on same) h.passed i stands no_loop no_next (region_of inner) within.here same low_there value;
+            passed = plain_more p prices m s looped linked strongest x _ _ (kept_on same) h.passed i stands no_loop no_next
+                (region_of inner) within.here same low_there value;
             within = within;
             places = rw size h.places;
             after_size = rw (size, same) h.after_size;
@@ -89,9 +93,8 @@ module _ (p : Image) (prices : List ℕ) (m : ℕ) (s : Shapes) (looped : IsLoop
             ap (λ l. at 0 l g) is ∙ at_set_other 0 after f g w other;
       }
 
-      pub visit_next :
-          (f d n w : ℕ) → Body p m f x d n → f < length from → Follows p m s from (after_in after (region_of inner)) f x w → w ≤ 4294967296 → after' ≡ slice_set after f w →
-          ((sh : Shape) → at None s x ≡ Some sh → at 0 from' x ≡ kept (1 + w)) →
+      pub visit_next : (f d n w : ℕ) → Body p m f x d n → f < length from → Follows p m s from (after_in after (region_of inner)) f x w →
+          w ≤ 4294967296 → after' ≡ slice_set after f w → ((sh : Shape) → at None s x ≡ Some sh → at 0 from' x ≡ kept (1 + w)) →
           IsPassing p prices m s x from' after' (Some (record { first = f; last = x })) (slice_set around f inner)
       visit_next f d n w body inside follows small is value =
           let room : f < length after = omega (arith, inside, h.after_size) in
@@ -99,8 +102,8 @@ module _ (p : Image) (prices : List ℕ) (m : ℕ) (s : Shapes) (looped : IsLoop
           let here : at 0 after' f ≡ max (after_in after (region_of inner)) follows.most = ap (λ l. at 0 l f) is ∙ (at_set_here 0 after f w room ∙ follows.is) in
           let set_size = length-set after f w in
           record {
-            passed = next_more p prices m s looped linked strongest x _ _ (next_on f d n w body is) h.passed f d n body (region_of inner) h.within.here follows.most follows.exits here low
-                (λ sh there. value sh there ∙ ap (λ k. kept (1 + k)) follows.is) (rw (sym follows.is) small);
+            passed = next_more p prices m s looped linked strongest x _ _ (next_on f d n w body is) h.passed f d n body (region_of inner) h.within.here
+                follows.most follows.exits here low (λ sh there. value sh there ∙ ap (λ k. kept (1 + k)) follows.is) (rw (sym follows.is) small);
             within = within_next p m looped f x d n inner around body room_around h.within;
             places = rw size h.places;
             after_size = rw (is, size) (set_size ∙ h.after_size);

@@ -27,10 +27,13 @@ module _ {T : Type 0} where
       → count_by is_some ys + one (slice_index_or xs k None) ≡ count_by is_some xs + one (slice_index_or ys k None)
   changed_count [] [] k others = refl
   changed_count [] (y ∷ ys) zero others = omega (arith, count-cons y ys, same_counts [] ys (λ i. others (suc i) (λ e. absurd (omega (arith, e)))))
-  changed_count [] (y ∷ ys) (suc k) others = omega (arith, count-cons y ys, ap one (others 0 (λ e. absurd (omega (arith, e)))), changed_count [] ys k (λ i differs. others (suc i) (λ e. differs (omega (arith, e)))))
+  changed_count [] (y ∷ ys) (suc k) others =
+      omega (arith, count-cons y ys, ap one (others 0 (λ e. absurd (omega (arith, e)))), changed_count [] ys k (λ i differs. others (suc i) (λ e. differs (omega (arith, e)))))
   changed_count (x ∷ xs) [] zero others = omega (arith, count-cons x xs, same_counts xs [] (λ i. others (suc i) (λ e. absurd (omega (arith, e)))))
-  changed_count (x ∷ xs) [] (suc k) others = omega (arith, count-cons x xs, ap one (others 0 (λ e. absurd (omega (arith, e)))), changed_count xs [] k (λ i differs. others (suc i) (λ e. differs (omega (arith, e)))))
-  changed_count (x ∷ xs) (y ∷ ys) zero others = omega (arith, count-cons x xs, count-cons y ys, same_counts xs ys (λ i. others (suc i) (λ e. absurd (omega (arith, e)))))
+  changed_count (x ∷ xs) [] (suc k) others =
+      omega (arith, count-cons x xs, ap one (others 0 (λ e. absurd (omega (arith, e)))), changed_count xs [] k (λ i differs. others (suc i) (λ e. differs (omega (arith, e)))))
+  changed_count (x ∷ xs) (y ∷ ys) zero others =
+      omega (arith, count-cons x xs, count-cons y ys, same_counts xs ys (λ i. others (suc i) (λ e. absurd (omega (arith, e)))))
   changed_count (x ∷ xs) (y ∷ ys) (suc k) others =
       omega (arith, count-cons x xs, count-cons y ys, ap one (others 0 (λ e. absurd (omega (arith, e)))), changed_count xs ys k (λ i differs. others (suc i) (λ e. differs (omega (arith, e)))))
 
@@ -40,18 +43,15 @@ same_count old new same = same_counts old.slots new.slots same
 
 -- a cell that is added where none lived
 pub count_added : (old new : Heap) (id : ℕ) (cell : Cell) → cell_at old id ≡ None → Changes old new id (Some cell) → count new ≡ count old + 1
-count_added old new id cell fresh ch =
-    omega (arith, changed_count old.slots new.slots id ch.others, ap one fresh, ap one ch.here)
+count_added old new id cell fresh ch = omega (arith, changed_count old.slots new.slots id ch.others, ap one fresh, ap one ch.here)
 
 -- a cell that another takes the place of
 pub count_rewritten : (old new : Heap) (id : ℕ) (was next : Cell) → cell_at old id ≡ Some was → Changes old new id (Some next) → count new ≡ count old
-count_rewritten old new id was next there ch =
-    omega (arith, changed_count old.slots new.slots id ch.others, ap one there, ap one ch.here)
+count_rewritten old new id was next there ch = omega (arith, changed_count old.slots new.slots id ch.others, ap one there, ap one ch.here)
 
 -- a living cell that goes
 pub count_removed : (old new : Heap) (id : ℕ) → Lives old id → Changes old new id None → count new + 1 ≡ count old
-count_removed old new id lives ch =
-    omega (arith, changed_count old.slots new.slots id ch.others, one_lives (cell_at old id) lives, ap one ch.here)
+count_removed old new id lives ch = omega (arith, changed_count old.slots new.slots id ch.others, one_lives (cell_at old id) lives, ap one ch.here)
   where
     one_lives : (cell : Option Cell) → IsSome cell → one cell ≡ 1
     one_lives None lives = absurd (false≢true lives)

@@ -41,25 +41,23 @@ all_same n value i = elim (cases_lt i n) [
 -- what is read of a cell: at the number it is the new cell's, elsewhere as it was
 pub reads_after : {A : Type 0} (read : Option Cell → A) (old new : Heap) (id : ℕ) (cell : Option Cell) →
     Changes old new id cell → (n : ℕ) → read (cell_at new n) ≡ cond (id == n) (read cell) (read (cell_at old n))
-reads_after read old new id cell ch n =
-    elim (cases_Bool (id == n)) [
-      | inl e ↦ ap (λ k. read (cell_at new k)) (sym (eqb-true id n e)) ∙ ap read ch.here ∙ ap (λ b. cond b (read cell) (read (cell_at old n))) (sym e)
-      | inr e ↦ ap read (ch.others n (λ same. false≢true (sym e ∙ eq-eqb id n (sym same)))) ∙ ap (λ b. cond b (read cell) (read (cell_at old n))) (sym e)
-    ]
+reads_after read old new id cell ch n = elim (cases_Bool (id == n)) [
+  | inl e ↦ ap (λ k. read (cell_at new k)) (sym (eqb-true id n e)) ∙ ap read ch.here ∙ ap (λ b. cond b (read cell) (read (cell_at old n))) (sym e)
+  | inr e ↦ ap read (ch.others n (λ same. false≢true (sym e ∙ eq-eqb id n (sym same)))) ∙ ap (λ b. cond b (read cell) (read (cell_at old n))) (sym e)
+]
 
 -- what the new cell says as the old one did is as it was everywhere
 pub reads_kept : {A : Type 0} (read : Option Cell → A) (old new : Heap) (id : ℕ) (cell : Option Cell) →
     Changes old new id cell → read cell ≡ read (cell_at old id) → (n : ℕ) → read (cell_at new n) ≡ read (cell_at old n)
-reads_kept read old new id cell ch same n =
-    elim (cases_Bool (id == n)) [
-      | inl e ↦ ap (λ k. read (cell_at new k)) (sym (eqb-true id n e)) ∙ ap read ch.here ∙ same ∙ ap (λ k. read (cell_at old k)) (eqb-true id n e)
-      | inr e ↦ ap read (ch.others n (λ other. false≢true (sym e ∙ eq-eqb id n (sym other))))
-    ]
+reads_kept read old new id cell ch same n = elim (cases_Bool (id == n)) [
+  | inl e ↦ ap (λ k. read (cell_at new k)) (sym (eqb-true id n e)) ∙ ap read ch.here ∙ same ∙ ap (λ k. read (cell_at old k)) (eqb-true id n e)
+  | inr e ↦ ap read (ch.others n (λ other. false≢true (sym e ∙ eq-eqb id n (sym other))))
+]
 
 -- one part of the cell at the number changes, its other parts stay
-part_after : {A : Type 0} (read : Option Cell → ℕ → A) (old new : Heap) (id part : ℕ) (value : A) (cell : Option Cell) → Changes old new id cell → read (cell_at new id) part ≡ value
-    → ((p : ℕ) → p ≢ part → read cell p ≡ read (cell_at old id) p)
-    → (n p : ℕ) → read (cell_at new n) p ≡ cond ((id == n) && (part == p)) value (read (cell_at old n) p)
+part_after : {A : Type 0} (read : Option Cell → ℕ → A) (old new : Heap) (id part : ℕ) (value : A) (cell : Option Cell) →
+    Changes old new id cell → read (cell_at new id) part ≡ value → ((p : ℕ) → p ≢ part → read cell p ≡ read (cell_at old id) p) → (n p : ℕ) →
+    read (cell_at new n) p ≡ cond ((id == n) && (part == p)) value (read (cell_at old n) p)
 part_after read old new id part value cell ch here others n p = go (id == n) (part == p) refl refl
   where
     at_id : (id == n) ≡ true → (k : ℕ) → read (cell_at new n) k ≡ read (cell_at new id) k
@@ -67,8 +65,7 @@ part_after read old new id part value cell ch here others n p = go (id == n) (pa
 
     go : (b c : Bool) → (id == n) ≡ b → (part == p) ≡ c → read (cell_at new n) p ≡ cond (b && c) value (read (cell_at old n) p)
     go true true e f = at_id e p ∙ ap (read (cell_at new id)) (sym (eqb-true part p f)) ∙ here
-    go true false e f =
-        at_id e p ∙ ap (λ c. read c p) ch.here ∙ others p (λ same. false≢true (sym f ∙ eq-eqb part p (sym same)))
+    go true false e f = at_id e p ∙ ap (λ c. read c p) ch.here ∙ others p (λ same. false≢true (sym f ∙ eq-eqb part p (sym same)))
         ∙ ap (λ m. read (cell_at old m) p) (eqb-true id n e)
     go false c e f = ap (λ c. read c p) (ch.others n (λ same. false≢true (sym e ∙ eq-eqb id n (sym same))))
 
@@ -107,39 +104,37 @@ field_words (Some c) field number w = refl
 
 -- what `create` did, number by number
 pub adds : (old new : Heap) (id class : ℕ) → cell_at old id ≡ None → Changes old new id (Some (blank class)) → Adds old new id class
-adds old new id class fresh ch =
-    record {
-      classes = reads_after class_of old new id (Some (blank class)) ch;
-      words = λ n w. reads_kept (λ c. word_of c w) old new id (Some (blank class)) ch (blank_word class w ∙ ap (λ c. word_of c w) (sym fresh)) n;
-      fields = λ n f. reads_kept (λ c. field_of c f) old new id (Some (blank class)) ch (blank_field class f ∙ ap (λ c. field_of c f) (sym fresh)) n;
-    }
+adds old new id class fresh ch = record {
+  classes = reads_after class_of old new id (Some (blank class)) ch;
+  words = λ n w. reads_kept (λ c. word_of c w) old new id (Some (blank class)) ch (blank_word class w ∙ ap (λ c. word_of c w) (sym fresh)) n;
+  fields = λ n f. reads_kept (λ c. field_of c f) old new id (Some (blank class)) ch (blank_field class f ∙ ap (λ c. field_of c f) (sym fresh)) n;
+}
 
 -- what `release` did
 pub removes : (old new : Heap) (id : ℕ) → Changes old new id None → Removes old new id
-removes old new id ch =
-    record {
-      classes = reads_after class_of old new id None ch;
-      words = λ n w. reads_after (λ c. word_of c w) old new id None ch n;
-      fields = λ n f. reads_after (λ c. field_of c f) old new id None ch n;
-    }
+removes old new id ch = record {
+  classes = reads_after class_of old new id None ch;
+  words = λ n w. reads_after (λ c. word_of c w) old new id None ch n;
+  fields = λ n f. reads_after (λ c. field_of c f) old new id None ch n;
+}
 
 -- what `set_word` did
-pub sets_word : (old new : Heap) (id word : ℕ) (value : ℤ) → Changes old new id (with_word (cell_at old id) word value) → word_at new id word ≡ value → SetsWord old new id word value
-sets_word old new id word value ch here =
-    record {
-      classes = reads_kept class_of old new id _ ch (word_class (cell_at old id) word value);
-      words = part_after word_of old new id word value _ ch here (word_others (cell_at old id) word value);
-      fields = λ n f. reads_kept (λ c. field_of c f) old new id _ ch (word_fields (cell_at old id) word value f) n;
-    }
+pub sets_word : (old new : Heap) (id word : ℕ) (value : ℤ) → Changes old new id (with_word (cell_at old id) word value) → word_at new id word ≡ value →
+    SetsWord old new id word value
+sets_word old new id word value ch here = record {
+  classes = reads_kept class_of old new id _ ch (word_class (cell_at old id) word value);
+  words = part_after word_of old new id word value _ ch here (word_others (cell_at old id) word value);
+  fields = λ n f. reads_kept (λ c. field_of c f) old new id _ ch (word_fields (cell_at old id) word value f) n;
+}
 
 -- what `put_field` did, and `take_field` with null
-pub sets_field : (old new : Heap) (id field number : ℕ) → Changes old new id (with_field (cell_at old id) field number) → field_at new id field ≡ number → SetsField old new id field number
-sets_field old new id field number ch here =
-    record {
-      classes = reads_kept class_of old new id _ ch (field_class (cell_at old id) field number);
-      words = λ n w. reads_kept (λ c. word_of c w) old new id _ ch (field_words (cell_at old id) field number w) n;
-      fields = part_after field_of old new id field number _ ch here (field_others (cell_at old id) field number);
-    }
+pub sets_field : (old new : Heap) (id field number : ℕ) → Changes old new id (with_field (cell_at old id) field number) → field_at new id field ≡ number →
+    SetsField old new id field number
+sets_field old new id field number ch here = record {
+  classes = reads_kept class_of old new id _ ch (field_class (cell_at old id) field number);
+  words = λ n w. reads_kept (λ c. word_of c w) old new id _ ch (field_words (cell_at old id) field number w) n;
+  fields = part_after field_of old new id field number _ ch here (field_others (cell_at old id) field number);
+}
 
 -- a cell lives where its class can be read
 pub lives_by_class : (h : Heap) (n : ℕ) → IsSome (class_at h n) ↔ Lives h n
@@ -155,15 +150,14 @@ bounded_empty limit small = record { within = omega arith; ids = λ id lives. ab
 
 -- a change at a number below the limit keeps the heap bounded, if no more cells live than may
 pub bounded_after : (old new : Heap) (id : ℕ) (cell : Option Cell) → IsBounded old → Changes old new id cell → id < new.limit → count new ≤ new.limit → IsBounded new
-bounded_after old new id cell was ch small within =
-    record {
-      within = within;
-      ids = λ n lives. elim (cases_Bool (id == n)) [
-        | inl e ↦ subst (λ k. k < new.limit) (eqb-true id n e) small
-        | inr e ↦ subst (λ k. n < k) (sym ch.limit) (was.ids n (subst (λ c. IsSome c) (ch.others n (λ same. false≢true (sym e ∙ eq-eqb id n (sym same)))) lives))
-      ];
-      limit = subst (λ k. k ≤ 4096) (sym ch.limit) was.limit;
-    }
+bounded_after old new id cell was ch small within = record {
+  within = within;
+  ids = λ n lives. elim (cases_Bool (id == n)) [
+    | inl e ↦ subst (λ k. k < new.limit) (eqb-true id n e) small
+    | inr e ↦ subst (λ k. n < k) (sym ch.limit) (was.ids n (subst (λ c. IsSome c) (ch.others n (λ same. false≢true (sym e ∙ eq-eqb id n (sym same)))) lives))
+  ];
+  limit = subst (λ k. k ≤ 4096) (sym ch.limit) was.limit;
+}
 
 -- no cell has the number null
 pub null_is_none : (h : Heap) → IsBounded h → cell_at h null ≡ None

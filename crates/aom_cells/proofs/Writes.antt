@@ -29,8 +29,9 @@ changes_at slots limit k was next there = record {
 }
 
 -- so it is where the heap and the number go by other names, and the new cell is made of the old one
-pub changes_written : (slots : List (Option Cell)) (limit k id : ℕ) (now : Heap) (was next : Cell) (made : Option Cell → Option Cell) → heap slots limit ≡ now → k ≡ id
-    → slice_index_or slots k None ≡ Some was → Some next ≡ made (Some was) → Changes now (heap (slice_set slots k (Some next)) limit) id (made (cell_at now id))
+pub changes_written : (slots : List (Option Cell)) (limit k id : ℕ) (now : Heap) (was next : Cell) (made : Option Cell → Option Cell) →
+    heap slots limit ≡ now → k ≡ id → slice_index_or slots k None ≡ Some was → Some next ≡ made (Some was) →
+    Changes now (heap (slice_set slots k (Some next)) limit) id (made (cell_at now id))
 changes_written slots limit k id now was next made same number there is =
     subst (λ h. Changes h after id (made (cell_at h id))) same
     (subst (λ i. Changes before after i (made (cell_at before i))) number
@@ -43,10 +44,10 @@ changes_written slots limit k id now was next made same number there is =
     after = heap (slice_set slots k (Some next)) limit
 
 -- what is read at the number is read of the new cell
-pub read_written : {A : Type 0} (read : Option Cell → A) (slots : List (Option Cell)) (limit k id : ℕ) (was next : Cell) → k ≡ id → slice_index_or slots k None ≡ Some was
-    → read (cell_at (heap (slice_set slots k (Some next)) limit) id) ≡ read (Some next)
-read_written read slots limit k id was next number there =
-    ap (λ i. read (slice_index_or (slice_set slots k (Some next)) i None)) (sym number) ∙ ap read (get_or-set_same slots k (Some next) None (within slots k was there))
+pub read_written : {A : Type 0} (read : Option Cell → A) (slots : List (Option Cell)) (limit k id : ℕ) (was next : Cell) → k ≡ id →
+    slice_index_or slots k None ≡ Some was → read (cell_at (heap (slice_set slots k (Some next)) limit) id) ≡ read (Some next)
+read_written read slots limit k id was next number there = ap (λ i. read (slice_index_or (slice_set slots k (Some next)) i None)) (sym number)
+    ∙ ap read (get_or-set_same slots k (Some next) None (within slots k was there))
 
 -- as many cells live
 pub count_written : (slots : List (Option Cell)) (limit k : ℕ) (now : Heap) (was next : Cell) → heap slots limit ≡ now → slice_index_or slots k None ≡ Some was
@@ -56,6 +57,6 @@ count_written slots limit k now was next same there = count_rewritten (heap slot
 -- and the heap stays bounded
 pub bounded_written : (slots : List (Option Cell)) (limit k : ℕ) (was next : Cell) →
     IsBounded (heap slots limit) → slice_index_or slots k None ≡ Some was → IsBounded (heap (slice_set slots k (Some next)) limit)
-bounded_written slots limit k was next bounded there =
-    bounded_after (heap slots limit) (heap (slice_set slots k (Some next)) limit) k (Some next) bounded (changes_at slots limit k was next there) (bounded.ids k (ap is_some there))
-    (subst (λ n. n ≤ limit) (sym (count_rewritten (heap slots limit) (heap (slice_set slots k (Some next)) limit) k was next there (changes_at slots limit k was next there))) bounded.within)
+bounded_written slots limit k was next bounded there = bounded_after (heap slots limit) (heap (slice_set slots k (Some next)) limit) k (Some next) bounded
+    (changes_at slots limit k was next there) (bounded.ids k (ap is_some there)) (subst (λ n. n ≤ limit) (sym (count_rewritten (heap slots limit)
+    (heap (slice_set slots k (Some next)) limit) k was next there (changes_at slots limit k was next there))) bounded.within)

@@ -47,7 +47,8 @@ module _ (p : Image) (formed : WellFormed p) (linked : IsLinked p) (m : ℕ) (k 
     ends = at_code to (Next d (suc from)) (next_there (slice_get k.code to) d (suc from) c.ends);
   }
 
-  jump_stays : (place t : ℕ) (i : Instr) → slice_get k.code place ≡ Some i → jump_of i ≡ Some t → (from to d n : ℕ) → Body p m from to d n → IsIn from to t → IsIn from to place
+  jump_stays : (place t : ℕ) (i : Instr) → slice_get k.code place ≡ Some i → jump_of i ≡ Some t → (from to d n : ℕ) → Body p m from to d n →
+      IsIn from to t → IsIn from to place
   unfolding begins_loop back_of
   jump_stays place t i at jump from to d n body inside =
       let begins = in_code from (Loop d n) body.begins in
@@ -109,7 +110,8 @@ module _ (p : Image) (formed : WellFormed p) (linked : IsLinked p) (m : ℕ) (k 
       let one = nest.closed from d a.begins in
       one.only to a ∙ sym (one.only to' b)
 
-  two_numbers : (from to d n from' to' d' n' place : ℕ) → Body p m from to d n → Body p m from' to' d' n' → from ≢ from' → IsIn from to place → IsIn from' to' place → d ≢ d'
+  two_numbers : (from to d n from' to' d' n' place : ℕ) → Body p m from to d n → Body p m from' to' d' n' → from ≢ from' → IsIn from to place →
+      IsIn from' to' place → d ≢ d'
   two_numbers from to d n from' to' d' n' place body other differs inside also same =
       let a = closing from to d n body in
       let b = closing from' to' d' n' other in

@@ -21,7 +21,8 @@ pub refused : {P : Type 0} (r : Bool) → IsTrue r ↔ P → r ≡ false → ¬ 
 refused r h e p = let t = h.1 p in absurd (cc)
 
 -- no, where it does not hold of one element
-pub each_not : {X : Type 0} (P : ℕ → X → Type 0) (xs : List X) (i : ℕ) (x : X) → i < length xs → x ≡ slice_index_or xs i x → (¬ P i x) → IsTrue false ↔ ((k : ℕ) → IfSome (slice_get xs k) (P k))
+pub each_not : {X : Type 0} (P : ℕ → X → Type 0) (xs : List X) (i : ℕ) (x : X) → i < length xs → x ≡ slice_index_or xs i x → (¬ P i x) →
+    IsTrue false ↔ ((k : ℕ) → IfSome (slice_get xs k) (P k))
 each_not P xs i x lt e un = (λ f. absurd (cc), λ all. absurd (un (rw (slice_get_read xs (length xs) i x refl lt e) at (all i))))
 
 -- an element that was read at a place is the one there
@@ -29,7 +30,8 @@ read_there : {X : Type 0} (xs : List X) (i : ℕ) (x : X) → i < length xs → 
 read_there xs i x lt e = get_or_from_slice_get xs i x x (slice_get_read xs (length xs) i x refl lt e)
 
 -- what holds of all before an element, and of that one; of all, once each was looked at; and not of all, where it does not hold of one
-pub all_more : {X : Type 0} (P : X → Type 0) (xs : List X) (i : ℕ) (x : X) → All P (take i xs) → i < length xs → x ≡ slice_index_or xs i x → P x → All P (take (i + 1) xs)
+pub all_more : {X : Type 0} (P : X → Type 0) (xs : List X) (i : ℕ) (x : X) → All P (take i xs) → i < length xs → x ≡ slice_index_or xs i x →
+    P x → All P (take (i + 1) xs)
 all_more P xs i x h lt e p = All-more P xs i x lt h (subst P (sym (read_there xs i x lt e)) p)
 
 pub all_whole : {X : Type 0} (P : X → Type 0) (xs : List X) (i : ℕ) → length xs ≤ i → All P (take i xs) → All P xs
@@ -43,7 +45,8 @@ pub counted_yes : {X : Type 0} (p : X → Bool) (xs : List X) (i n : ℕ) (x : X
     n ≡ count_by p (take i xs) → i < length xs → x ≡ slice_index_or xs i x → p x ≡ true → n + 1 ≡ count_by p (take (i + 1) xs)
 counted_yes p xs i n x h lt e t = ap (λ (k : ℕ). k + 1) h ∙ sym (count_by_more_yes p xs i x lt (ap p (read_there xs i x lt e) ∙ t))
 
-pub counted_no : {X : Type 0} (p : X → Bool) (xs : List X) (i n : ℕ) (x : X) → n ≡ count_by p (take i xs) → i < length xs → x ≡ slice_index_or xs i x → p x ≡ false → n ≡ count_by p (take (i + 1) xs)
+pub counted_no : {X : Type 0} (p : X → Bool) (xs : List X) (i n : ℕ) (x : X) → n ≡ count_by p (take i xs) → i < length xs → x ≡ slice_index_or xs i x →
+    p x ≡ false → n ≡ count_by p (take (i + 1) xs)
 counted_no p xs i n x h lt e t = h ∙ sym (count_by_more_no p xs i x lt (ap p (read_there xs i x lt e) ∙ t))
 
 -- and whether it is at most so many in all, once each was looked at
@@ -51,7 +54,8 @@ pub counted : {X : Type 0} (p : X → Bool) (xs : List X) (i n k : ℕ) → n �
 counted p xs i n k h le = grind (arith, nat_tests, take_all i xs le, leb-true n k, le-leb n k)
 
 -- what holds of each element of a list, and of one more at its end
-pub each_push : {X : Type 0} (P : ℕ → X → Type 0) (xs : List X) (x : X) → ((k : ℕ) → IfSome (slice_get xs k) (P k)) → P (length xs) x → (k : ℕ) → IfSome (slice_get (xs ++ x ∷ []) k) (P k)
+pub each_push : {X : Type 0} (P : ℕ → X → Type 0) (xs : List X) (x : X) → ((k : ℕ) → IfSome (slice_get xs k) (P k)) → P (length xs) x → (k : ℕ) →
+    IfSome (slice_get (xs ++ x ∷ []) k) (P k)
 each_push P [] x h p zero = p
 each_push P [] x h p (suc k) = tt
 each_push P (y ∷ xs) x h p zero = h zero

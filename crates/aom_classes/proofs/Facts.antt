@@ -24,6 +24,7 @@ unfolding instr_in
 of_method p m place i e = grind (arith, nat_tests)
 
 -- an instruction's jump and next place are within its method
-pub linked_place : (p : Image) (m place : ℕ) (d : Method) (i : Instr) → IsLinked p → method_at p m ≡ Some d → slice_get d.code place ≡ Some i → KeepsWithin (length d.code) place i
+pub linked_place : (p : Image) (m place : ℕ) (d : Method) (i : Instr) → IsLinked p → method_at p m ≡ Some d → slice_get d.code place ≡ Some i →
+    KeepsWithin (length d.code) place i
 unfolding method_at
 linked_place p m place d i l e f = at_place (KeepsWithin (length d.code)) d.code place i (at_place (λ _ x. JumpsWell x.code) p.methods m d l.jumps e).each f

@@ -78,10 +78,12 @@ still_closed : (code : List Instr) (i d p : ℕ) → next_at code i ≡ None →
 still_closed code i d p none b =
     record { place = b.place; below = (let h = b.below in omega arith); closes = b.closes; only = λ q h c. b.only q (earlier code i d p q none c h) c }
 
-counted : (code : List Instr) (i : ℕ) (x : Instr) (test : Instr → Bool) → slice_get code i ≡ Some x → test x ≡ true → count_by test (take (i + 1) code) ≡ count_by test (take i code) + 1
+counted : (code : List Instr) (i : ℕ) (x : Instr) (test : Instr → Bool) → slice_get code i ≡ Some x → test x ≡ true →
+    count_by test (take (i + 1) code) ≡ count_by test (take i code) + 1
 counted code i x test e t = count_by_more_yes test code i x (slice_get_within code i x e) (ap test (get_or_from_slice_get code i x x e) ∙ t)
 
-not_counted : (code : List Instr) (i : ℕ) (x : Instr) (test : Instr → Bool) → slice_get code i ≡ Some x → test x ≡ false → count_by test (take (i + 1) code) ≡ count_by test (take i code)
+not_counted : (code : List Instr) (i : ℕ) (x : Instr) (test : Instr → Bool) → slice_get code i ≡ Some x → test x ≡ false →
+    count_by test (take (i + 1) code) ≡ count_by test (take i code)
 not_counted code i x test e t = count_by_more_no test code i x (slice_get_within code i x e) (ap test (get_or_from_slice_get code i x x e) ∙ t)
 
 scanned_plain : (code : List Instr) (i : ℕ) (x : Instr) (s : List ℕ) → slice_get code i ≡ Some x →
@@ -101,26 +103,24 @@ scanned_plain code i x s e no_loop no_next l n h = record {
 
 scanned_enter : (code : List Instr) (i d : ℕ) (x : Instr) (s t : List ℕ) → slice_get code i ≡ Some x →
     loop_at code i ≡ Some d → next_at code i ≡ None → is_loop x ≡ true → is_next x ≡ false → Enters d i s t → Scanned code i s → Scanned code (i + 1) t
-scanned_enter code i d x s t e is no_next l n a h =
-    rw a.last (record {
-      opens = λ k p g. ⊎_elim (λ (old : slice_get s k ≡ Some p). let o = h.opens k p old in (omega (arith, o.0), o.1)) (λ (new : (k ≡ length s) × (p ≡ i)).
-          let w = new.0 in let v = new.1 in let u = a.number in (omega arith, ap (loop_at code) v ∙ (is ∙ ap (λ (m : ℕ). Some m) (u ∙ sym w))))
-          (last_get s i k p g);
-      rising = λ j k p r g f lt. ⊎_elim (λ (old : slice_get s k ≡ Some r). ⊎_elim (λ (one : slice_get s j ≡ Some p). h.rising j k p r one old lt)
-          (λ (new : (j ≡ length s) × (p ≡ i)). let w = slice_get_within s k r old in absurd (omega (arith, new.0, w, lt))) (last_get s i j p g))
-          (λ (new : (k ≡ length s) × (r ≡ i)). ⊎_elim (λ (one : slice_get s j ≡ Some p). let o = h.opens j p one in omega (arith, o.0, new.1))
-          (λ (other : (j ≡ length s) × (p ≡ i)). absurd (omega (arith, new.0, other.0, lt))) (last_get s i j p g)) (last_get s i k r f);
-      unclosed = grind (arith, nat_tests, later, last_get);
-      loops = λ p c lt g. ⊎_elim
-          (λ (below : p < i). ⊎_elim (λ o. inl (keep_get s i c p o)) (λ b. inr (still_closed code i c p no_next b)) (h.loops p c below g))
-          (λ (same : p ≡ i). inl (let u = a.number in let v : c ≡ length s = cc in rw (v, same) (at_last s i))) (at_or_before p i lt);
-      closing = λ q f lt g. ⊎_elim (λ (below : q < i). h.closing q f below g) (λ (same : q ≡ i). absurd (cc)) (at_or_before q i lt);
-      apart = λ c d p q r t one other lq lt. h.apart c d p q r t one other (earlier code i c p q no_next one lq) (earlier code i d r t no_next other lt);
-      before = grind (arith, nat_tests, earlier, last_get);
-      number = λ p c lt g. ⊎_elim (λ (below : p < i). h.number p c below g)
-          (λ (same : p ≡ i). let u = a.number in let v : c ≡ length s = cc in rw (v, same) h.count) (at_or_before p i lt);
-      count = grind (arith, nat_tests, counted code i x, not_counted code i x, length-append s (i ∷ []));
-    })
+scanned_enter code i d x s t e is no_next l n a h = rw a.last (record {
+  opens = λ k p g. ⊎_elim (λ (old : slice_get s k ≡ Some p). let o = h.opens k p old in (omega (arith, o.0), o.1)) (λ (new : (k ≡ length s) × (p ≡ i)).
+      let w = new.0 in let v = new.1 in let u = a.number in (omega arith, ap (loop_at code) v ∙ (is ∙ ap (λ (m : ℕ). Some m) (u ∙ sym w))))
+      (last_get s i k p g);
+  rising = λ j k p r g f lt. ⊎_elim (λ (old : slice_get s k ≡ Some r). ⊎_elim (λ (one : slice_get s j ≡ Some p). h.rising j k p r one old lt)
+      (λ (new : (j ≡ length s) × (p ≡ i)). let w = slice_get_within s k r old in absurd (omega (arith, new.0, w, lt))) (last_get s i j p g))
+      (λ (new : (k ≡ length s) × (r ≡ i)). ⊎_elim (λ (one : slice_get s j ≡ Some p). let o = h.opens j p one in omega (arith, o.0, new.1))
+      (λ (other : (j ≡ length s) × (p ≡ i)). absurd (omega (arith, new.0, other.0, lt))) (last_get s i j p g)) (last_get s i k r f);
+  unclosed = grind (arith, nat_tests, later, last_get);
+  loops = λ p c lt g. ⊎_elim (λ (below : p < i). ⊎_elim (λ o. inl (keep_get s i c p o)) (λ b. inr (still_closed code i c p no_next b)) (h.loops p c below g))
+      (λ (same : p ≡ i). inl (let u = a.number in let v : c ≡ length s = cc in rw (v, same) (at_last s i))) (at_or_before p i lt);
+  closing = λ q f lt g. ⊎_elim (λ (below : q < i). h.closing q f below g) (λ (same : q ≡ i). absurd (cc)) (at_or_before q i lt);
+  apart = λ c d p q r t one other lq lt. h.apart c d p q r t one other (earlier code i c p q no_next one lq) (earlier code i d r t no_next other lt);
+  before = grind (arith, nat_tests, earlier, last_get);
+  number = λ p c lt g. ⊎_elim (λ (below : p < i). h.number p c below g)
+      (λ (same : p ≡ i). let u = a.number in let v : c ≡ length s = cc in rw (v, same) h.count) (at_or_before p i lt);
+  count = grind (arith, nat_tests, counted code i x, not_counted code i x, length-append s (i ∷ []));
+})
 
 -- a next closes the one loop that it goes back to
 same_start : (code : List Instr) (i d c p t : ℕ) → next_at code i ≡ Some (record { number = d; back = suc t }) → Closes code c p i → (p ≡ t) × (c ≡ d)
@@ -144,8 +144,7 @@ scanned_leave code i d t x s r e no_loop is l n last number h =
           let same : c ≡ d = new.0 ∙ sym number in
           let it : Closes code c p i = rw (same, new.1) closes in
           inr (record { place = i; below = omega arith; closes = it; only = λ q lq one. let le = h.unclosed c c p q o one in omega arith }))
-          (last_get r t c p (rw last at o)))
-          (λ (b : ClosedBefore code i c p). inr (record {
+          (last_get r t c p (rw last at o))) (λ (b : ClosedBefore code i c p). inr (record {
             place = b.place;
             below = (let w = b.below in omega arith);
             closes = b.closes;
@@ -205,7 +204,8 @@ unfolding next_in
 next_within code q e h = grind (arith, slice_get_within code q)
 
 -- where loops nest, the innermost open loop is the one that a next closes
-closes_top : (code : List Instr) (i d t : ℕ) (s : List ℕ) → next_at code i ≡ Some (record { number = d; back = t }) → Scanned code i s → LoopsNest code → (r : List ℕ) × Leaves d t s r
+closes_top : (code : List Instr) (i d t : ℕ) (s : List ℕ) → next_at code i ≡ Some (record { number = d; back = t }) → Scanned code i s → LoopsNest code →
+    (r : List ℕ) × Leaves d t s r
 closes_top code i d t s is h nest =
     let some : ClosesSome code d i = (let w = nest.closing i in rw is at w) in
     let p = some.place in
@@ -228,7 +228,8 @@ closes_top code i d t s is h nest =
       | inr w ↦ w.0
     ] in
     let split = ends_with s d p open_here (omega arith) in
-    let back : t ≡ suc p = ap (λ (x : Ending). x.back) (same_Some (record { number = d; back = t }) (record { number = d; back = suc p }) (sym {a = next_at code i} is ∙ it.ends)) in
+    let back : t ≡ suc p = ap (λ (x : Ending). x.back)
+    (same_Some (record { number = d; back = t }) (record { number = d; back = suc p }) (sym {a = next_at code i} is ∙ it.ends)) in
     let number : d ≡ length split.0 = sym {a = length split.0} split.2 in
     (split.0, record { start = p; last = split.1; back = back; number = number })
 
@@ -258,7 +259,8 @@ all_closed code i le h = record {
     | None ↦ λ f. tt
     | Some e ↦ λ f. h.closing q e (let w = next_within code q e f in omega arith) f
   ] refl;
-  nested = λ c d p q r t one other lt. h.apart c d p q r t one other (let w = next_within code q _ one.ends in omega arith) (let w = next_within code t _ other.ends in omega arith) lt;
+  nested = λ c d p q r t one other lt. h.apart c d p q r t one other (let w = next_within code q _ one.ends in omega arith)
+      (let w = next_within code t _ other.ends in omega arith) lt;
   number = λ p d e. h.number p d (let w = loop_within code p d e in omega arith) e;
 }
 

@@ -40,7 +40,8 @@ module _ {X : Type 0} (test : X → Bool) (xs : List X) where
   pub least_yes : (i : ℕ) (x : X) → i < length xs → x ≡ slice_index_or xs i x → test x ≡ true → IsLeast (i + 1) (λ m. EachBelow (Below m) xs (i + 1))
   least_yes i x lt is passes m = search (arith, nat_tests, past_all m i, slice_get_read xs)
 
-  pub least_no : (n i : ℕ) (x : X) → IsLeast n (λ m. EachBelow (Below m) xs i) → i < length xs → x ≡ slice_index_or xs i x → test x ≡ false → IsLeast n (λ m. EachBelow (Below m) xs (i + 1))
+  pub least_no : (n i : ℕ) (x : X) → IsLeast n (λ m. EachBelow (Below m) xs i) → i < length xs → x ≡ slice_index_or xs i x → test x ≡ false →
+      IsLeast n (λ m. EachBelow (Below m) xs (i + 1))
   least_no n i x h lt is fails m = (
     λ le. each_more (Below m) xs i x ((h m).0 le) lt is (λ passes. absurd (false≢true (sym fails ∙ passes))),
     λ all. (h m).1 (λ k less. all k (omega (arith, less))),
@@ -114,7 +115,8 @@ module _ (p : Image) where
         IfSome (slice_get table i) (λ n. n ≤ m)) → (x : ℕ) → x < i + 1 → descends p x c ≡ true → IfSome (slice_get table x) (λ n. n ≤ m)
     one_more i m before here x lt = grind (arith, nat_tests, eqb-true x i)
 
-    pub reaches_yes : (n k i : ℕ) → IsLeast n (ReachesSome table c i) → slice_get table i ≡ Some k → descends p i c ≡ true → IsLeast (max n k) (ReachesSome table c (i + 1))
+    pub reaches_yes : (n k i : ℕ) → IsLeast n (ReachesSome table c i) → slice_get table i ≡ Some k → descends p i c ≡ true →
+        IsLeast (max n k) (ReachesSome table c (i + 1))
     reaches_yes n k i h is there = grind (arith, nat_tests, least_same, least_max, one_more)
 
     pub reaches_no : (n i : ℕ) → IsLeast n (ReachesSome table c i) → descends p i c ≡ false → IsLeast n (ReachesSome table c (i + 1))
@@ -130,9 +132,8 @@ module _ (p : Image) where
         go m x some family y = grind (arith, nat_tests)
 
   -- a table of the greatest numbers of another says for each class what the other says for all that descend from it
-  pub greatest_least :
-      (table most : List ℕ) (P : ℕ → ℕ → Type 0) → length p.classes ≤ 256 → AreLeast 256 table P → AreLeast 256 most (λ c m. ReachesAll p table c m) →
-      AreLeast 256 most (λ c m. (x : ℕ) → descends p x c ≡ true → P x m)
+  pub greatest_least : (table most : List ℕ) (P : ℕ → ℕ → Type 0) → length p.classes ≤ 256 → AreLeast 256 table P →
+      AreLeast 256 most (λ c m. ReachesAll p table c m) → AreLeast 256 most (λ c m. (x : ℕ) → descends p x c ≡ true → P x m)
   greatest_least table most P few h g = record { each = λ c. go c (slice_get most c) refl (g.each c); all = g.all }
     where
       there : (c x : ℕ) → c < 256 → descends p x c ≡ true → x < 256
@@ -141,7 +142,8 @@ module _ (p : Image) where
       said : (x m : ℕ) (o : Option ℕ) → slice_get table x ≡ o → x < 256 → IfSome o (λ n. IsLeast n (P x)) → IfSome o (λ n. n ≤ m) ↔ P x m
       said x m y e lt least = grind (arith, nat_tests, slice_get-get_or table x 0)
 
-      go : (c : ℕ) (o : Option ℕ) → slice_get most c ≡ o → IfSome o (λ n. IsLeast n (ReachesAll p table c)) → IfSome o (λ n. IsLeast n (λ m. (x : ℕ) → descends p x c ≡ true → P x m))
+      go : (c : ℕ) (o : Option ℕ) → slice_get most c ≡ o → IfSome o (λ n. IsLeast n (ReachesAll p table c)) →
+          IfSome o (λ n. IsLeast n (λ m. (x : ℕ) → descends p x c ≡ true → P x m))
       go c None e least = tt
       go c (Some n) e least =
           let lt : c < 256 = (let within = slice_get_within most c n e in let all = g.all in omega (arith, within, all)) in
@@ -182,5 +184,6 @@ module _ (p : Image) where
         go None is = refl
         go (Some k) is =
             let w = found (plays c r) p.methods k is in
-            let below : IfSome (Some w.0) (λ d. IsTrue (plays c r d) → k < 0) = subst (λ o. IfSome o (λ d. IsTrue (plays c r d) → k < 0)) w.1 ((h 0).0 (omega (arith, zero_so)) k) in
+            let below : IfSome (Some w.0) (λ d. IsTrue (plays c r d) → k < 0) =
+            subst (λ o. IfSome o (λ d. IsTrue (plays c r d) → k < 0)) w.1 ((h 0).0 (omega (arith, zero_so)) k) in
             let lt = below w.2 in absurd (omega (arith, lt))

@@ -70,7 +70,8 @@ role_inherits p c m r e = go (is_inherited r) e
     go false is = own c (itself p c) is
 
 -- in an image without parents it is one of the class's own
-pub role_found : (p : Image) → HasNoParents p → (c m : ℕ) (r : Role) → role_of p c r ≡ Some m → (d : Method) × (method_at p m ≡ Some d) × (d.class ≡ Some c) × (d.role ≡ r)
+pub role_found : (p : Image) → HasNoParents p → (c m : ℕ) (r : Role) → role_of p c r ≡ Some m →
+    (d : Method) × (method_at p m ≡ Some d) × (d.class ≡ Some c) × (d.role ≡ r)
 role_found p none c m r e = own_found p c m r (sym (role_alone p r none c) ∙ e)
 
 -- what is destroyed by a method is an object, and the method its class's destructor

@@ -34,7 +34,8 @@ unfolding fields_in
 in_class p c field d e = rw e refl
 
 -- the fields of a class that is read, and of none
-pub fields_found : (p : Image) (cs : List ClassDecl) (c i : ℕ) (d : ClassDecl) → cs ≡ p.classes → i ≡ c → i < length cs → d ≡ slice_index_or cs i d → d.fields ≡ fields_of p c
+pub fields_found : (p : Image) (cs : List ClassDecl) (c i : ℕ) (d : ClassDecl) → cs ≡ p.classes → i ≡ c → i < length cs → d ≡ slice_index_or cs i d →
+    d.fields ≡ fields_of p c
 unfolding fields_in class_at
 fields_found p cs c i d e f lt at = rw (← e, ← f, slice_get_read cs (length cs) i d refl lt at) refl
 

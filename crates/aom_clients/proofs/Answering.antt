@@ -185,7 +185,8 @@ pub all-in : (P : ℕ → Type 0) (xs : List ℕ) → ((x : ℕ) → IsIn x xs �
 all-in P [] h = All-nil P
 all-in P (x ∷ xs) h = All-cons P x xs (h x (inl refl)) (all-in P xs (λ y i. h y (inr i)))
 
-pub completed-below : (pl : List MessagePlace) (st : Table) → AreSent pl st → (m : ℕ) (t : Completion) → Some t ≡ completion (slice_index_or pl m Free) → t.client < 64
+pub completed-below : (pl : List MessagePlace) (st : Table) → AreSent pl st → (m : ℕ) (t : Completion) →
+    Some t ≡ completion (slice_index_or pl m Free) → t.client < 64
 completed-below pl st s m t e = go (slice_index_or pl m Free) refl e
   where
     go : (p : MessagePlace) → slice_index_or pl m Free ≡ p → Some t ≡ completion p → t.client < 64

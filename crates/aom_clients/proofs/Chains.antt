@@ -34,13 +34,12 @@ pub record IsRelinked (A B A' B' : List ℕ) (a b : ℕ) : Type 0 where
   pub befores : (i : ℕ) → i ≢ b → slice_index B' i ≡ slice_index B i
 
 pub relinked : (A B : List ℕ) (a b : ℕ) → a < length A → b < length B → IsRelinked A B (set A a b) (set B b a) a b
-relinked A B a b small large =
-    record {
-      after = get_or-set_same A a b 0 small;
-      afters = λ i other. get_or-set_other A a i b 0 other;
-      before = get_or-set_same B b a 0 large;
-      befores = λ i other. get_or-set_other B b i a 0 other;
-    }
+relinked A B a b small large = record {
+  after = get_or-set_same A a b 0 small;
+  afters = λ i other. get_or-set_other A a i b 0 other;
+  before = get_or-set_same B b a 0 large;
+  befores = λ i other. get_or-set_other B b i a 0 other;
+}
 
 module _ (A B A' B' : List ℕ) (p n : ℕ) (new : IsRelinked A B A' B' p n) where
   -- a chain that the new link does not touch stays
@@ -56,9 +55,8 @@ chain-redirect A B A' B' n x (w ∷ xs) y new once off c =
     search (arith, nat_tests, new.afters x, new.befores w, chain-redirect A B A' B' n w xs y new once.1, last-in A B w xs y c.1)
 
 -- a ring without one of its nodes
-pub chain-unlink : (A B A' B' : List ℕ) (e : ℕ) (xs : List ℕ) (x : ℕ) (ys : List ℕ)
-    → IsRelinked A B A' B' (slice_index B x) (slice_index A x)
-    → IsOnce (e ∷ (xs ++ x ∷ ys)) → IsChain A B e (xs ++ x ∷ ys) e → IsChain A' B' e (xs ++ ys) e
+pub chain-unlink : (A B A' B' : List ℕ) (e : ℕ) (xs : List ℕ) (x : ℕ) (ys : List ℕ) → IsRelinked A B A' B' (slice_index B x) (slice_index A x) →
+    IsOnce (e ∷ (xs ++ x ∷ ys)) → IsChain A B e (xs ++ x ∷ ys) e → IsChain A' B' e (xs ++ ys) e
 chain-unlink A B A' B' e xs x ys new once c = go ys (chain-part A B e xs x ys e c) once
   where
     front : (zs : List ℕ) → IsOnce (e ∷ (xs ++ x ∷ zs)) → IsOnce (e ∷ xs)

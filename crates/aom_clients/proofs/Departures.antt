@@ -46,15 +46,14 @@ alike-each q ms = record { lists = ap length (each-dropped ms q.lists) ∙ lengt
 
 listed-each : (q cn : Table) (ms : List ℕ) → ((m : ℕ) → IsIn m ms → m < 1024) → AreConnects q cn → AreConnects (record q { lists = without_each ms q.lists }) cn
 listed-each q cn [] below a = a
-listed-each q cn (m ∷ ms) below a =
-    listed-each (record q { lists = map (without m) q.lists }) cn ms (λ n i. below n (inr i)) (listed-without-other q cn m (message-no m (below m (inl refl))) a)
+listed-each q cn (m ∷ ms) below a = listed-each (record q { lists = map (without m) q.lists }) cn ms (λ n i. below n (inr i))
+    (listed-without-other q cn m (message-no m (below m (inl refl))) a)
 
 queues-left : (ms : List ℕ) (pl : List MessagePlace) (c : ℕ) → c < 64 → (lists : List (List ℕ)) → ((k : ℕ) → Tells ms pl c (slice_index_or lists k []))
     → shown entry_of (map (without (1024 + c)) (map (drop_each ms) lists)) ≡ map (filter (stays c pl)) (shown entry_of lists)
 queues-left ms pl c small [] t = refl
-queues-left ms pl c small (zs ∷ lists) t =
-    ap (λ es. es ∷ shown entry_of (map (without (1024 + c)) (map (drop_each ms) lists))) (queue-left ms pl c small zs (t 0))
-    ∙ ap (λ ls. filter (stays c pl) (map entry_of zs) ∷ ls) (queues-left ms pl c small lists (λ k. t (suc k)))
+queues-left ms pl c small (zs ∷ lists) t = ap (λ es. es ∷ shown entry_of (map (without (1024 + c)) (map (drop_each ms) lists)))
+    (queue-left ms pl c small zs (t 0)) ∙ ap (λ ls. filter (stays c pl) (map entry_of zs) ∷ ls) (queues-left ms pl c small lists (λ k. t (suc k)))
 
 some-out : (c : ℕ) (p : MessagePlace) → is_out_of c p ≡ true → p ≡ Free → ⊥
 some-out c p e f = false-true (sym (ap (is_out_of c) f) ∙ e)
@@ -117,8 +116,8 @@ module _ (cl : List Client) (pl : List MessagePlace) (q cn ss st : Table) (r : I
         (one.0, all.0, all.1)
 
     q2-in : (k n : ℕ) → n ≢ 1024 + c → (IsIn n xs → ⊥) → IsIn n (list_at q k) → IsIn n (list_at q2 k)
-    q2-in k n other absent i =
-        subst (IsIn n) (sym (at-without q1 (1024 + c) k)) (without-in n (1024 + c) (list_at q1 k) other (subst (IsIn n) (sym (each-at q xs k)) (drop-in n xs (list_at q k) absent i)))
+    q2-in k n other absent i = subst (IsIn n) (sym (at-without q1 (1024 + c) k))
+        (without-in n (1024 + c) (list_at q1 k) other (subst (IsIn n) (sym (each-at q xs k)) (drop-in n xs (list_at q k) absent i)))
 
     pub can-close : (x : Client) → client cl c ≡ x → CanClose x c q2
     can-close Unconnected e = tt
@@ -179,7 +178,8 @@ module _ (cl : List Client) (pl : List MessagePlace) (q cn ss st : Table) (r : I
     kept-by Unconnected e = kept-so-far
     kept-by (Connecting k n) e = kept-so-far
     kept-by (Open k n slots) e = record {
-      sized = sized-as _ _ _ _ _ _ _ _ _ _ _ _ refl refl (alike-with q2 k (list_at q2 k ++ (1088 + c) ∷ [])) (alike-same cn2) (alike-same ss) (alike-same st2) sized-left;
+      sized = sized-as _ _ _ _ _ _ _ _ _ _ _ _ refl refl (alike-with q2 k (list_at q2 k ++ (1088 + c) ∷ [])) (alike-same cn2) (alike-same ss)
+          (alike-same st2) sized-left;
       entries = entries-push cl2 pl3 q2 k (1088 + c) (can-close (Open k n slots) e).list apt entries-client-left;
       listed = listed-push-other q2 cn2 k (1088 + c) (can-close (Open k n slots) e).list (close-no c) kept-so-far.listed;
       connected = kept-so-far.connected;
@@ -231,8 +231,8 @@ module _ (cl : List Client) (pl : List MessagePlace) (q cn ss st : Table) (r : I
     told-seen : (x : Client) → state_of cl2 pl3 (close_queued x c q2) ss st2 ≡ told x c (state_of cl2 pl3 q2 ss st2)
     told-seen Unconnected = refl
     told-seen (Connecting k n) = refl
-    told-seen (Open k n slots) =
-        ap (λ qs. record { clients = cl2; places = pl3; queues = qs; sessions = ss.lists; sent = take 64 st2.lists }) (shown-push entry_of q2.lists k (1088 + c) (Close c) (close-is c))
+    told-seen (Open k n slots) = ap (λ qs. record { clients = cl2; places = pl3; queues = qs; sessions = ss.lists; sent = take 64 st2.lists })
+        (shown-push entry_of q2.lists k (1088 + c) (Close c) (close-is c))
     told-seen (Closing k n) = refl
     told-seen Gone = refl
     told-seen Dead = refl
@@ -240,8 +240,8 @@ module _ (cl : List Client) (pl : List MessagePlace) (q cn ss st : Table) (r : I
 
     pub left-seen : (x : Client) → x ≡ client_at s c → state_of cl2 pl2 (close_queued x c q2) ss st2 ≡ leaving (Some next) c s
     left-seen x e = ap (λ ps. state_of cl2 ps (close_queued x c q2) ss st2) places-are ∙ told-seen x
-        ∙ ap (λ qs. told x c (record { clients = cl2; places = pl3; queues = qs; sessions = ss.lists; sent = take 64 st2.lists })) queues-shown
-        ∙ ap (λ ls. told x c (record { clients = cl2; places = pl3; queues = map (filter (stays c pl)) (shown entry_of q.lists); sessions = ss.lists; sent = ls })) sent-shown
+        ∙ ap (λ qs. told x c (record { clients = cl2; places = pl3; queues = qs; sessions = ss.lists; sent = take 64 st2.lists })) queues-shown ∙ ap (λ ls. told
+        x c (record { clients = cl2; places = pl3; queues = map (filter (stays c pl)) (shown entry_of q.lists); sessions = ss.lists; sent = ls })) sent-shown
         ∙ ap (λ t. told x c (with_client c next (withdrawn c t))) is ∙ ap (λ y. told y c (with_client c next (withdrawn c s))) e
 
     pub freed-is : filter (λ m. is_queued (place pl m)) xs ≡ freed (Some next) c s

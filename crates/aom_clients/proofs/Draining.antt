@@ -32,7 +32,8 @@ module _ (t u : Table) (k m : ℕ) (d : Drained t u k m) where
   pub tail-in : (n : ℕ) → IsIn n (list_at u k) → IsIn n (list_at t k)
   tail-in n i = subst (IsIn n) (sym d.shaped) (inr i)
 
-  pub places-drained : (pl : List MessagePlace) (p : MessagePlace) → p ≡ closed_place (place pl m) → left_each (list_at u k) (slice_set pl m p) ≡ left_each (list_at t k) pl
+  pub places-drained : (pl : List MessagePlace) (p : MessagePlace) → p ≡ closed_place (place pl m) →
+      left_each (list_at u k) (slice_set pl m p) ≡ left_each (list_at t k) pl
   places-drained pl p is = ap (λ x. left_each (list_at u k) (slice_set pl m x)) is ∙ ap (λ xs. left_each xs pl) (sym d.shaped)
 
   pub queues-drained : (q v : Table) → v ≡ record q { lists = map (without m) q.lists }
@@ -43,7 +44,8 @@ module _ (t u : Table) (k m : ℕ) (d : Drained t u k m) where
       → more ++ waiting_each (list_at u k) (slice_set pl m p) ≡ freed ++ waiting_each (list_at t k) pl
   freed-drained pl was p freed more was_is p_is more_is = grind (arith, nat_tests, place pl, append_assoc freed)
 
-  pub room-drained : (was : MessagePlace) (freed more : List ℕ) → more ≡ noted m was freed → length freed + length (list_at t k) ≤ 64 → length more + length (list_at u k) ≤ 64
+  pub room-drained : (was : MessagePlace) (freed more : List ℕ) → more ≡ noted m was freed → length freed + length (list_at t k) ≤ 64 →
+      length more + length (list_at u k) ≤ 64
   room-drained was freed more is room = grind (arith, nat_tests, length-append freed)
 
 -- in the end the list is empty
@@ -58,16 +60,15 @@ pub record Released (t v : Table) (c : ℕ) : Type 0 where
 
 pub released : (t u v : Table) (c m : ℕ) → 64 + c < length t.lists → Some m ≡ first_of (list_at t c) → u ≡ with_list c (rest_of (list_at t c)) t
     → v ≡ with_list (64 + c) (list_at u (64 + c) ++ m ∷ []) u → Released t v c
-released t u v c m small first u_is v_is =
-    record {
-      long = long;
-      fewer = omega (arith, ap length at_c, ap length d.shaped);
-      same = ap (λ xs. with_list c [] (with_list (64 + c) xs v)) whole ∙ ap (λ w. with_list c [] (with_list (64 + c) all w)) v_is
-          ∙ ap (λ ls. with_list c [] (record u { lists = ls })) (set-set u.lists (64 + c) (list_at u (64 + c) ++ m ∷ []) all)
-          ∙ ap (λ w. with_list c [] (with_list (64 + c) all w)) u_is
-          ∙ ap (λ ls. with_list c [] (record t { lists = ls })) (set_comm t.lists c (64 + c) (rest_of (list_at t c)) all apart)
-          ∙ ap (λ ls. record t { lists = ls }) (set-set (slice_set t.lists (64 + c) all) c (rest_of (list_at t c)) []);
-    }
+released t u v c m small first u_is v_is = record {
+  long = long;
+  fewer = omega (arith, ap length at_c, ap length d.shaped);
+  same = ap (λ xs. with_list c [] (with_list (64 + c) xs v)) whole ∙ ap (λ w. with_list c [] (with_list (64 + c) all w)) v_is
+      ∙ ap (λ ls. with_list c [] (record u { lists = ls })) (set-set u.lists (64 + c) (list_at u (64 + c) ++ m ∷ []) all)
+      ∙ ap (λ w. with_list c [] (with_list (64 + c) all w)) u_is
+      ∙ ap (λ ls. with_list c [] (record t { lists = ls })) (set_comm t.lists c (64 + c) (rest_of (list_at t c)) all apart)
+      ∙ ap (λ ls. record t { lists = ls }) (set-set (slice_set t.lists (64 + c) all) c (rest_of (list_at t c)) []);
+}
   where
     near : c < length t.lists
     near = omega (arith, small)
@@ -98,13 +99,13 @@ released t u v c m small first u_is v_is =
         ∙ ap (λ xs. xs ++ m ∷ []) (ap (λ w. list_at w (64 + c)) u_is ∙ get_or-set_other t.lists c (64 + c) (rest_of (list_at t c)) [] back)
 
     whole : list_at v (64 + c) ++ list_at v c ≡ list_at t (64 + c) ++ list_at t c
-    whole =
-        ap (λ xs. xs ++ list_at v c) at_past ∙ ap (λ xs. (list_at t (64 + c) ++ m ∷ []) ++ xs) at_c ∙ append_assoc (list_at t (64 + c)) (m ∷ []) (list_at u c)
-        ∙ ap (λ xs. list_at t (64 + c) ++ xs) (sym d.shaped)
+    whole = ap (λ xs. xs ++ list_at v c) at_past ∙ ap (λ xs. (list_at t (64 + c) ++ m ∷ []) ++ xs) at_c
+        ∙ append_assoc (list_at t (64 + c)) (m ∷ []) (list_at u c) ∙ ap (λ xs. list_at t (64 + c) ++ xs) (sym d.shaped)
 
 -- the messages of earlier sessions stay in their places, as those of this one are taken off
 pub past-stays : (st u : Table) (c : ℕ) (pl ps : List MessagePlace) → u ≡ with_list c [] st → ps ≡ left_each (list_at st c) pl
     → ((m : ℕ) → IsIn m (list_at st (64 + c)) → m < length pl) → (m : ℕ) → IsIn m (list_at u (64 + c)) → m < length ps
 past-stays st u c pl ps u_is ps_is within m i =
-    let same : list_at u (64 + c) ≡ list_at st (64 + c) = ap (λ t. list_at t (64 + c)) u_is ∙ get_or-set_other st.lists c (64 + c) [] [] (λ e. absurd (omega (arith, e))) in
+    let same : list_at u (64 + c) ≡ list_at st (64 + c) = ap (λ t. list_at t (64 + c)) u_is
+    ∙ get_or-set_other st.lists c (64 + c) [] [] (λ e. absurd (omega (arith, e))) in
     omega (arith, within m (subst (IsIn m) same i), ap length ps_is, length-each (list_at st c) pl)

@@ -15,8 +15,7 @@ use Rattle.aom_clients.specs.Clients.{after_connected, after_closed, after_compl
 
 -- client 0 with two message places and server 0: what it is at, what the places have, the queue, the sessions, and what holds a slot
 abbrev one : Client → MessagePlace → MessagePlace → List QueueEntry → List ℕ → List ℕ → State
-one x p q queue sessions sent =
-    record { clients = x ∷ []; places = p ∷ q ∷ []; queues = queue ∷ []; sessions = sessions ∷ []; sent = sent ∷ [] }
+one x p q queue sessions sent = record { clients = x ∷ []; places = p ∷ q ∷ []; queues = queue ∷ []; sessions = sessions ∷ []; sent = sent ∷ [] }
 
 -- with nothing on its way
 abbrev alone : Client → State

@@ -80,9 +80,10 @@ each-stays (m ∷ ms) pl n e = go (cases_eq n m) (each-stays ms (left_at m pl) n
     same (inl is) = inside (cases_lt m (length pl))
       where
         inside : (m < length pl) ⊎ (length pl ≤ m) → place (left_at m pl) n ≡ place pl n
-        inside (inl small) = ap (place (left_at m pl)) is ∙ get_or-set_same pl m (closed_place (place pl m)) Free small ∙ ap (λ k. closed_place (place pl k)) (sym is) ∙ e
-        inside (inr large) =
-            get_or_past (left_at m pl) n Free (omega (arith, is, large, length-set pl m (closed_place (place pl m)))) ∙ sym (get_or_past pl n Free (omega (arith, is, large)))
+        inside (inl small) = ap (place (left_at m pl)) is ∙ get_or-set_same pl m (closed_place (place pl m)) Free small
+            ∙ ap (λ k. closed_place (place pl k)) (sym is) ∙ e
+        inside (inr large) = get_or_past (left_at m pl) n Free (omega (arith, is, large, length-set pl m (closed_place (place pl m))))
+            ∙ sym (get_or_past pl n Free (omega (arith, is, large)))
     same (inr other) = get_or-set_other pl m n (closed_place (place pl m)) Free other
 
     go : (n ≡ m) ⊎ (n ≢ m) → (closed_place (place (left_at m pl) n) ≡ place (left_at m pl) n → place (left_each ms (left_at m pl)) n ≡ place (left_at m pl) n)
@@ -189,8 +190,8 @@ drop-cons : (ms : List ℕ) (z : ℕ) (zs : List ℕ) → drop_each ms (z ∷ zs
 unfolding drop_each has
 drop-cons [] z zs = refl
 drop-cons (m ∷ ms) z zs = elim (cases_eq z m) [
-  | inl same ↦ ap (drop_each ms) (left m z zs same)
-      ∙ sym (cond-true (cond (z == m) true (has z ms)) (drop_each ms (without m zs)) (z ∷ drop_each ms (without m zs)) (cond-true (z == m) true (has z ms) (eq-eqb z m same)))
+  | inl same ↦ ap (drop_each ms) (left m z zs same) ∙ sym (cond-true (cond (z == m) true (has z ms)) (drop_each ms (without m zs))
+      (z ∷ drop_each ms (without m zs)) (cond-true (z == m) true (has z ms) (eq-eqb z m same)))
   | inr other ↦ ap (drop_each ms) (kept m z zs other) ∙ drop-cons ms z (without m zs)
       ∙ sym (ap (λ b. cond b (drop_each ms (without m zs)) (z ∷ drop_each ms (without m zs))) (cond-false (z == m) true (has z ms) (ne_eqb z m other)))
 ]

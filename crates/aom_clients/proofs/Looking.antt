@@ -50,16 +50,18 @@ from-next c (x ∷ xs) once inside = go (cases_eq x c) (from-next c xs once.1)
     go : (x ≡ c) ⊎ (x ≢ c) → (IsIn c xs → from (Some c) xs ≡ c ∷ from (client_after c xs) xs) → from (Some c) (x ∷ xs) ≡ c ∷ from (client_after c (x ∷ xs)) (x ∷ xs)
     go (inl same) later =
         let next : client_after c (x ∷ xs) ≡ first_client xs = cond-true (x == c) (first_client xs) (client_after c xs) (eq-eqb x c same) in
-        from-here c x xs same ∙ ap (λ y. y ∷ xs) same
-        ∙ ap (λ ys. c ∷ ys) (sym (from-first xs) ∙ sym (from-behind x xs (first_client xs) (λ d e. first-in d xs e) once.0))
-        ∙ ap (λ o. c ∷ from o (x ∷ xs)) (sym next)
+        from-here c x xs same ∙ ap (λ y. y ∷ xs) same ∙ ap (λ ys. c ∷ ys)
+        (sym (from-first xs) ∙ sym (from-behind x xs (first_client xs) (λ d e. first-in d xs e) once.0)) ∙ ap (λ o. c ∷ from o (x ∷ xs)) (sym next)
     go (inr apart) later =
         let next : client_after c (x ∷ xs) ≡ client_after c xs = cond-false (x == c) (first_client xs) (client_after c xs) (ne_eqb x c apart) in
         from-later c x xs apart ∙ later (other apart) ∙ ap (λ ys. c ∷ ys) (sym (from-behind x xs (client_after c xs) (λ d e. after-in c d xs e) once.0))
         ∙ ap (λ o. c ∷ from o (x ∷ xs)) (sym next)
 
-pub looked : (s : State) (c : ℕ) (xs : List ℕ) → IsOnce xs → IsIn c xs → has_cell (client_at s c) ≡ false → first_there s (from (Some c) xs) ≡ first_there s (from (client_after c xs) xs)
-looked s c xs once inside none = ap (first_there s) (from-next c xs once inside) ∙ cond-false (has_cell (client_at s c)) (Some c) (first_there s (from (client_after c xs) xs)) none
+pub looked : (s : State) (c : ℕ) (xs : List ℕ) → IsOnce xs → IsIn c xs → has_cell (client_at s c) ≡ false →
+    first_there s (from (Some c) xs) ≡ first_there s (from (client_after c xs) xs)
+looked s c xs once inside none = ap (first_there s) (from-next c xs once inside)
+    ∙ cond-false (has_cell (client_at s c)) (Some c) (first_there s (from (client_after c xs) xs)) none
 
 pub found : (s : State) (c : ℕ) (xs : List ℕ) → IsOnce xs → IsIn c xs → has_cell (client_at s c) ≡ true → first_there s (from (Some c) xs) ≡ Some c
-found s c xs once inside some = ap (first_there s) (from-next c xs once inside) ∙ cond-true (has_cell (client_at s c)) (Some c) (first_there s (from (client_after c xs) xs)) some
+found s c xs once inside some = ap (first_there s) (from-next c xs once inside)
+    ∙ cond-true (has_cell (client_at s c)) (Some c) (first_there s (from (client_after c xs) xs)) some

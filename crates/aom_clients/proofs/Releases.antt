@@ -36,7 +36,8 @@ slots-still x = grind arith
 
 -- ---- all clients
 
-module _ (cl : List Client) (pl : List MessagePlace) (q cn ss st : Table) (r : IsKept cl pl q cn ss st) (s : State) (is : state_of cl pl q ss st ≡ s) (c : ℕ) (few : c < length cl) where
+module _ (cl : List Client) (pl : List MessagePlace) (q cn ss st : Table) (r : IsKept cl pl q cn ss st) (s : State) (is : state_of cl pl q ss st ≡ s) (c : ℕ)
+    (few : c < length cl) where
   abbrev pub after : List Client
   after = slice_set cl c (released (client cl c))
 

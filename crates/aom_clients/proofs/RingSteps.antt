@@ -54,8 +54,8 @@ module _ (A B : List ℕ) (H : List (Option ℕ)) (C : List ℕ) where
         let the_end : length H + l < length B = omega (arith, r.befores_long, inside) in
         let p_was : slice_index B (length H + l) ≡ p = sym (get_or_read B (length H + l) p the_end (subst (λ n. p ≡ get_or B n p) e_is p_is) 0) in
         let k_was : slice_index C l ≡ k = sym (get_or_read C l k inside k_is 0) in
-        let ringed : IsRinged (slice_set (slice_set A p x) x e) (slice_set (slice_set B x p) e x) (slice_set H x (Some l)) (slice_set C l (k + 1)) (slice_set old l (at old l ++ x ∷ [])) =
-        grind (arith, nat_tests, ringed-push A B H C old r l x inside below absent) in
+        let ringed : IsRinged (slice_set (slice_set A p x) x e) (slice_set (slice_set B x p) e x) (slice_set H x (Some l)) (slice_set C l (k + 1))
+        (slice_set old l (at old l ++ x ∷ [])) = grind (arith, nat_tests, ringed-push A B H C old r l x inside below absent) in
         let lists_now = lists-seen _ _ _ _ _ ringed in
         record {
           fits = omega (arith, k_was, one-more A B H C old r l x inside below absent, r.few, inside);
@@ -116,8 +116,7 @@ module _ (A B : List ℕ) (H : List (Option ℕ)) (C : List ℕ) where
     next-is l x i =
         let j : IsIn x (at (lists_from A (length H) C) l) = subst (λ s. IsIn x (list_at s l)) (sym is) i in
         walk_to (length H + l) (at (lists_from A (length H) C) l) (r.once l) (λ y k. node-below A B H C (lists_from A (length H) C) r y l k)
-        (r.rings l (list-below A B H C (lists_from A (length H) C) r x l j)) j
-        ∙ ap (λ s. after_node x (list_at s l)) is
+        (r.rings l (list-below A B H C (lists_from A (length H) C) r x l j)) j ∙ ap (λ s. after_node x (list_at s l)) is
       where
         behind : (y : ℕ) (ys : List ℕ) → ((z : ℕ) → IsIn z ys → z < length H) → IsChain A B y ys (length H + l) → node_at (length H) (slice_index A y) ≡ first_of ys
         behind y [] below c = grind (arith, nat_tests, cond-false)
@@ -141,19 +140,18 @@ homeless_one = None
 -- the links as they are at first: each place is linked to itself
 pub ringed-empty : (A B : List ℕ) (H : List (Option ℕ)) (C : List ℕ) (n m : ℕ) → n + m ≤ 65536 → AreOwn A (n + m) → AreOwn B (n + m)
     → H ≡ replicate n homeless_one → C ≡ replicate m 0 → IsRinged A B H C (replicate m nobody)
-ringed-empty A B H C n m few a b h k =
-    record {
-      rings = λ l small. subst (λ i. IsChain A B (i + l) (at (replicate m nobody) l) (i + l)) (sym long_h) (subst
-          (λ xs. IsChain A B (n + l) xs (n + l)) (sym (none l)) (a.own (n + l) (omega (arith, small, long_c)), b.own (n + l) (omega (arith, small, long_c))));
-      home = λ x l i. elim (subst (IsIn x) (none l) i) [ ];
-      there = λ x l e. absurd (nothing l (sym (homeless x) ∙ e));
-      once = λ l. subst IsOnce (sym (none l)) tt;
-      counted = λ l. zeros l ∙ sym (ap length (none l));
-      every = length-replicate m nobody ∙ sym long_c;
-      afters_long = omega (arith, a.long, long_h, long_c);
-      befores_long = omega (arith, b.long, long_h, long_c);
-      few = omega (arith, few, long_h, long_c);
-    }
+ringed-empty A B H C n m few a b h k = record {
+  rings = λ l small. subst (λ i. IsChain A B (i + l) (at (replicate m nobody) l) (i + l)) (sym long_h) (subst
+      (λ xs. IsChain A B (n + l) xs (n + l)) (sym (none l)) (a.own (n + l) (omega (arith, small, long_c)), b.own (n + l) (omega (arith, small, long_c))));
+  home = λ x l i. elim (subst (IsIn x) (none l) i) [ ];
+  there = λ x l e. absurd (nothing l (sym (homeless x) ∙ e));
+  once = λ l. subst IsOnce (sym (none l)) tt;
+  counted = λ l. zeros l ∙ sym (ap length (none l));
+  every = length-replicate m nobody ∙ sym long_c;
+  afters_long = omega (arith, a.long, long_h, long_c);
+  befores_long = omega (arith, b.long, long_h, long_c);
+  few = omega (arith, few, long_h, long_c);
+}
   where
     long_h : length H ≡ n
     long_h = ap length h ∙ length-replicate n homeless_one

@@ -280,8 +280,7 @@ module _ (A B : List ℕ) (H : List (Option ℕ)) (C : List ℕ) (lists : List (
   far m y other z w = grind (arith, end-out A B H C lists r l m, end-out A B H C lists r m l, apart A B H C lists r y m l)
 
   untouched : (m : ℕ) → m < length C → m ≢ l → IsChain A3 B3 (length H + m) (at lists m) (length H + m)
-  untouched m within other =
-      chain-frame A B A3 B3 p n link (length H + m) (at lists m) (length H + m) (far m p other p-near)
+  untouched m within other = chain-frame A B A3 B3 p n link (length H + m) (at lists m) (length H + m) (far m p other p-near)
       (λ j. off (in-either n (at lists m) ((length H + m) ∷ []) j)) (r.rings m within)
     where
       off : IsIn n (at lists m) ⊎ IsIn n ((length H + m) ∷ []) → ⊥
@@ -319,7 +318,8 @@ module _ (A B : List ℕ) (H : List (Option ℕ)) (C : List ℕ) (lists : List (
 
 -- each list without a node is the lists with the one list that has it written
 pub without-one : (t : Table) (l x : ℕ) → IsSound t → IsIn x (list_at t l) → with_list l (without x (list_at t l)) t ≡ record t { lists = map (without x) t.lists }
-without-one t l x s i = ap (λ ls. record t { lists = ls }) (same_lists _ _ (length-set t.lists l (without x (list_at t l)) ∙ sym (length-map t.lists (without x))) each)
+without-one t l x s i = ap (λ ls. record t { lists = ls })
+    (same_lists _ _ (length-set t.lists l (without x (list_at t l)) ∙ sym (length-map t.lists (without x))) each)
   where
     each : (k : ℕ) (d : List ℕ) → k < length (slice_set t.lists l (without x (list_at t l))) →
         slice_index_or (slice_set t.lists l (without x (list_at t l))) k d ≡ slice_index_or (map (without x) t.lists) k d
@@ -333,8 +333,7 @@ without-one t l x s i = ap (λ ls. record t { lists = ls }) (same_lists _ _ (len
 
         go : (k ≡ l) ⊎ (k ≢ l) → slice_index_or (slice_set t.lists l (without x (list_at t l))) k d ≡ slice_index_or (map (without x) t.lists) k d
         go (inl same) = grind (arith, nat_tests, get_or-set_same, small, mapped)
-        go (inr other) =
-            get_or-set_other t.lists l k (without x (list_at t l)) d other ∙ get_or_default t.lists k d [] small
+        go (inr other) = get_or-set_other t.lists l k (without x (list_at t l)) d other ∙ get_or_default t.lists k d [] small
             ∙ sym (mapped ∙ without-absent x (list_at t k) (λ j. other (s.apart x k l j i)))
 
 -- and nothing changes where none has it

@@ -45,8 +45,8 @@ empty (x ∷ xs) e = absurd (nothing x e)
 pub none-taken : (t : Table) (k : ℕ) → None ≡ first_of (list_at t k) → with_list k (rest_of (list_at t k)) t ≡ t
 none-taken t k e = grind (arith, nat_tests, empty, set-get_or t.lists k)
 
-queue-none : (cl : List Client) (pl : List MessagePlace) (q cn ss st : Table) (r : IsKept cl pl q cn ss st) (s : State) (is : state_of cl pl q ss st ≡ s) (k : ℕ)
-    → None ≡ first_of (list_at q k) → queue_at s k ≡ []
+queue-none : (cl : List Client) (pl : List MessagePlace) (q cn ss st : Table) (r : IsKept cl pl q cn ss st) (s : State) (is : state_of cl pl q ss st ≡ s)
+    (k : ℕ) → None ≡ first_of (list_at q k) → queue_at s k ≡ []
 queue-none cl pl q cn ss st r s is k e = sym (queue-is cl pl q cn ss st r s is k) ∙ ap (map entry_of) (empty (list_at q k) e)
 
 pub sessions-none : (cl : List Client) (pl : List MessagePlace) (q cn ss st : Table) (s : State) (is : state_of cl pl q ss st ≡ s) (k : ℕ)
@@ -59,7 +59,8 @@ message-below None n e all = all
 message-below (Some t) n e all = subst (λ m. MessageBelow m t.entry) e all.1
 
 -- and the client of a connect among so many
-pub connect-below : (s : State) (es : List QueueEntry) (x : Option Taken) (n : ℕ) → 64 ≡ n → x ≡ first_entry s es → IfSome x IsNumbered → IfSome x (λ t. ConnectBelow n t.entry)
+pub connect-below : (s : State) (es : List QueueEntry) (x : Option Taken) (n : ℕ) → 64 ≡ n → x ≡ first_entry s es → IfSome x IsNumbered →
+    IfSome x (λ t. ConnectBelow n t.entry)
 connect-below s es x n e told all = grind (arith, nat_tests)
 
 never-held : (p : MessagePlace) (c : ℕ) → held_place p ≡ Queued c → ⊥
@@ -96,8 +97,8 @@ module _ (cl : List Client) (pl : List MessagePlace) (q cn ss st : Table) (r : I
 
     -- entries without one that is no message
     entries-less : 1024 ≤ n → AreEntries cl pl q1
-    entries-less large =
-        entries-fewer cl pl q q1 fewer (λ c m e j i. rest-stays j m (λ same. absurd (omega (arith, same, large, waiting-below cl pl q cn ss st r s is c m e))) i) r.entries
+    entries-less large = entries-fewer cl pl q q1 fewer
+        (λ c m e j i. rest-stays j m (λ same. absurd (omega (arith, same, large, waiting-below cl pl q cn ss st r s is c m e))) i) r.entries
 
     -- entries without a message whose place has something else
     entries-taken : (p : MessagePlace) → n < 1024 → ((c : ℕ) → p ≡ Queued c → ⊥) → AreEntries cl (slice_set pl n p) q1
@@ -174,7 +175,8 @@ module _ (cl : List Client) (pl : List MessagePlace) (q cn ss st : Table) (r : I
     taken-entry : (y : ℕ) → Kind y → n ≡ y → IsTaken (entry_of y)
     taken-entry _ (message m less) e = subst IsTaken (sym (message-is m less)) (record {
       kept = record {
-        sized = sized-as _ _ _ _ _ _ _ _ _ _ _ _ refl (length-set pl m (held_place (place pl m))) (alike-with q k ns) (alike-same cn) (alike-same ss) (alike-same st) r.sized;
+        sized = sized-as _ _ _ _ _ _ _ _ _ _ _ _ refl (length-set pl m (held_place (place pl m))) (alike-with q k ns) (alike-same cn) (alike-same ss)
+            (alike-same st) r.sized;
         entries = subst (λ x. AreEntries cl (slice_set pl x (held_place (place pl x))) q1) e
             (entries-taken (held_place (place pl n)) (omega (arith, e, less)) (λ c h. never-held (place pl n) c h));
         listed = listed-rest-other q cn k n ns here (ap is_connect_node e ∙ message-no m less) shaped r.listed;
@@ -182,7 +184,8 @@ module _ (cl : List Client) (pl : List MessagePlace) (q cn ss st : Table) (r : I
         out = sent-taken pl st m (omega (arith, less, r.sized.places_long)) r.out;
         named = named-same;
       };
-      seen = ap (λ qs. record { clients = cl; places = slice_set pl m (held_place (place pl m)); queues = qs; sessions = ss.lists; sent = take 64 st.lists }) shown-rest;
+      seen = ap (λ qs. record { clients = cl; places = slice_set pl m (held_place (place pl m)); queues = qs; sessions = ss.lists; sent = take 64 st.lists })
+          shown-rest;
     })
     taken-entry _ (connect c less) e = subst IsTaken (sym (connect-is c less)) (record {
       kept = record {
@@ -219,13 +222,14 @@ module _ (cl : List Client) (pl : List MessagePlace) (q cn ss st : Table) (r : I
         out = sent-complete pl st m (omega (arith, less, r.sized.places_long)) r.out;
         named = named-same;
       };
-      seen = ap (λ qs. record { clients = cl; places = slice_set pl m Free; queues = qs; sessions = ss.lists; sent = take 64 (map (without m) st.lists) }) shown-rest
-          ∙ ap (λ ls. record { clients = cl; places = slice_set pl m Free; queues = slice_set (shown entry_of q.lists) k (map entry_of ns); sessions = ss.lists; sent = ls })
+      seen = ap (λ qs. record { clients = cl; places = slice_set pl m Free; queues = qs; sessions = ss.lists; sent = take 64 (map (without m) st.lists) })
+          shown-rest ∙ ap (λ ls. record { clients = cl; places = slice_set pl m Free; queues = slice_set (shown entry_of q.lists) k (map entry_of ns); sessions = ss.lists; sent = ls })
           (take-map (without m) 64 st.lists);
     })
     gone-entry _ (connect c less) e = subst IsGone (sym (connect-is c less)) (record {
       kept = record {
-        sized = sized-as _ _ _ _ _ _ _ _ _ _ _ _ (length-set cl c Unconnected) refl (alike-with q k ns) (alike-with cn k (rest_of (list_at cn k))) (alike-same ss) (alike-same st) r.sized;
+        sized = sized-as _ _ _ _ _ _ _ _ _ _ _ _ (length-set cl c Unconnected) refl (alike-with q k ns) (alike-with cn k (rest_of (list_at cn k)))
+            (alike-same ss) (alike-same st) r.sized;
         entries = entries-client cl pl q1 c Unconnected (among cl pl q cn ss st r s is c less)
             (λ j _ i. absurd (free.nowhere j (subst (λ x. IsIn x (list_at q1 j)) (sym e) i)))
             (λ j _ i. absurd (mine.leaving j (r.entries.closes j c less (fewer.each j (1088 + c) i))))
@@ -233,7 +237,8 @@ module _ (cl : List Client) (pl : List MessagePlace) (q cn ss st : Table) (r : I
         listed = connect-listed c less e;
         connected = sessions-client cl ss c Unconnected (among cl pl q cn ss st r s is c less) (sym mine.server) r.connected;
         out = r.out;
-        named = named-as _ q q1 (alike-with q k ns) (named-set cl (length q.lists) c Unconnected (among cl pl q cn ss st r s is c less) (λ j h. absurd (nothing j h)) (omega arith) r.named);
+        named = named-as _ q q1 (alike-with q k ns)
+            (named-set cl (length q.lists) c Unconnected (among cl pl q cn ss st r s is c less) (λ j h. absurd (nothing j h)) (omega arith) r.named);
       };
       seen = ap (λ qs. record { clients = slice_set cl c Unconnected; places = pl; queues = qs; sessions = ss.lists; sent = take 64 st.lists }) shown-rest;
     })
@@ -260,8 +265,8 @@ module _ (cl : List Client) (pl : List MessagePlace) (q cn ss st : Table) (r : I
       pub gone_kept : IsKept (if_taken given_up x cl) (if_taken place_freed x pl) t (if_taken (unlisted k) x cn) ss (if_taken slot_freed x st)
       pub gone_seen : state_of (if_taken given_up x cl) (if_taken place_freed x pl) t ss (if_taken slot_freed x st) ≡ after_next_gone k s
 
-    pub served : (x : Option Taken) (ps : List MessagePlace) → x ≡ taken_of ps (first_of (list_at q k)) → ps ≡ pl → IfSome (first_of (list_at q k)) (λ n. n < 1152)
-        → IfSome (first_of (list_at q k)) (λ n. IsFree t n) → IsServed x
+    pub served : (x : Option Taken) (ps : List MessagePlace) → x ≡ taken_of ps (first_of (list_at q k)) → ps ≡ pl →
+        IfSome (first_of (list_at q k)) (λ n. n < 1152) → IfSome (first_of (list_at q k)) (λ n. IsFree t n) → IsServed x
     served x ps e same below free = subst IsServed (sym (e ∙ ap (λ l. taken_of l (first_of (list_at q k))) same)) (go (first_of (list_at q k)) refl below free)
       where
         go : (o : Option ℕ) → first_of (list_at q k) ≡ o → IfSome o (λ n. n < 1152) → IfSome o (λ n. IsFree t n) → IsServed (taken_of pl o)
@@ -287,9 +292,10 @@ module _ (cl : List Client) (pl : List MessagePlace) (q cn ss st : Table) (r : I
               drained = λ e. absurd (cc);
               kept = subst (λ u. IsKept cl (held_by (entry_of n) pl) u (unlisted k (entry_of n) cn) ss st) (sym rest) (taken-kept k n inside first below apart);
               seen = ap (λ u. state_of cl (held_by (entry_of n) pl) u ss st) rest ∙ taken-seen k n inside first below apart;
-              gone_kept = subst (λ u. IsKept (given_up (entry_of n) cl) (place_freed (entry_of n) pl) u (unlisted k (entry_of n) cn) ss (slot_freed (entry_of n) st)) (sym rest)
-                  (gone-kept k n inside first below apart);
-              gone_seen = ap (λ u. state_of (given_up (entry_of n) cl) (place_freed (entry_of n) pl) u ss (slot_freed (entry_of n) st)) rest ∙ gone-seen k n inside first below apart;
+              gone_kept = subst (λ u. IsKept (given_up (entry_of n) cl) (place_freed (entry_of n) pl) u (unlisted k (entry_of n) cn) ss
+                  (slot_freed (entry_of n) st)) (sym rest) (gone-kept k n inside first below apart);
+              gone_seen = ap (λ u. state_of (given_up (entry_of n) cl) (place_freed (entry_of n) pl) u ss (slot_freed (entry_of n) st)) rest
+                  ∙ gone-seen k n inside first below apart;
             }
 
   -- a connect was served --------------------------------------------------------------------------------------------------------------------
@@ -348,21 +354,22 @@ module _ (cl : List Client) (pl : List MessagePlace) (q cn ss st : Table) (r : I
     -- without one
     pub disconnected-kept : IsKept (slice_set cl c Unconnected) pl q4 cn4 ss st
     disconnected-kept = record {
-      sized = sized-as _ _ _ _ _ _ _ _ _ _ _ _ (length-set cl c Unconnected) refl (alike-without q (1024 + c)) (alike-without cn c) (alike-same ss) (alike-same st) r.sized;
+      sized = sized-as _ _ _ _ _ _ _ _ _ _ _ _ (length-set cl c Unconnected) refl (alike-without q (1024 + c)) (alike-without cn c) (alike-same ss)
+          (alike-same st) r.sized;
       entries = entries-served Unconnected;
       listed = listed-without-connect q cn c small r.listed;
       connected = sessions-client cl ss c Unconnected (among cl pl q cn ss st r s is c small) (sym ask.server) r.connected;
       out = r.out;
-      named = named-as _ q q4 (alike-without q (1024 + c)) (named-set cl (length q.lists) c Unconnected (among cl pl q cn ss st r s is c small) (λ j h. absurd (nothing j h)) (omega arith) r.named);
+      named = named-as _ q q4 (alike-without q (1024 + c))
+          (named-set cl (length q.lists) c Unconnected (among cl pl q cn ss st r s is c small) (λ j h. absurd (nothing j h)) (omega arith) r.named);
     }
 
     pub disconnected-seen : state_of (slice_set cl c Unconnected) pl q4 ss st ≡ opened (client_at s c) None c s
-    disconnected-seen =
-        ap (λ qs. record { clients = slice_set cl c Unconnected; places = pl; queues = qs; sessions = ss.lists; sent = take 64 st.lists }) shown-served
-        ∙ by (client cl c) mine refl ∙ ap (λ t. opened (client_at t c) None c t) is
+    disconnected-seen = ap (λ qs. record { clients = slice_set cl c Unconnected; places = pl; queues = qs; sessions = ss.lists; sent = take 64 st.lists })
+        shown-served ∙ by (client cl c) mine refl ∙ ap (λ t. opened (client_at t c) None c t) is
       where
-        by : (x : Client) → is_connecting x ≡ true → client cl c ≡ x
-            → with_client c Unconnected (record (state_of cl pl q ss st) { queues = map (filter (is_no_connect_of c)) (shown entry_of q.lists) }) ≡ opened (client cl c) None c (state_of cl pl q ss st)
+        by : (x : Client) → is_connecting x ≡ true → client cl c ≡ x → with_client c Unconnected (record (state_of cl pl q ss
+            st) { queues = map (filter (is_no_connect_of c)) (shown entry_of q.lists) }) ≡ opened (client cl c) None c (state_of cl pl q ss st)
         by (Connecting k slots) e was = sym (ap (λ x. opened x None c (state_of cl pl q ss st)) was)
         by _ e was = absurd (false-true e)
 
@@ -387,7 +394,8 @@ module _ (cl : List Client) (pl : List MessagePlace) (q cn ss st : Table) (r : I
       listed = listed-without-other q cn (1088 + c) (close-no c) r.listed;
       connected = sessions-part cl ss c next (among cl pl q cn ss st r s is c small) none.server r.connected;
       out = r.out;
-      named = named-as _ q q5 (alike-without q (1088 + c)) (named-set cl (length q.lists) c next (among cl pl q cn ss st r s is c small) (λ j h. absurd (none.named j h)) none.slots r.named);
+      named = named-as _ q q5 (alike-without q (1088 + c))
+          (named-set cl (length q.lists) c next (among cl pl q cn ss st r s is c small) (λ j h. absurd (none.named j h)) none.slots r.named);
     }
       where
         no_more : (j : ℕ) → IsIn (1088 + c) (list_at q5 j) → ⊥
@@ -398,8 +406,7 @@ module _ (cl : List Client) (pl : List MessagePlace) (q cn ss st : Table) (r : I
             (without-in m (1088 + c) (list_at q j) (λ same. absurd (omega (arith, same, waiting-below cl pl q cn ss st r s is d m e))) i)
 
     pub parted-seen : state_of (slice_set cl c next) pl q5 (record ss { lists = map (without c) ss.lists }) st ≡ parted c next s
-    parted-seen =
-        ap (λ qs. record { clients = slice_set cl c next; places = pl; queues = qs; sessions = map (without c) ss.lists; sent = take 64 st.lists })
+    parted-seen = ap (λ qs. record { clients = slice_set cl c next; places = pl; queues = qs; sessions = map (without c) ss.lists; sent = take 64 st.lists })
         (shown-without entry_of (is_no_close_of c) (1088 + c) (no-close c) q.lists) ∙ ap (λ t. parted c next t) is
 
   -- a message is completed ------------------------------------------------------------------------------------------------------------------
@@ -421,6 +428,5 @@ module _ (cl : List Client) (pl : List MessagePlace) (q cn ss st : Table) (r : I
     }
 
     pub complete-seen : state_of cl (slice_set pl m Free) q ss (record st { lists = map (without m) st.lists }) ≡ after_complete m s
-    complete-seen =
-        ap (λ ls. record { clients = cl; places = slice_set pl m Free; queues = shown entry_of q.lists; sessions = ss.lists; sent = ls }) (take-map (without m) 64 st.lists)
-        ∙ ap (after_complete m) is
+    complete-seen = ap (λ ls. record { clients = cl; places = slice_set pl m Free; queues = shown entry_of q.lists; sessions = ss.lists; sent = ls })
+        (take-map (without m) 64 st.lists) ∙ ap (after_complete m) is

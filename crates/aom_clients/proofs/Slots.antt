@@ -69,7 +69,8 @@ module _ (pl : List MessagePlace) (st : Table) (c : ℕ) (small : c < 64) (long 
         (w.0, both d n was.1 w.0 w.1);
     senders = λ d n e. sender d n (left-discarded c d (place pl n) (sym (left-at c pl n) ∙ e));
     few = λ d less. at-set (λ d xs. d < 64 → length xs ≤ 64) (with_list c [] st).lists (64 + c) [] (omega (arith, listed_more, length-set st.lists c []))
-        (λ _. omega arith) (λ d other less. at-set (λ d xs. d < 64 → length xs ≤ 64) st.lists c [] listed (λ _. omega arith) (λ d other less. s.few d less) d less) d less;
+        (λ _. omega arith)
+        (λ d other less. at-set (λ d xs. d < 64 → length xs ≤ 64) st.lists c [] listed (λ _. omega arith) (λ d other less. s.few d less) d less) d less;
   }
     where
       past : (d n : ℕ) → d < 64 → IsIn n (list_at none (64 + d)) → (d ≡ c) ⊎ (d ≢ c) → is_held_of d (place (map (left_place c) pl) n) ≡ true
@@ -133,7 +134,8 @@ module _ (pl : List MessagePlace) (st : Table) (c : ℕ) (small : c < 64) (long 
             let w = s.waiting d n e in
             (w.0, subst (IsIn n) (sym (same-else d other (λ h. absurd (omega (arith, h, w.0))))) w.1)
 
-        both : (d n : ℕ) → d < 64 → IsIn n (list_at st d) ⊎ IsIn n (list_at st (64 + d)) → (d ≡ c) ⊎ (d ≢ c) → IsIn n (list_at moved d) ⊎ IsIn n (list_at moved (64 + d))
+        both : (d n : ℕ) → d < 64 → IsIn n (list_at st d) ⊎ IsIn n (list_at st (64 + d)) → (d ≡ c) ⊎ (d ≢ c) →
+            IsIn n (list_at moved d) ⊎ IsIn n (list_at moved (64 + d))
         both d n less (inl i) (inl same) = grind (arith, nat_tests, all-now, in-right n)
         both d n less (inr i) (inl same) = grind (arith, nat_tests, all-now, in-left n)
         both d n less (inl i) (inr other) = inl (subst (IsIn n) (sym (same-else d other (λ h. absurd (omega (arith, h, less))))) i)

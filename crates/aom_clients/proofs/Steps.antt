@@ -209,8 +209,8 @@ module _ (cl : List Client) (pl : List MessagePlace) (q cn ss st : Table) (r : I
         listed = listed-push-connect q cn k c (cell k inside) r.sized.connects_long small r.listed;
         connected = sessions-client cl ss c (Connecting k slots) (among c small) (sym apart.server) r.connected;
         out = r.out;
-        named = named-as _ q (with_list k (list_at q k ++ (1024 + c) ∷ []) q) (alike-with q k (list_at q k ++ (1024 + c) ∷ []))
-            (named-set cl (length q.lists) c (Connecting k slots) (among c small) (λ j e. subst (λ n. n < length q.lists) (same_Some k j e) (cell k inside)) few r.named);
+        named = named-as _ q (with_list k (list_at q k ++ (1024 + c) ∷ []) q) (alike-with q k (list_at q k ++ (1024 + c) ∷ [])) (named-set cl (length q.lists) c
+            (Connecting k slots) (among c small) (λ j e. subst (λ n. n < length q.lists) (same_Some k j e) (cell k inside)) few r.named);
       };
       seen = ap (λ qs. record { clients = slice_set cl c (Connecting k slots); places = pl; queues = qs; sessions = ss.lists; sent = take 64 st.lists })
           (shown-push entry_of q.lists k (1024 + c) (Connect c) (connect-is c small)) ∙ ap (λ t. queued k (Connect c) (with_client c (Connecting k slots) t)) is;
@@ -285,17 +285,19 @@ module _ (cl : List Client) (pl : List MessagePlace) (q cn ss st : Table) (r : I
               (λ less i. refl) (λ n other less i. r.entries.messages j n less (old j n other (pushed-in q k m j n send-cell i))) n less i;
           connects = λ j d less i. r.entries.connects j d less (old j (1024 + d) (λ e. absurd (omega (arith, e, below))) (pushed-in q k m j (1024 + d) send-cell i));
           closes = λ j d less i. r.entries.closes j d less (old j (1088 + d) (λ e. absurd (omega (arith, e, below))) (pushed-in q k m j (1088 + d) send-cell i));
-          waits = λ d n e. at-write Free (λ n (p : MessagePlace). p ≡ Queued d → Waits cl q2 d n) pl m (Queued c) placed (λ e. now d e) (λ n other e. still d n e) n e;
+          waits = λ d n e. at-write Free (λ n (p : MessagePlace). p ≡ Queued d → Waits cl q2 d n) pl m (Queued c) placed (λ e. now d e)
+              (λ n other e. still d n e) n e;
         };
         listed = listed-push-other q cn k m send-cell (message-no m below) r.listed;
         connected = r.connected;
         out = sent-send pl st c m small placed r.sized.sent_long is-free room r.out;
         named = named-as cl q q2 (alike-with q k (list_at q k ++ m ∷ [])) r.named;
       };
-      seen = ap (λ qs. record { clients = cl; places = pl2; queues = qs; sessions = ss.lists; sent = take 64 st2.lists }) (shown-push entry_of q.lists k m (Message m) (message-is m below))
-          ∙ ap (λ ls. record { clients = cl; places = pl2; queues = slice_set (shown entry_of q.lists) k (slice_index_or (shown entry_of q.lists) k [] ++ Message m ∷ []); sessions = ss.lists; sent = ls })
-          (take-set-lt 64 st.lists c (list_at st c ++ m ∷ []) small ∙ ap (λ xs. slice_set (take 64 st.lists) c (xs ++ m ∷ [])) (sym (get_or-take 64 st.lists c [] small)))
-          ∙ ap (λ t. queued k (Message m) (with_sent c (sent_at t c ++ m ∷ []) (with_place m (Queued c) t))) is;
+      seen = ap (λ qs. record { clients = cl; places = pl2; queues = qs; sessions = ss.lists; sent = take 64 st2.lists })
+          (shown-push entry_of q.lists k m (Message m) (message-is m below)) ∙ ap (λ ls.
+          record { clients = cl; places = pl2; queues = slice_set (shown entry_of q.lists) k (slice_index_or (shown entry_of q.lists) k [] ++ Message m ∷ []); sessions = ss.lists; sent = ls })
+          (take-set-lt 64 st.lists c (list_at st c ++ m ∷ []) small ∙ ap (λ xs. slice_set (take 64 st.lists) c (xs ++ m ∷ []))
+          (sym (get_or-take 64 st.lists c [] small))) ∙ ap (λ t. queued k (Message m) (with_sent c (sent_at t c ++ m ∷ []) (with_place m (Queued c) t))) is;
     }
       where
         room : length (list_at st c) < 64

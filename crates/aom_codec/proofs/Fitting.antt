@@ -151,12 +151,14 @@ kind_fits version classes natives (kinds.Server sessions session) few some_nativ
     ((limited_byte_fits 1 64 sessions (lit< tt) h.0 h.1, (omega arith, index_is classes session lt)), refl)
 kind_fits version classes natives x few some_natives h = grind (arith, nat_tests, provider_fits version natives)
 
-class_in_range : (version : Version) (classes natives servers : ℕ) (c : ClassDecl) → (class version classes natives servers).Fits c → ClassFits version classes natives c
+class_in_range : (version : Version) (classes natives servers : ℕ) (c : ClassDecl) → (class version classes natives servers).Fits c →
+    ClassFits version classes natives c
 class_in_range version classes natives servers c f = record {
   kind = kind_in version classes natives c.kind f.0.1.1.1.0;
   words = (between_true 0 8 c.words f.0.1.0.1).1;
   field_count = (between_true 0 8 (length c.fields) f.0.1.1.0.1).1;
-  fields = each (thing classes).Fits (ThingFits classes) c.fields (λ t h. thing_in classes (thing_number t) t h.1) (all_fit (thing classes) (length c.fields) c.fields f.0.1.1.1.1.0);
+  fields = each (thing classes).Fits (ThingFits classes) c.fields (λ t h. thing_in classes (thing_number t) t h.1)
+      (all_fit (thing classes) (length c.fields) c.fields f.0.1.1.1.1.0);
   budget = f.0.1.1.1.1.1.0.0;
   budgeted = f.0.1.1.1.1.1.0.1;
 }
@@ -175,9 +177,8 @@ parent_fits x k classes y few h = grind (arith, nat_tests, eqb_below, index_is c
 
 over_in : (version : Version) (methods : ℕ) (o : Option ℕ) → (over version methods).Fits o → OverFits version methods o
 over_in versions.One methods o f = subst (OverFits versions.One methods) (ok_is _ o f.1) tt
-over_in versions.Two methods o f =
-    marked_or (OverFits versions.Two methods) (eqb (class_number o) 0xffff) None (index_from methods (class_number o)) (λ m. Some m) o (λ is. tt)
-    (λ m h. (refl, in_classes methods (class_number o) m h)) f.0.0.1
+over_in versions.Two methods o f = marked_or (OverFits versions.Two methods) (eqb (class_number o) 0xffff) None (index_from methods (class_number o))
+    (λ m. Some m) o (λ is. tt) (λ m h. (refl, in_classes methods (class_number o) m h)) f.0.0.1
 
 over_fits : (version : Version) (methods : ℕ) (o : Option ℕ) → methods ≤ 1024 → OverFits version methods o → (over version methods).Fits o
 over_fits x methods y few h = grind (arith, nat_tests, eqb_below, index_is methods)
@@ -251,14 +252,15 @@ classes_in version classes natives _ servers _ low (one_more {n = n} c cs fit mo
 some_server : (b : Bool) (servers n : ℕ) → servers + (cond b 1 0 + n) ≤ 8 → b ≡ true → servers < 8
 some_server b servers n h is = omega (arith, ap {B = ℕ} (λ c. cond c 1 0) is)
 
-classes_fit : (version : Version) (classes natives servers : ℕ) (cs : List ClassDecl) → classes ≤ 256 → natives ≤ 16 → All (ClassFits version classes natives) cs
-    → All (λ c. ParentFits version classes c.kind c.parent) cs → servers + count_by is_server cs ≤ 8 → FitMany (class version classes natives) count_server servers (length cs) cs
+classes_fit : (version : Version) (classes natives servers : ℕ) (cs : List ClassDecl) → classes ≤ 256 →
+    natives ≤ 16 → All (ClassFits version classes natives) cs → All (λ c. ParentFits version classes c.kind c.parent) cs → servers + count_by is_server cs ≤ 8 →
+    FitMany (class version classes natives) count_server servers (length cs) cs
 classes_fit version classes natives servers [] few some_natives h parents low = tt
 classes_fit version classes natives servers (c ∷ cs) few some_natives h parents low =
     let count = count-cons c cs in
     let next = next_is (is_server c) servers in (
-      class_fits version classes natives servers c few some_natives (first_fits servers c.kind (some_server (is_server c) servers (count_by is_server cs) (omega arith)))
-          (head_of (ClassFits version classes natives) c cs h) (head_of (λ c. ParentFits version classes c.kind c.parent) c cs parents),
+      class_fits version classes natives servers c few some_natives (first_fits servers c.kind (some_server (is_server c) servers (count_by is_server cs)
+          (omega arith))) (head_of (ClassFits version classes natives) c cs h) (head_of (λ c. ParentFits version classes c.kind c.parent) c cs parents),
       classes_fit version classes natives (count_server servers c) cs few some_natives (rest_of (ClassFits version classes natives) c cs h)
           (rest_of (λ c. ParentFits version classes c.kind c.parent) c cs parents) (omega arith),
     )
@@ -392,7 +394,8 @@ image_fits i header cs ms families =
         grind (arith, version_fits, limited_pair_fits, classes, methods, limited_byte_fits, class_number_fits),
         (
           classes_fit v classes i.header.natives 0 i.classes cs.count header.natives cs.each families.parents (omega (arith, cs.servers)),
-          fit_all (method v classes methods) i.methods (λ k d lt. let m = slice_index_or i.methods k d in method_fits v classes methods m cs.count ms.count (ms.each k d lt) (families.overs k d lt)),
+          fit_all (method v classes methods) i.methods
+              (λ k d lt. let m = slice_index_or i.methods k d in method_fits v classes methods m cs.count ms.count (ms.each k d lt) (families.overs k d lt)),
         ),
       ),
       refl,

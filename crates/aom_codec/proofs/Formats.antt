@@ -73,11 +73,10 @@ version_laws : IsCodec version
 version_laws = of_seen _ _ pair (record { at = λ x y fits e. version_returns x y e }) of_pair
 
 opening_laws : IsCodec opening
-opening_laws = of_seen _ _ opening_fields
-    (record {
-      at = λ x y fits e.
-          ap (λ (o : Opening). (o.header.version, (o.classes, (o.methods, (o.header.cells, (o.header.messages, (o.header.natives, (o.header.root, o.header.budget)))))))) (sym (ok_is _ y e));
-    })
+opening_laws = of_seen _ _ opening_fields (record {
+  at = λ x y fits e.
+      ap (λ (o : Opening). (o.header.version, (o.classes, (o.methods, (o.header.cells, (o.header.messages, (o.header.natives, (o.header.root, o.header.budget)))))))) (sym (ok_is _ y e));
+})
     (of_after (fixed quad 0x414f494d BadMagic) _ tt (fixed_quad_laws _ _ (lit< tt))
     (of_next _ _ version_laws (λ _.
     of_next _ _ (limited_laws pair 0 256 of_pair) (λ classes.
@@ -109,13 +108,10 @@ pub between_is : (low high n : ℕ) → low ≤ n → n ≤ high → is_between 
 between_is low high n p q = ap (λ b. b && leb n high) (le-leb low n p) ∙ le-leb n high q
 
 provider_laws : (version : Version) (natives : ℕ) → IsCodec (provider version natives)
-provider_laws version natives = of_seen _ _ _
-    (record {
-      at = λ x y fits e.
-          ap (λ (p : Provider). (provider_sort p, native_number p)) (sym (ok_is _ y e))
-          ∙ provider_back natives x.0 x.1 (omega (arith, (between_true 0 (last_provider version) x.0 fits.0.1).1, few_providers version)) fits.1.1;
-    })
-    (of_next _ _ (of_checked _ _ _ of_byte) (λ sort. of_checked _ _ _ of_byte))
+provider_laws version natives = of_seen _ _ _ (record {
+  at = λ x y fits e. ap (λ (p : Provider). (provider_sort p, native_number p)) (sym (ok_is _ y e))
+      ∙ provider_back natives x.0 x.1 (omega (arith, (between_true 0 (last_provider version) x.0 fits.0.1).1, few_providers version)) fits.1.1;
+}) (of_next _ _ (of_checked _ _ _ of_byte) (λ sort. of_checked _ _ _ of_byte))
 
 no_session_laws : IsCodec no_session
 no_session_laws = fixed_pair_laws _ _ (lit< tt)
@@ -127,11 +123,11 @@ session_class_laws : (classes : ℕ) → IsCodec (session_class classes)
 session_class_laws classes = of_seen _ _ pair (record { at = λ x y fits e. (index_returns classes x y e).0 }) of_pair
 
 active_part_laws : (version : Version) (natives : ℕ) → IsCodec (active_part version natives)
-active_part_laws version natives = of_next _ _ (provider_laws version natives) (λ _. of_after (fixed byte 0 NotZero) _ tt (fixed_byte_laws _ _ (lit< tt)) no_session_laws)
+active_part_laws version natives =
+    of_next _ _ (provider_laws version natives) (λ _. of_after (fixed byte 0 NotZero) _ tt (fixed_byte_laws _ _ (lit< tt)) no_session_laws)
 
 server_part_laws : (classes : ℕ) → IsCodec (server_part classes)
-server_part_laws classes =
-    of_after (fixed byte 0 NotZero) _ tt (fixed_byte_laws _ _ (lit< tt))
+server_part_laws classes = of_after (fixed byte 0 NotZero) _ tt (fixed_byte_laws _ _ (lit< tt))
     (of_next _ _ (limited_laws byte 1 64 of_byte) (λ _. of_after (fixed byte 0 NotZero) _ tt (fixed_byte_laws _ _ (lit< tt)) (session_class_laws classes)))
 
 abbrev active_only : ClassKind → Provider × Unit {0}
@@ -190,16 +186,14 @@ many_length {S} {X} c add s n xs fits = by_each s n xs (fit_each c add s n xs fi
     by_each s _ _ (one_more {n = n} x xs here more) = omega (arith, by_each (add s x) n xs more)
 
 class_laws : (version : Version) (classes natives servers : ℕ) → IsCodec (class version classes natives servers)
-class_laws version classes natives servers = of_seen _ _ (class_parts version classes natives servers)
-    (record {
-      at = λ x y fits e.
-          let small : x.0 ≤ 3 = (between_true 0 3 x.0 fits.0.0.1).1 in
-          let sort_is = kind_of_byte version classes natives x.0 x.1.1.1.0 small fits.1.1.1.0 in
-          let count_is = many_length (always (thing classes)) keep tt x.1.1.0 x.1.1.1.1.0 fits.1.1.1.1.0 in
-          ap (λ (c : ClassDecl). (kind_byte c.kind, (c.words, (length c.fields, (c.kind, (c.fields, (c.budget, c.parent))))))) (sym (ok_is _ y e))
-          ∙ pair_is sort_is (pair_is refl (pair_is count_is refl));
-    })
-    (class_parts_laws version classes natives servers)
+class_laws version classes natives servers = of_seen _ _ (class_parts version classes natives servers) (record {
+  at = λ x y fits e.
+      let small : x.0 ≤ 3 = (between_true 0 3 x.0 fits.0.0.1).1 in
+      let sort_is = kind_of_byte version classes natives x.0 x.1.1.1.0 small fits.1.1.1.0 in
+      let count_is = many_length (always (thing classes)) keep tt x.1.1.0 x.1.1.1.1.0 fits.1.1.1.1.0 in
+      ap (λ (c : ClassDecl). (kind_byte c.kind, (c.words, (length c.fields, (c.kind, (c.fields, (c.budget, c.parent))))))) (sym (ok_is _ y e))
+      ∙ pair_is sort_is (pair_is refl (pair_is count_is refl));
+}) (class_parts_laws version classes natives servers)
 
 -- ---- instructions
 
@@ -219,22 +213,18 @@ found_passes p [] x e = absurd cc
 found_passes {X} p (y ∷ ys) x e = grind (arith, nat_tests, same_Some y x, found_passes p ys x)
 
 known_ok : (version : Version) (o : Option Mnemonic) (m : Mnemonic) → known version o ≡ Ok m → o ≡ Some m
-known_ok version o m e =
-    some_given (λ o. known version o ≡ Ok m) o e (λ f. cc) (λ k same f. same ∙ ap Some (guard_ok (is_in version k) BadOpcode k m f).1)
+known_ok version o m e = some_given (λ o. known version o ≡ Ok m) o e (λ f. cc) (λ k same f. same ∙ ap Some (guard_ok (is_in version k) BadOpcode k m f).1)
 
 opcode_laws : (version : Version) → IsCodec (opcode version)
 opcode_laws version = of_seen _ _ byte
-    (record { at = λ n m fits e. eqb-true _ _ (found_passes (λ k. eqb (row k).opcode n) mnemonics m (known_ok version (with_opcode n) m e)) })
-    of_byte
+    (record { at = λ n m fits e. eqb-true _ _ (found_passes (λ k. eqb (row k).opcode n) mnemonics m (known_ok version (with_opcode n) m e)) }) of_byte
 
 instruction_laws : (l : Limits) → IsCodec (instruction l)
-instruction_laws l = of_seen _ _ _
-    (record {
-      at = λ x y fits e.
-          let again = making_parts_again l x.0 x.1 (operands_in_range l (row x.0).kinds x.1 fits.1) in
-          ap (λ (i : Instr). (mnemonic i, operands i)) (sym (ok_is _ y e)) ∙ pair_is again.0 again.1;
-    })
-    (of_next _ _ (opcode_laws l.version) (λ m. operands_laws l (row m).kinds))
+instruction_laws l = of_seen _ _ _ (record {
+  at = λ x y fits e.
+      let again = making_parts_again l x.0 x.1 (operands_in_range l (row x.0).kinds x.1 fits.1) in
+      ap (λ (i : Instr). (mnemonic i, operands i)) (sym (ok_is _ y e)) ∙ pair_is again.0 again.1;
+}) (of_next _ _ (opcode_laws l.version) (λ m. operands_laws l (row m).kinds))
 
 -- ---- methods
 
@@ -284,15 +274,15 @@ image_parts_laws = of_next _ _ opening_laws (λ o. of_next _ _
     (of_many_from (class o.header.version o.classes o.header.natives) count_server (class_laws o.header.version o.classes o.header.natives) o.classes 0) (λ _.
     of_many o.methods (method o.header.version o.classes o.methods) (method_laws o.header.version o.classes o.methods)))
 
-opening_again : (o : Opening) (classes methods : ℕ) → classes ≡ o.classes → methods ≡ o.methods → record { classes = classes; methods = methods; header = o.header } ≡ o
+opening_again : (o : Opening) (classes methods : ℕ) → classes ≡ o.classes → methods ≡ o.methods →
+    record { classes = classes; methods = methods; header = o.header } ≡ o
 opening_again o classes methods p q = search (arith, nat_tests)
 
 pub image_laws : IsCodec image
-image_laws = of_seen _ _ image_parts
-    (record {
-      at = λ x y fits e.
-          let classes_is = many_length (class x.0.header.version x.0.classes x.0.header.natives) count_server 0 x.0.classes x.1.0 fits.1.0 in
-          let methods_is = many_length (always (method x.0.header.version x.0.classes x.0.methods)) keep tt x.0.methods x.1.1 fits.1.1 in
-          ap (λ (i : Image). (opening_of i, (i.classes, i.methods))) (sym (ok_is _ y e)) ∙ pair_is (opening_again x.0 (length x.1.0) (length x.1.1) classes_is methods_is) refl;
-    })
-    image_parts_laws
+image_laws = of_seen _ _ image_parts (record {
+  at = λ x y fits e.
+      let classes_is = many_length (class x.0.header.version x.0.classes x.0.header.natives) count_server 0 x.0.classes x.1.0 fits.1.0 in
+      let methods_is = many_length (always (method x.0.header.version x.0.classes x.0.methods)) keep tt x.0.methods x.1.1 fits.1.1 in
+      ap (λ (i : Image). (opening_of i, (i.classes, i.methods))) (sym (ok_is _ y e))
+      ∙ pair_is (opening_again x.0 (length x.1.0) (length x.1.1) classes_is methods_is) refl;
+}) image_parts_laws

@@ -33,7 +33,8 @@ read_takes bytes i fits e =
 pub read_again : SpellingReadsBack
 read_again i well =
     let fits = image_fits i well.header well.classes well.methods well.families in
-    let whole_is : whole (image.read (spell i)) ≡ Ok i = ap whole (ap image.read (sym (append-nil (image.spell i) ∙ image_spelled i)) ∙ image_laws.again i [] fits) in
+    let whole_is : whole (image.read (spell i)) ≡ Ok i =
+    ap whole (ap image.read (sym (append-nil (image.spell i) ∙ image_spelled i)) ∙ image_laws.again i [] fits) in
     let size = well.size in
     let long = length_spell i well.classes well.methods in
     ap (λ b. cond b (Err LimitPassed) (whole (image.read (spell i)))) (le-ltb 1048576 (length (spell i)) (omega arith)) ∙ whole_is

@@ -66,8 +66,7 @@ pub record IsCodec {X : Type 0} (c : Codec X) : Type 0 where
 
 byte_takes : (bytes : List ℕ) (x : ℕ × List ℕ) → IsBytes bytes → byte_at bytes ≡ Ok x → Takes bytes (x.0 ∷ []) x.1 × (x.0 < 256)
 byte_takes [] x fits e = absurd cc
-byte_takes (b ∷ rest) x fits e =
-    subst (λ (p : ℕ × List ℕ). Takes (b ∷ rest) (p.0 ∷ []) p.1 × (p.0 < 256)) (ok_is (b, rest) x e)
+byte_takes (b ∷ rest) x fits e = subst (λ (p : ℕ × List ℕ). Takes (b ∷ rest) (p.0 ∷ []) p.1 × (p.0 < 256)) (ok_is (b, rest) x e)
     (record { parts = refl; rest_fits = λ i. fits (suc i) }, fits 0)
 
 pub of_byte : IsCodec byte
@@ -90,7 +89,8 @@ wide32 = record {
   below = λ bytes fits. omega (arith, fits 0, fits 1, fits 2, fits 3);
 }
 
-number_takes : (w : Width) (wide : IsWide w) (bytes : List ℕ) (x : ℕ × List ℕ) → IsBytes bytes → number_at w bytes ≡ Ok x → Takes bytes (to_be_bytes w x.0) x.1 × (x.0 < 256 ^ byte_len w)
+number_takes : (w : Width) (wide : IsWide w) (bytes : List ℕ) (x : ℕ × List ℕ) → IsBytes bytes → number_at w bytes ≡ Ok x →
+    Takes bytes (to_be_bytes w x.0) x.1 × (x.0 < 256 ^ byte_len w)
 number_takes w wide bytes x fits e =
     let g = kept (ltb (length bytes) (byte_len w)) (Ok (from_be_bytes w (take (byte_len w) bytes), drop (byte_len w) bytes)) Truncated x e in
     let long : byte_len w ≤ length bytes = ltb-false _ _ g.0 in
@@ -172,8 +172,7 @@ of_after {B} a b ok first second = record {
       let t = first.takes bytes p.0 fits p.1 in
       let u = second.takes p.0.1 x t.0.rest_fits p.2 in
       (Takes-then bytes (a.spell tt) p.0.1 (b.spell x.0) x.1 t.0 u.0, u.1);
-  again = λ x rest fits.
-      ap (after a b).read (append_assoc (a.spell tt) (b.spell x) rest)
+  again = λ x rest fits. ap (after a b).read (append_assoc (a.spell tt) (b.spell x) rest)
       ∙ ap (λ r. r >>= λ y. b.read y.1) (first.again tt (b.spell x ++ rest) ok) ∙ second.again x rest fits;
 }
 
@@ -222,14 +221,14 @@ of_many_from {S} {X} c add laws (suc n) s = record {
       let t = (laws s).takes bytes p.0 fits p.1 in
       let u = (of_many_from c add laws n (add s p.0.0)).takes p.0.1 q.0 t.0.rest_fits q.1 in
       let both = Takes-then bytes ((c s).spell p.0.0) p.0.1 (spell_many c add (add s p.0.0) q.0.0) q.0.1 t.0 u.0 in
-      subst (λ (y : List X × List ℕ). Takes bytes (spell_many c add s y.0) y.1 × FitMany c add s (suc n) y.0) (ok_is (p.0.0 ∷ q.0.0, q.0.1) x q.2) (both, (t.1, u.1));
+      subst (λ (y : List X × List ℕ). Takes bytes (spell_many c add s y.0) y.1 × FitMany c add s (suc n) y.0)
+      (ok_is (p.0.0 ∷ q.0.0, q.0.1) x q.2) (both, (t.1, u.1));
   again = λ x rest fits. again (of_many_from c add laws n) x rest (fit_each c add s (suc n) x fits) fits;
 }
   where
     again : ((t : S) → IsCodec (many_from c add t n)) → (x : List X) (rest : List ℕ) → FitEach c add s (suc n) x → FitMany c add s (suc n) x
         → read_many c add s (suc n) (spell_many c add s x ++ rest) ≡ Ok (x, rest)
-    again rest_laws _ rest (one_more x xs here more) fits =
-        ap (read_many c add s (suc n)) (append_assoc ((c s).spell x) (spell_many c add (add s x) xs) rest)
+    again rest_laws _ rest (one_more x xs here more) fits = ap (read_many c add s (suc n)) (append_assoc ((c s).spell x) (spell_many c add (add s x) xs) rest)
         ∙ ap (λ r. r >>= λ y. read_many c add (add s y.0) n y.1 >>= λ z. Ok (y.0 ∷ z.0, z.1)) ((laws s).again x (spell_many c add (add s x) xs ++ rest) here)
         ∙ ap (λ r. r >>= λ z. Ok (x ∷ z.0, z.1)) ((rest_laws (add s x)).again xs rest fits.1)
 

@@ -19,7 +19,8 @@ rest_of P x xs h k d lt = h (suc k) d (omega arith)
 -- a sum of what is the same for each
 sum_by-same : {X : Type 0} (f g : X → ℕ) (xs : List X) → All (λ x. f x ≡ g x) xs → sum_by f xs ≡ sum_by g xs
 sum_by-same f g [] h = refl
-sum_by-same f g (x ∷ xs) h = omega (arith, sum_by-cons f x xs, sum_by-cons g x xs, head_of (λ x. f x ≡ g x) x xs h, sum_by-same f g xs (rest_of (λ x. f x ≡ g x) x xs h))
+sum_by-same f g (x ∷ xs) h =
+    omega (arith, sum_by-cons f x xs, sum_by-cons g x xs, head_of (λ x. f x ≡ g x) x xs h, sum_by-same f g xs (rest_of (λ x. f x ≡ g x) x xs h))
 
 sum_by-constant : {X : Type 0} (n : ℕ) (xs : List X) → sum_by (λ x. n) xs ≡ length xs * n
 sum_by-constant n [] = omega arith

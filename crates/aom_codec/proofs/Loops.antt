@@ -8,7 +8,8 @@ use Rattle.aom_codec.specs.Codec.{Codec, ◌>>=◌, fixed, unused, read_many}
 abbrev pub with_front : {X : Type 0} → List X → Result (List X × List ℕ) LoadFault → Result (List X × List ℕ) LoadFault
 with_front front read = read >>= λ x. Ok (front ++ x.0, x.1)
 
-regroup : {X : Type 0} (front : List X) (n : X) (read : Result (List X × List ℕ) LoadFault) → with_front front (read >>= λ x. Ok (n ∷ x.0, x.1)) ≡ with_front (front ++ n ∷ []) read
+regroup : {X : Type 0} (front : List X) (n : X) (read : Result (List X × List ℕ) LoadFault) →
+    with_front front (read >>= λ x. Ok (n ∷ x.0, x.1)) ≡ with_front (front ++ n ∷ []) read
 regroup front n (Ok x) = ap (λ ns. Ok (ns, x.1)) (sym (append_assoc front (n ∷ []) x.0))
 regroup front n (Err f) = refl
 
@@ -16,7 +17,8 @@ regroup front n (Err f) = refl
 abbrev pub StillReads : {S X : Type 0} → (S → Codec X) → (S → X → S) → S → List X → ℕ → List ℕ → Result (List X × List ℕ) LoadFault → Type 0
 StillReads c add s front left bytes total = with_front front (read_many c add s left bytes) ≡ total
 
-pub begins : {S X : Type 0} (c : S → Codec X) (add : S → X → S) (s : S) (count : ℕ) (bytes : List ℕ) → StillReads c add s [] (count - 0) bytes (read_many c add s count bytes)
+pub begins : {S X : Type 0} (c : S → Codec X) (add : S → X → S) (s : S) (count : ℕ) (bytes : List ℕ) →
+    StillReads c add s [] (count - 0) bytes (read_many c add s count bytes)
 begins c add s count bytes = grind (arith, nat_tests)
 
 module _ {S X : Type 0} (c : S → Codec X) (add : S → X → S) (s : S) (front : List X) (count i : ℕ) (bytes : List ℕ) (total : Result (List X × List ℕ) LoadFault)

@@ -6,7 +6,8 @@ use Rattle.std.proofs.lemmas.Grind.{flat_map-append}
 
 module _ {X : Type 0} (f : X → List ℕ) (front : List ℕ) (xs : List X) (i : ℕ) where
   -- one element more
-  pub one_more : (x : X) {text new : List ℕ} → i < length xs → x ≡ slice_index_or xs i x → text ≡ front ++ flat_map f (take i xs) → new ≡ text ++ f x → new ≡ front ++ flat_map f (take (i + 1) xs)
+  pub one_more : (x : X) {text new : List ℕ} → i < length xs → x ≡ slice_index_or xs i x → text ≡ front ++ flat_map f (take i xs) → new ≡ text ++ f x →
+      new ≡ front ++ flat_map f (take (i + 1) xs)
   one_more x lt is before adds = let more = ap (flat_map f) (take_more xs i x lt ∙ ap (λ y. take i xs ++ y ∷ []) (sym is))
       ∙ flat_map-append f (take i xs) (x ∷ []) ∙ ap (λ t. flat_map f (take i xs) ++ t) (append-nil (f x)) in
       adds ∙ ap (λ t. t ++ f x) before ∙ append_assoc front (flat_map f (take i xs)) (f x) ∙ ap (λ t. front ++ t) (sym more)

@@ -40,7 +40,8 @@ reads_digits gives parses word numeral most None read = absurd (parses word (Err
 -- a number in decimal is read as itself
 pub reads : {E : Type 0} (gives : List ℕ → Result ℕ E → Type 0) → ((bs : List ℕ) (r : Result ℕ E) → gives bs r → ParsesUnsigned 32 10 bs r)
     → (n : ℕ) → n < 2 ^ 32 → (o : Option ℕ) → ReadsOne gives (decimal n) o → o ≡ Some n
-reads {E} gives parses n most (Some v) read = same {E = E} v n (Ok v) refl (parse-decimal 32 n (decimal n) (Ok v) (omega arith) (omega (arith, most)) refl (parses (decimal n) (Ok v) read))
+reads {E} gives parses n most (Some v) read =
+    same {E = E} v n (Ok v) refl (parse-decimal 32 n (decimal n) (Ok v) (omega arith) (omega (arith, most)) refl (parses (decimal n) (Ok v) read))
 reads {E} gives parses n most None read = absurd (no_error {E = E} read.0 n
     (Err read.0) refl (parse-decimal 32 n (decimal n) (Err read.0) (omega arith) (omega (arith, most)) refl (parses (decimal n) (Err read.0) read.1)))
 
@@ -102,12 +103,13 @@ unlined rows explain asm lines is none = record { set = is; textual = λ some. a
     both f a b = cc
 
 -- lines that are asked for where there is a text, and nothing is explained
-pub lines_textual : {A E : Type 0} (rows : List Row) (explain asm lines : Bool) (fits : Result A E) → IsFlag (one_of (codes "lines") rows) lines → explain ≡ false
-    → IfOk fits (λ _. (asm ≡ true) ⊎ (first_of (codes "text") rows ≢ None)) → IfOk fits (λ _. AsksLines rows explain asm lines)
+pub lines_textual : {A E : Type 0} (rows : List Row) (explain asm lines : Bool) (fits : Result A E) → IsFlag (one_of (codes "lines") rows) lines →
+    explain ≡ false → IfOk fits (λ _. (asm ≡ true) ⊎ (first_of (codes "text") rows ≢ None)) → IfOk fits (λ _. AsksLines rows explain asm lines)
 lines_textual rows explain asm lines (Ok unit) is alone textual = record { set = is; textual = λ some. textual; alone = λ some. alone }
 lines_textual rows explain asm lines (Err e) is alone textual = tt
 
-pub lines_lack : {A : Type 0} (rows : List Row) (fits : Result A WordsFault) → IfErr fits (λ fault. DeclinesTextless (codes "lines") rows fault) → IfErr fits (λ fault. DeclinesLines rows fault)
+pub lines_lack : {A : Type 0} (rows : List Row) (fits : Result A WordsFault) → IfErr fits (λ fault. DeclinesTextless (codes "lines") rows fault) →
+    IfErr fits (λ fault. DeclinesLines rows fault)
 lines_lack rows (Ok unit) lacks = tt
 lines_lack rows (Err (faults.Text text)) lacks = inr lacks
 lines_lack rows (Err faults.Native) lacks = lacks
@@ -132,27 +134,31 @@ declines taken met (faults.Text text) d = λ is command. d refl command
 declines taken met faults.Native d = d
 declines taken met faults.Memory d = d
 
-pub says : (taken : Bool) (met : Option (Text × List Row)) (kind : ErrorKind) (fault : WordsFault) → Says kind fault → (taken ≡ true → kind ≡ OutOfMemory) → Declines taken met fault
+pub says : (taken : Bool) (met : Option (Text × List Row)) (kind : ErrorKind) (fault : WordsFault) → Says kind fault → (taken ≡ true → kind ≡ OutOfMemory) →
+    Declines taken met fault
 says taken met kind x s passes = grind arith
 
 -- ---- the words of natives
 
 -- one word more names one kind more
-pub one_more_kind : (words : List (Bor Text)) (i : ℕ) (d : Bor Text) (kinds more : List NativeKind) (kind : NativeKind) → i < length words → take i (texts_in words) ≡ map word_of_kind kinds
-    → (slice_index_or words i d).now ≡ word_of_kind kind → more ≡ kinds ++ kind ∷ [] → take (i + 1) (texts_in words) ≡ map word_of_kind more
+pub one_more_kind : (words : List (Bor Text)) (i : ℕ) (d : Bor Text) (kinds more : List NativeKind) (kind : NativeKind) →
+    i < length words → take i (texts_in words) ≡ map word_of_kind kinds → (slice_index_or words i d).now ≡ word_of_kind kind → more ≡ kinds ++ kind ∷ [] →
+    take (i + 1) (texts_in words) ≡ map word_of_kind more
 one_more_kind words i d kinds more kind within same is grown =
     let now : Bor Text → Text = λ w. w.now in
     take-map now (i + 1) words ∙ map_more now words i d within ∙ ap₂ (λ xs t. xs ++ t ∷ []) (sym (take-map now i words) ∙ same) is
     ∙ sym (map-append word_of_kind kinds (kind ∷ [])) ∙ ap (map word_of_kind) (sym grown)
 
 -- one of the words is of no native
-pub no_kind : (words : List (Bor Text)) (i : ℕ) (d : Bor Text) → i < length words → ((kind : NativeKind) → (slice_index_or words i d).now ≢ word_of_kind kind) → NamesNoKinds (Some (texts_in words))
+pub no_kind : (words : List (Bor Text)) (i : ℕ) (d : Bor Text) → i < length words → ((kind : NativeKind) → (slice_index_or words i d).now ≢ word_of_kind kind) →
+    NamesNoKinds (Some (texts_in words))
 no_kind words i d within none =
     let now : Bor Text → Text = λ w. w.now in
     inr ((slice_index_or words i d).now, subst (Contains (texts_in words)) (get_or-map now words i d d.now within) (Contains-get_or (texts_in words) i d.now (rw (length-map words now) within)), none)
 
 -- the words that are found for natives
-pub found_words : (f : Found) (id : Text) (words : List (Bor Text)) → Some (texts_in words) ≡ option_map raw_values (matched_of f id) → Some (texts_in words) ≡ all_of id (rows_of f)
+pub found_words : (f : Found) (id : Text) (words : List (Bor Text)) → Some (texts_in words) ≡ option_map raw_values (matched_of f id) →
+    Some (texts_in words) ≡ all_of id (rows_of f)
 found_words f id words found = found ∙ raw_values-rows f id
 
 pub no_words : (f : Found) (id : Text) → None ≡ option_map raw_values (matched_of f id) → None ≡ all_of id (rows_of f)

@@ -13,7 +13,8 @@ ruled added same rule = added ∙ ap₂ with_rule same rule
 -- a command with its first argument
 pub first : {E : Type 0} {bare : Command} (arg : Arg) (form : App) (rule : Rule) (made : Result Command E) →
     IfOk made (λ c. AddsArg bare arg c) → HasForm form bare → rule_of arg ≡ rule → arg.global ≡ false → IfOk made (λ c. HasForm (with_rule form rule) c)
-first arg form rule made adds bare is own = IfOk-weaker made _ _ (λ c added. record { shape = ruled (added.shape own) bare.shape is; own = as_before _ _ _ added.globals own ∙ bare.own }) adds
+first arg form rule made adds bare is own =
+    IfOk-weaker made _ _ (λ c added. record { shape = ruled (added.shape own) bare.shape is; own = as_before _ _ _ added.globals own ∙ bare.own }) adds
 
 -- a command with one argument more, where it was made
 pub next : {E : Type 0} (arg : Arg) (form : App) (rule : Rule) (made more : Result Command E) → IfOk more (λ c. IsOkAnd made (λ m. AddsArg m arg c)) →

@@ -13,5 +13,7 @@ use Rattle.aom_commands.specs.Headline.{Accepts}
 pub acceptable_of : {p : Image} → IsLinked p → (t : Typing) × IsTyped p t → BudgetsWithin p → DepthsWithin p → HeightsWithin p → IsAcceptable p
 acceptable_of linked typed budgets depths heights = search (arith, nat_tests)
 
-pub accepts_of : (bytes : List ℕ) (p : Image) → IsSpelled bytes p → IsLinked p → (t : Typing) × IsTyped p t → BudgetsWithin p → DepthsWithin p → HeightsWithin p → Accepts bytes
-accepts_of bytes p spelled linked typed budgets depths heights = record { image = p; spelled = spelled; acceptable = acceptable_of linked typed budgets depths heights }
+pub accepts_of : (bytes : List ℕ) (p : Image) → IsSpelled bytes p → IsLinked p → (t : Typing) × IsTyped p t → BudgetsWithin p → DepthsWithin p →
+    HeightsWithin p → Accepts bytes
+accepts_of bytes p spelled linked typed budgets depths heights =
+    record { image = p; spelled = spelled; acceptable = acceptable_of linked typed budgets depths heights }

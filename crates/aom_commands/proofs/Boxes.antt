@@ -28,7 +28,8 @@ module _ {B : Type 0} (stance : B → Stance) where
   as_many [] (b ∷ bs) new = absurd new
   as_many (k ∷ ks) [] new = absurd new
 
-  one_behind : (kinds : List NativeKind) (boxes : List B) (k : NativeKind) (b : B) → AreNew stance kinds boxes → StandsAs (stance b) (new_of k) → AreNew stance (kinds ++ k ∷ []) (boxes ++ b ∷ [])
+  one_behind : (kinds : List NativeKind) (boxes : List B) (k : NativeKind) (b : B) → AreNew stance kinds boxes → StandsAs (stance b) (new_of k) →
+      AreNew stance (kinds ++ k ∷ []) (boxes ++ b ∷ [])
   one_behind [] [] k b new stands = (stands, tt)
   one_behind (x ∷ ks) (y ∷ bs) k b new stands = (new.0, one_behind ks bs k b new.1 stands)
   one_behind [] (y ∷ bs) k b new stands = absurd new

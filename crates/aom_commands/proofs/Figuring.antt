@@ -36,7 +36,8 @@ shown names bytes text (Some fault) out errors status written (inr fails) =
 -- ---- what was told
 
 -- why bytes have no figures
-pub no_figures : (bytes : List ℕ) (fault : Fault) (out errors : Sent) → IsEarly fault → (refused : IsRefused bytes out errors) → refused.fault ≡ fault → IsUnpriced bytes out errors
+pub no_figures : (bytes : List ℕ) (fault : Fault) (out errors : Sent) → IsEarly fault → (refused : IsRefused bytes out errors) → refused.fault ≡ fault →
+    IsUnpriced bytes out errors
 no_figures bytes fault out errors early refused is = record { refused = refused; early = subst IsEarly (sym is) early }
 
 pub unpriced : (names : Names) (bytes : List ℕ) (fault : Fault) (out errors : Sent) (status : ExitStatus) →
@@ -47,11 +48,13 @@ unpriced names bytes fault out errors status stops silent told = turned (PricesA
 -- ---- a checked image
 
 -- a text of its figures tells them
-pub told_so : (names : Names) (p linked : Image) (figures : Figures) (text : List ℕ) → AreFigures p figures → text ≡ figures_text names linked figures → linked ≡ p → AreTold names p text
+pub told_so : (names : Names) (p linked : Image) (figures : Figures) (text : List ℕ) → AreFigures p figures → text ≡ figures_text names linked figures →
+    linked ≡ p → AreTold names p text
 told_so names p linked figures text are told same = search (arith, nat_tests)
 
 -- it keeps within its budgets and its limits
-pub within : (names : Names) (bytes text : List ℕ) → (r : IsFigured names bytes text) → BudgetsWithin r.image → HasDepths r.image → HasHeights r.image → IsWithin names bytes text
+pub within : (names : Names) (bytes text : List ℕ) → (r : IsFigured names bytes text) → BudgetsWithin r.image → HasDepths r.image → HasHeights r.image →
+    IsWithin names bytes text
 within names bytes text r budgets depths heights = record {
   figured = r;
   acceptable = record { linked = r.linked; typing = r.typing; typed = r.typed; budgets = budgets; depths = all_within r.image depths; heights = all_high r.image heights };

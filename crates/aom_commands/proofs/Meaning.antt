@@ -21,7 +21,8 @@ pub means_nothing : (text : List ℕ) (fault : AsmFault) → denoted text ≡ Er
 means_nothing text fault is = record { meaningless = λ i d. no_ok fault i (sym is ∙ denotes_read text i d); first = is }
 
 -- a fault is the text's first, unless it is that memory was wanting
-no_image_of : (text : List ℕ) (fault : AsmFault) (kind : AsmFaultKind) → (kind ≢ kinds.OutOfMemory → denoted text ≡ Err fault) → RefusesText text (of_asm_kind fault kind)
+no_image_of : (text : List ℕ) (fault : AsmFault) (kind : AsmFaultKind) → (kind ≢ kinds.OutOfMemory → denoted text ≡ Err fault) →
+    RefusesText text (of_asm_kind fault kind)
 no_image_of text fault kind is = grind (arith, nat_tests, means_nothing text fault)
 
 pub no_image : (text : List ℕ) (fault : AsmFault) → (fault.kind ≢ kinds.OutOfMemory → denoted text ≡ Err fault) → RefusesText text (of_asm fault)

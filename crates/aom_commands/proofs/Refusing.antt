@@ -51,7 +51,8 @@ unfolding RefusesOrWantsLink
 link_refused bytes p fault spelled refused = grind arith
 
 -- and so is one of the typing
-typing_refused : (bytes : List ℕ) (p : Image) (refusal : Refusal) → IsSpelled bytes p → IsLinked p → RefusesOrWantsTyping p refusal → RefusesOrWants bytes (of_refusal refusal)
+typing_refused : (bytes : List ℕ) (p : Image) (refusal : Refusal) → IsSpelled bytes p → IsLinked p → RefusesOrWantsTyping p refusal →
+    RefusesOrWants bytes (of_refusal refusal)
 typing_refused bytes p x spelled linked refused = grind arith
 
 -- ---- faults before budgets
@@ -60,7 +61,8 @@ pub load_stops : (bytes : List ℕ) (fault : LoadFault) → (fault ≢ loads.Out
     ((p : Image) → IsSpelled bytes p → fault ≡ loads.OutOfMemory) → StopsEarly bytes (of_load fault)
 load_stops bytes fault is only = search (arith, nat_tests, load_refused bytes fault is, load_early fault)
 
-pub link_stops : (bytes : List ℕ) (p : Image) (fault : LinkFault) → IsSpelled bytes p → ((q : Image) → IsSpelled bytes q → p ≡ q) → RefusesOrWantsLink p fault → StopsEarly bytes (of_link fault)
+pub link_stops : (bytes : List ℕ) (p : Image) (fault : LinkFault) → IsSpelled bytes p → ((q : Image) → IsSpelled bytes q → p ≡ q) → RefusesOrWantsLink p fault →
+    StopsEarly bytes (of_link fault)
 link_stops bytes p fault spelled only refused =
     search (arith, nat_tests, link_refused bytes p fault spelled refused, link_early fault, linked_memory p fault refused)
 

@@ -8,7 +8,8 @@ use Rattle.aom_commands.specs.declared.faults.Fault.TheVariants as faults
 use Rattle.aom_commands.specs.Headline.{Sent, Sends, Says, IsSilent, Tells, Told, Accepts, CheckAnswers, WriteFails, Writes, accepted_text}
 
 -- the output failed, and that is told
-pub cut : (text : List ℕ) (out errors : Sent) (status : ExitStatus) → out.failed ≡ true → Says text out → Told faults.Write status errors → Sends text status out errors
+pub cut : (text : List ℕ) (out errors : Sent) (status : ExitStatus) → out.failed ≡ true → Says text out → Told faults.Write status errors →
+    Sends text status out errors
 cut text out errors status failed says told = inr (told.0, failed, says, told.1)
 
 -- it went out whole, or the output failed; so it is with one that was due
@@ -18,9 +19,11 @@ module _ (answers : ExitStatus → Type 0) (text : List ℕ) (out errors : Sent)
   sent (inl all) done fails = subst answers (sym all.0) (done all.1 all.2)
   sent (inr part) done fails = subst answers (sym part.0) (fails part.1 part.2 part.3)
 
-  pub due_sent : (Due : List ℕ → Type 0) → Due text → Sends text status out errors → (Writes Due out errors → answers Done) → (WriteFails Due out errors → answers Faulty) → answers status
+  pub due_sent : (Due : List ℕ → Type 0) → Due text → Sends text status out errors → (Writes Due out errors → answers Done) →
+      (WriteFails Due out errors → answers Faulty) → answers status
   due_sent Due due sends done fails = sent sends (λ out silent. done (text, due, out, silent))
       (λ failed says tells. fails (record { text = text; due = due; failed = failed; says = says; tells = tells }))
 
-pub checked : (bytes : List ℕ) (out errors : Sent) (status : ExitStatus) → Accepts bytes → Sends accepted_text status out errors → CheckAnswers bytes out errors status
+pub checked : (bytes : List ℕ) (out errors : Sent) (status : ExitStatus) → Accepts bytes → Sends accepted_text status out errors →
+    CheckAnswers bytes out errors status
 checked bytes out errors status accepts sends = search (arith, nat_tests, sent (CheckAnswers bytes out errors))

@@ -49,26 +49,25 @@ use Rattle.aom_commands.specs.Headline.RunBreaks.{machine_wants_memory, output_f
 -- what the laws of runs say of an accepted image
 pub all_run_well : (p : Image) → IsLinked p → (t : Typing) × IsStrongest p t × (c : Prices) × IsAffordable p t c × CostsWithin p c →
     TypedRunsWell → StepsWithin → LinkedIsWired → TextIsDetermined → AllRunWell p
-all_run_well p linked table law steps wired determined =
-    record {
-      each = λ bytes spelled outside. law.each p table.0 outside spelled.formed linked table.1.typed;
-      within = λ bytes spelled outside. steps.each p table.0 table.2 outside spelled.formed linked table.1.typed table.3 (affords p table.2 table.4);
-      one = λ bytes spelled outside. determined p table.0 outside (wired p spelled.formed linked) table.1.typed;
-    }
+all_run_well p linked table law steps wired determined = record {
+  each = λ bytes spelled outside. law.each p table.0 outside spelled.formed linked table.1.typed;
+  within = λ bytes spelled outside. steps.each p table.0 table.2 outside spelled.formed linked table.1.typed table.3 (affords p table.2 table.4);
+  one = λ bytes spelled outside. determined p table.0 outside (wired p spelled.formed linked) table.1.typed;
+}
 
 -- a run of a linked image that has a typing
-abbrev runs_of : (bytes text : List ℕ) (limit natives : ℕ) (p : Image) (script : Script) → IsAcceptable p → AllRunWell p → IsSpelled bytes p → denoted text ≡ Ok script → Runs bytes text limit natives
-runs_of bytes text limit natives p script acceptable well spelled denotes =
-    record {
-      image = p;
-      spelled = spelled;
-      acceptable = acceptable;
-      script = script;
-      denotes = denotes;
-      well = well.each bytes spelled (outside_of script limit natives);
-      within = well.within bytes spelled (outside_of script limit natives);
-      determined = well.one bytes spelled (outside_of script limit natives);
-    }
+abbrev runs_of : (bytes text : List ℕ) (limit natives : ℕ) (p : Image) (script : Script) → IsAcceptable p → AllRunWell p → IsSpelled bytes p →
+    denoted text ≡ Ok script → Runs bytes text limit natives
+runs_of bytes text limit natives p script acceptable well spelled denotes = record {
+  image = p;
+  spelled = spelled;
+  acceptable = acceptable;
+  script = script;
+  denotes = denotes;
+  well = well.each bytes spelled (outside_of script limit natives);
+  within = well.within bytes spelled (outside_of script limit natives);
+  determined = well.one bytes spelled (outside_of script limit natives);
+}
 
 -- natives of which nothing is heard
 silence : Oracle
@@ -81,7 +80,8 @@ module _ (reads : Line → List ℕ) (bytes text : List ℕ) (limit natives : �
   -- of an image that names no native nothing is heard, whatever natives there are
   unheard : r.image.header.natives ≡ 0 → (lines : List Line) (s : State) (reached : Reaches r.image around (boot_state r.image) lines s) → Follows silence reached
   unfolding silence
-  unheard none lines s reached = nothing_is_heard.idle r.image around (nothing_is_heard.unnamed r.image r.spelled.formed none) silence (λ n. refl) (boot_state r.image) lines s reached
+  unheard none lines s reached =
+      nothing_is_heard.idle r.image around (nothing_is_heard.unnamed r.image r.spelled.formed none) silence (λ n. refl) (boot_state r.image) lines s reached
 
   -- two runs that hear the same end alike
   ends_as : (oracle : Oracle) (ending : Ending) (out : Sent)
@@ -110,7 +110,8 @@ module _ (reads : Line → List ℕ) (bytes text : List ℕ) (limit natives : �
   ran : (out errors : Sent) (outcome : Outcome) (status : ExitStatus) → HasNatives r.image natives →
       Shows reads r.image around outcome out → Ends outcome status errors → AcceptedAnswers reads bytes text limit natives out errors status
   ran out errors Stopped status enough shows ends = grind (arith, nat_tests, so)
-  ran out errors WriteFault status enough shows ends = subst (AcceptedAnswers reads bytes text limit natives out errors) (sym ends.0) (output_fails r enough shows ends.1)
+  ran out errors WriteFault status enough shows ends =
+      subst (AcceptedAnswers reads bytes text limit natives out errors) (sym ends.0) (output_fails r enough shows ends.1)
   ran out errors _ status enough shows ends = subst (AcceptedAnswers reads bytes text limit natives out errors) (sym ends.0) (_, tt, so _ out enough shows, ends.1)
 
 -- what a run of a machine sends is what its outcome shows
@@ -130,12 +131,14 @@ module _ (reads : Line → List ℕ) (bytes text : List ℕ) (limit natives : �
   ran_of outcome status enough shows ends = ran reads bytes text limit natives of_it out errors outcome status enough shows ends
 
   -- its machine did not boot, and that is told
-  unbooted : (fault : Fault) (status : ExitStatus) → RefusesBoot p natives fault → IsSilent out → Told fault status errors → AcceptedAnswers reads bytes text limit natives out errors status
+  unbooted : (fault : Fault) (status : ExitStatus) → RefusesBoot p natives fault → IsSilent out → Told fault status errors →
+      AcceptedAnswers reads bytes text limit natives out errors status
   unbooted (faults.Boot boots.TooFewNatives) status few silent told =
       let accepts : Accepts bytes = record { image = p; spelled = spelled; acceptable = acceptable } in
       subst (AcceptedAnswers reads bytes text limit natives out errors)
       (sym told.0) (inr (record { silent = silent; accepts = accepts; script = script; denotes = denotes; few = few; tells = told.1 }))
-  unbooted faults.Memory status enough silent told = subst (AcceptedAnswers reads bytes text limit natives out errors) (sym told.0) (machine_wants_memory silent of_it enough told.1)
+  unbooted faults.Memory status enough silent told =
+      subst (AcceptedAnswers reads bytes text limit natives out errors) (sym told.0) (machine_wants_memory silent of_it enough told.1)
   unbooted _ status refused silent told = absurd refused
 
   -- a run that may not have been made
@@ -199,9 +202,11 @@ module _ (bytes text : List ℕ) (limit natives : ℕ) (p : Image) (script : Scr
   -- the output failed
   pub cut_off : (status : ExitStatus) → HasNatives p natives → Explored p script limit natives tries out →
       out.failed ≡ true → Told faults.Write status errors → AcceptedExplores bytes text limit natives tries out errors status
-  cut_off status enough explored failed told = subst (AcceptedExplores bytes text limit natives tries out errors) (sym told.0) (fails of_them enough explored failed told.1)
+  cut_off status enough explored failed told =
+      subst (AcceptedExplores bytes text limit natives tries out errors) (sym told.0) (fails of_them enough explored failed told.1)
 
-  pub explored : HasNatives p natives → Explored p script limit natives tries out → out.failed ≡ false → IsSilent errors → AcceptedExplores bytes text limit natives tries out errors statuses.Done
+  pub explored : HasNatives p natives → Explored p script limit natives tries out → out.failed ≡ false → IsSilent errors →
+      AcceptedExplores bytes text limit natives tries out errors statuses.Done
   explored enough all lives silent = (of_them, enough, all, lives, silent)
 
 pub untried : (bytes text : List ℕ) (limit natives : ℕ) (tries : Tries) (fault : ScriptFault) (line : Fault) (out errors : Sent) (status : ExitStatus) →
@@ -219,22 +224,25 @@ explores bytes text limit natives tries out errors _ a = a
 -- ---- bytes that are no accepted image
 
 -- what is told of them is want of memory or why they are none
-no_image : (bytes : List ℕ) (fault : Fault) → RefusesImage bytes fault → (fault ≡ faults.Memory) ⊎ (Refuses bytes fault × (status_of fault ≡ statuses.ImageRefused) × (fault ≡ faults.Memory → ⊥))
+no_image : (bytes : List ℕ) (fault : Fault) → RefusesImage bytes fault →
+    (fault ≡ faults.Memory) ⊎ (Refuses bytes fault × (status_of fault ≡ statuses.ImageRefused) × (fault ≡ faults.Memory → ⊥))
 no_image bytes fault refuses = grind arith
 
 -- so each status answers which is one of a refused image and of want of memory
-pub turned : (answers : ExitStatus → Type 0) (bytes : List ℕ) (fault : Fault) (out errors : Sent) (status : ExitStatus) → RefusesImage bytes fault
-    → ((p : Image) → IsSpelled bytes p → IsAcceptable p → fault ≡ faults.Memory) → IsSilent out → Told fault status errors
-    → ((refused : IsRefused bytes out errors) → refused.fault ≡ fault → answers statuses.ImageRefused) → (ImageWantsMemory out errors → answers statuses.Fault) → answers status
+pub turned : (answers : ExitStatus → Type 0) (bytes : List ℕ) (fault : Fault) (out errors : Sent) (status : ExitStatus) → RefusesImage bytes fault →
+    ((p : Image) → IsSpelled bytes p → IsAcceptable p → fault ≡ faults.Memory) → IsSilent out → Told fault status errors → ((refused : IsRefused bytes out
+    errors) → refused.fault ≡ fault → answers statuses.ImageRefused) → (ImageWantsMemory out errors → answers statuses.Fault) → answers status
 turned answers bytes fault out errors status refuses complete silent told refused wants = go (no_image bytes fault refuses)
   where
     go : (fault ≡ faults.Memory) ⊎ (Refuses bytes fault × (status_of fault ≡ statuses.ImageRefused) × (fault ≡ faults.Memory → ⊥)) → answers status
-    go (inl memory) = let is : Told faults.Memory status errors = subst (λ f. Told f status errors) memory told in subst answers (sym is.0) (wants (record { silent = silent; tells = is.1 }))
+    go (inl memory) = let is : Told faults.Memory status errors = subst (λ f. Told f status errors) memory told in
+        subst answers (sym is.0) (wants (record { silent = silent; tells = is.1 }))
     go (inr (why, is, other)) = subst answers (sym (told.0 ∙ is))
         (refused (record { silent = silent; fault = fault; refuses = why; none = λ p spelled acceptable. other (complete p spelled acceptable); status = is; tells = told.1 }) refl)
 
-pub unaccepted : (reads : Line → List ℕ) (bytes text : List ℕ) (limit natives : ℕ) (fault : Fault) (out errors : Sent) (status : ExitStatus) → RefusesImage bytes fault
-    → ((p : Image) → IsSpelled bytes p → IsAcceptable p → fault ≡ faults.Memory) → IsSilent out → Told fault status errors → RunAnswersBy reads bytes text limit natives out errors status
+pub unaccepted : (reads : Line → List ℕ) (bytes text : List ℕ) (limit natives : ℕ) (fault : Fault) (out errors : Sent) (status : ExitStatus) →
+    RefusesImage bytes fault → ((p : Image) → IsSpelled bytes p → IsAcceptable p → fault ≡ faults.Memory) → IsSilent out → Told fault status errors →
+    RunAnswersBy reads bytes text limit natives out errors status
 unaccepted reads bytes text limit natives fault out errors status refuses complete silent told = grind arith
 
 pub unchecked : (bytes : List ℕ) (fault : Fault) (out errors : Sent) (status : ExitStatus) → RefusesImage bytes fault →

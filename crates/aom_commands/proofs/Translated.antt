@@ -19,15 +19,18 @@ use Rattle.aom_commands.proofs.Figuring.{no_figures}
 use Rattle.aom_commands.proofs.Sending.{due_sent}
 use Rattle.aom_commands.proofs.Telling.{turned}
 
-pub translated : (to : Translation) (file text : List ℕ) (out errors : Sent) (status : ExitStatus) → IsTranslation to file text → Sends text status out errors → Translates to file out errors status
+pub translated : (to : Translation) (file text : List ℕ) (out errors : Sent) (status : ExitStatus) → IsTranslation to file text → Sends text status out errors →
+    Translates to file out errors status
 translated to file text out errors status is sends = grind (arith, nat_tests, due_sent)
 
 -- a text that denotes no image, or want of memory
-unassembled : (text : List ℕ) (fault : Fault) (out errors : Sent) (status : ExitStatus) → RefusesText text fault → IsSilent out → Told fault status errors → Translates Asm text out errors status
+unassembled : (text : List ℕ) (fault : Fault) (out errors : Sent) (status : ExitStatus) → RefusesText text fault → IsSilent out → Told fault status errors →
+    Translates Asm text out errors status
 unassembled text fault out errors status refuses silent told = grind arith
 
 -- bytes that are no image, or want of memory
-unlisted : (bytes : List ℕ) (fault : Fault) (out errors : Sent) (status : ExitStatus) → RefusesBytes bytes fault → IsSilent out → Told fault status errors → Translates Dis bytes out errors status
+unlisted : (bytes : List ℕ) (fault : Fault) (out errors : Sent) (status : ExitStatus) → RefusesBytes bytes fault → IsSilent out → Told fault status errors →
+    Translates Dis bytes out errors status
 unlisted bytes fault out errors status refuses silent told = grind arith
 
 -- so the first fault is told
@@ -39,12 +42,14 @@ untranslated Dot bytes fault out errors status stops silent told = turned
     (Translates Dot bytes out errors) bytes fault out errors status stops.refuses stops.complete silent told (no_figures bytes fault out errors stops.early) inl
 
 -- the graph of the image that the bytes are
-pub drawn_of : (names : Names) (bytes text : List ℕ) (p : Image) (t : Typing) → IsSpelled bytes p → IsLinked p → IsTyped p t → IsGraph names p text → IsDrawnBy names bytes text
+pub drawn_of : (names : Names) (bytes text : List ℕ) (p : Image) (t : Typing) → IsSpelled bytes p → IsLinked p → IsTyped p t → IsGraph names p text →
+    IsDrawnBy names bytes text
 drawn_of names bytes text p t spelled linked typed graph = record { image = p; spelled = spelled; linked = linked; typing = t; typed = typed; graph = graph }
 
 -- ---- a graph by names
 
-pub drawn_by : (names : Names) (bytes text : List ℕ) (out errors : Sent) (status : ExitStatus) → IsDrawnBy names bytes text → Sends text status out errors → DrawsBy names bytes out errors status
+pub drawn_by : (names : Names) (bytes text : List ℕ) (out errors : Sent) (status : ExitStatus) → IsDrawnBy names bytes text → Sends text status out errors →
+    DrawsBy names bytes out errors status
 drawn_by names bytes text out errors status is sends = grind (arith, nat_tests, due_sent)
 
 pub undrawn : (names : Names) (bytes : List ℕ) (fault : Fault) (out errors : Sent) (status : ExitStatus) →

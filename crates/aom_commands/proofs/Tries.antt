@@ -76,9 +76,9 @@ module _ (p : Image) (script : Script) (limit natives : ℕ) (injections : List 
   counts_one tally x = grind arith
 
   -- one more was
-  pub one_more : (place : ℕ) (old new : Tally) (mid sent : Sent) (injection other : Injection) (ending : Ending) (line : List ℕ) → place < length injections → injection ≡ get_or injections place other
-      → SoFar place old mid → mid.failed ≡ false → mid.before ≡ sent.before → Tried p script limit natives injection ending line →
-      Says line (record { before = mid.now; now = sent.now; failed = sent.failed }) → new ≡ counted old ending → SoFar (place + 1) new sent
+  pub one_more : (place : ℕ) (old new : Tally) (mid sent : Sent) (injection other : Injection) (ending : Ending) (line : List ℕ) → place < length injections →
+      injection ≡ get_or injections place other → SoFar place old mid → mid.failed ≡ false → mid.before ≡ sent.before → Tried p script limit natives injection
+      ending line → Says line (record { before = mid.now; now = sent.now; failed = sent.failed }) → new ≡ counted old ending → SoFar (place + 1) new sent
   one_more place old new mid sent injection other ending line within is far lives same tried says counts =
       let more : place + 1 ≡ suc place = omega arith in
       let next : take (place + 1) injections ≡ take place injections ++ injection ∷ [] =
@@ -86,7 +86,8 @@ module _ (p : Image) (script : Script) (limit natives : ℕ) (injections : List 
       record {
         endings = far.endings ++ ending ∷ [];
         text = far.text ++ line;
-        tried = subst (λ xs. EachTried p script limit natives xs (far.endings ++ ending ∷ []) (far.text ++ line)) (sym next) (and_one injection ending line far.tried tried);
+        tried = subst (λ xs. EachTried p script limit natives xs (far.endings ++ ending ∷ []) (far.text ++ line)) (sym next)
+            (and_one injection ending line far.tried tried);
         says = says_on far.text line mid sent far.says lives same says;
         counts = counts ∙ ap (λ t. counted t ending) far.counts ∙ sym (fold-append counted nothing_counted far.endings (ending ∷ []));
         many = ap (λ (t : Tally). t.tries) counts ∙ counts_one old ending ∙ ap (λ n. n + 1) far.many;
@@ -95,7 +96,8 @@ module _ (p : Image) (script : Script) (limit natives : ℕ) (injections : List 
   abbrev pub begun : (place : ℕ) (tally : Tally) (sent : Sent) → SoFar place tally sent → Begun p script limit natives injections sent
   begun place tally sent far = record { count = place; endings = far.endings; text = far.text; tried = far.tried; says = far.says }
 
-  pub all_tried : (place : ℕ) (tally : Tally) (sent : Sent) → SoFar place tally sent → (sent.failed ≡ false → length injections ≤ place) → TriesAll p script limit natives injections tally sent
+  pub all_tried : (place : ℕ) (tally : Tally) (sent : Sent) → SoFar place tally sent → (sent.failed ≡ false → length injections ≤ place) →
+      TriesAll p script limit natives injections tally sent
   all_tried place tally sent far all = record { begun = begun place tally sent far; counts = far.counts; all = λ lives. take_all place injections (all lives) }
 
 -- ---- what is tried, by the run as it is
@@ -130,9 +132,11 @@ pub explored_so : (p : Image) (script : Script) (limit natives : ℕ) (tries : T
     (tally : Tally) (mid sent : Sent) → Plans p script limit natives tries injections left → TriesAll p script limit natives injections tally mid →
     mid.before ≡ sent.before → (mid.failed ≡ false → Says (closing tries left tally) (record { before = mid.now; now = sent.now; failed = sent.failed })) →
     (mid.failed ≡ true → (sent.now ≡ mid.now) × (sent.failed ≡ true)) → Explored p script limit natives tries sent
-explored_so p script limit natives tries injections left tally mid sent plans all same says stays = record { injections = injections; left = left; plans = plans; ends = go mid.failed refl }
+explored_so p script limit natives tries injections left tally mid sent plans all same says stays =
+    record { injections = injections; left = left; plans = plans; ends = go mid.failed refl }
   where
-    go : (failed : Bool) → mid.failed ≡ failed → Finished p script limit natives tries injections left sent ⊎ ((sent.failed ≡ true) × Begun p script limit natives injections sent)
+    go : (failed : Bool) → mid.failed ≡ failed →
+        Finished p script limit natives tries injections left sent ⊎ ((sent.failed ≡ true) × Begun p script limit natives injections sent)
     go false lives =
         let b = all.begun in
         inl (record {
@@ -179,7 +183,8 @@ kept_so x text other is = grind arith
 -- ---- a machine that has booted
 
 -- it has as many natives as boxes were given to it
-pub given_all : {L B : Type 0} (native : L → B) (slots : List (Option L)) (boxes : List B) → map (option_map native) slots ≡ map (λ b. Some b) boxes → length slots ≡ length boxes
+pub given_all : {L B : Type 0} (native : L → B) (slots : List (Option L)) (boxes : List B) → map (option_map native) slots ≡ map (λ b. Some b) boxes →
+    length slots ≡ length boxes
 given_all {L} {B} native slots boxes same = grind (arith, nat_tests, length-map)
 
 -- a machine that has not run is fresh
@@ -187,7 +192,8 @@ pub fresh_so : {X : Type 0} {B : X → Type 0} (p : Image) (m : Machine X B) →
 fresh_so p m image stands = subst (λ q. StandsFor m (boot_state q)) (sym image) stands
 
 -- and has as many natives as its image names
-pub has_enough : {X : Type 0} {B : X → Type 0} (p : Image) (m : Machine X B) (natives : ℕ) → m.core.image ≡ p → natives_of m ≡ natives → StandsFor m (boot_state p) → HasNatives p natives
+pub has_enough : {X : Type 0} {B : X → Type 0} (p : Image) (m : Machine X B) (natives : ℕ) → m.core.image ≡ p → natives_of m ≡ natives →
+    StandsFor m (boot_state p) → HasNatives p natives
 has_enough p m natives image count stands = grind (arith, nat_tests)
 
 -- want of memory is told of a machine that has them

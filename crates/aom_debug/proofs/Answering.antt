@@ -20,22 +20,24 @@ use Rattle.aom_debug.specs.declared.debugger.Debugger.{Debugger}
 
 module _ {X : Type 0} {B : X → Type 0} where
   -- where moves have led
-  pub shown : (old new : Debugger X B) (out : Outgoing) (told result : Answer) → result ≡ told → IfOk told (λ _. new ≡ old) → IfErr told (λ _. new ≡ record old { has_failed = true })
-      → IfOk told (λ _. Tells old.mover.machine.core (λ s. place_text old.names old.mover.machine.core.image s) out.before out.now)
-      → IfErr told (λ fault. TellsPart old.mover.machine.core (λ s. place_text old.names old.mover.machine.core.image s) fault out.failed out.before out.now) → Shows old new out result
+  pub shown : (old new : Debugger X B) (out : Outgoing) (told result : Answer) →
+      result ≡ told → IfOk told (λ _. new ≡ old) → IfErr told (λ _. new ≡ record old { has_failed = true }) → IfOk told
+      (λ _. Tells old.mover.machine.core (λ s. place_text old.names old.mover.machine.core.image s) out.before out.now) → IfErr told (λ fault. TellsPart
+      old.mover.machine.core (λ s. place_text old.names old.mover.machine.core.image s) fault out.failed out.before out.now) → Shows old new out result
   shown old new out (Ok done) result is same changed tells part = subst (λ r. Shows old new out r) (sym is) (same, tells)
   shown old new out (Err fault) result is same changed tells part = subst (λ r. Shows old new out r) (sym is) (changed, part)
 
   -- a course, and then where it has led; or it was cut
   module _ (leads : Debugger X B → Courses) (old mid new : Debugger X B) (may : MayGo old) (image : mid.mover.machine.core.image ≡ old.mover.machine.core.image)
-      (spots : mid.breakpoints ≡ old.breakpoints) (names : mid.names ≡ old.names) (well : mid.has_failed ≡ old.has_failed) (before here now : Option (List ℕ)) (failed : Bool) where
+      (spots : mid.breakpoints ≡ old.breakpoints) (names : mid.names ≡ old.names) (well : mid.has_failed ≡ old.has_failed)
+      (before here now : Option (List ℕ)) (failed : Bool) where
     stands_so : (machine : new.mover.machine ≡ mid.mover.machine) (u : State) → StandsFor mid.mover.machine u → StandsFor new.mover.machine u
     stands_so machine u stands = subst (λ (m : Machine X B). StandsFor m u) (sym machine) stands
 
     gone : ((s : State) (lines : List Line) (u : State) →
-        leads old old.mover.recent mid.mover.recent s lines u → Reaches old.mover.machine.core.image (outside_of old.mover) s lines u) → (result : Answer)
-        → Sends (leads old old.mover.recent mid.mover.recent) old.mover.machine before here mid.mover.machine → Shows mid new (record { before = here; now = now; failed = failed }) result
-        → Goes leads old new (record { before = before; now = now; failed = failed }) result
+        leads old old.mover.recent mid.mover.recent s lines u → Reaches old.mover.machine.core.image (outside_of old.mover) s lines u) →
+        (result : Answer) → Sends (leads old old.mover.recent mid.mover.recent) old.mover.machine before here mid.mover.machine → Shows mid new
+        (record { before = here; now = now; failed = failed }) result → Goes leads old new (record { before = before; now = now; failed = failed }) result
     gone reaches (Ok done) sends shows =
         let same = shows.0 in
         let machine = ap (λ (d : Debugger X B). d.mover.machine) same in
@@ -88,14 +90,16 @@ module _ {X : Type 0} {B : X → Type 0} where
   -- either of the two, by how it went
   module _ (leads : Debugger X B → Courses) (old mid new : Debugger X B) (may : MayGo old) (image : mid.mover.machine.core.image ≡ old.mover.machine.core.image)
       (before here now : Option (List ℕ)) (failed : Bool) where
-    pub answered : ((s : State) (lines : List Line) (u : State) → leads old old.mover.recent mid.mover.recent s lines u → Reaches old.mover.machine.core.image (outside_of old.mover) s lines u)
-        → (spots : mid.breakpoints ≡ old.breakpoints) → (names : mid.names ≡ old.names) → (well : mid.has_failed ≡ old.has_failed) → (went : Option Progress) (off : Bool) (result : Answer)
-        → Went (leads old old.mover.recent mid.mover.recent) (Reaches old.mover.machine.core.image (outside_of old.mover)) old.mover before here off went mid.mover
-        → IfNone went (GivesUp mid new (record { before = here; now = now; failed = failed }) result) → IfNone went (failed ≡ off)
-        → IfSome went (λ far. Shows mid new (record { before = here; now = now; failed = failed }) result)
-        → Goes leads old new (record { before = before; now = now; failed = failed }) result
-    answered reaches spots names well None off result x up same shows = gave_up leads old mid new may image spots names well before here now failed result (same ∙ x.0) x.1 up
-    answered reaches spots names well (Some far) off result x up same shows = gone leads old mid new may image spots names well before here now failed reaches result x.0 shows
+    pub answered : ((s : State) (lines : List Line) (u : State) → leads old old.mover.recent mid.mover.recent s lines u →
+        Reaches old.mover.machine.core.image (outside_of old.mover) s lines u) → (spots : mid.breakpoints ≡ old.breakpoints) → (names : mid.names ≡ old.names) →
+        (well : mid.has_failed ≡ old.has_failed) → (went : Option Progress) (off : Bool) (result : Answer) → Went
+        (leads old old.mover.recent mid.mover.recent) (Reaches old.mover.machine.core.image (outside_of old.mover)) old.mover before here off went mid.mover →
+        IfNone went (GivesUp mid new (record { before = here; now = now; failed = failed }) result) → IfNone went (failed ≡ off) → IfSome went (λ far. Shows mid
+        new (record { before = here; now = now; failed = failed }) result) → Goes leads old new (record { before = before; now = now; failed = failed }) result
+    answered reaches spots names well None off result x up same shows =
+        gave_up leads old mid new may image spots names well before here now failed result (same ∙ x.0) x.1 up
+    answered reaches spots names well (Some far) off result x up same shows =
+        gone leads old mid new may image spots names well before here now failed reaches result x.0 shows
 
 -- a look
 pub looked : {X : Type 0} {B : X → Type 0} (shows : Debugger X B → State → List ℕ → Type 0)
@@ -104,5 +108,5 @@ pub looked : {X : Type 0} {B : X → Type 0} (shows : Debugger X B → State →
     IfErr told (λ fault. SeenPart shows old fault failed before now) → Looks shows old new (record { before = before; now = now; failed = failed }) result
 looked shows old new before now failed (Ok done) result well is same changed sees part =
     subst (λ r. Looks shows old new (record { before = before; now = now; failed = failed }) r) (sym is) (well, same, sees)
-looked shows old new before now failed (Err fault) result well is same changed sees part =
-    subst (λ r. Looks shows old new (record { before = before; now = now; failed = failed }) r) (sym (is ∙ ap (λ f. Err f) part.0)) (well, changed, part.1, part.2)
+looked shows old new before now failed (Err fault) result well is same changed sees part = subst (λ r. Looks shows old new
+    (record { before = before; now = now; failed = failed }) r) (sym (is ∙ ap (λ f. Err f) part.0)) (well, changed, part.1, part.2)

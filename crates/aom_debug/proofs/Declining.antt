@@ -57,7 +57,8 @@ unset _ _ more spots is = cc
 pub set_not : (spot : Spot) (spots : List Spot) → is_set spot spots ≡ false → with_spot spot spots ≡ spots
 set_not spot spots is = unset (has_spot spot spots) (nat_lt (length spots) 16) (spots ++ spot ∷ []) spots is
 
-module _ {X : Type 0} {B : X → Type 0} (may : Spot → List Spot → Bool) (marked : Spot → List Spot → List Spot) (spot : Spot) (old new : Debugger X B) (out : Outgoing) where
+module _ {X : Type 0} {B : X → Type 0} (may : Spot → List Spot → Bool) (marked : Spot → List Spot → List Spot) (spot : Spot)
+    (old new : Debugger X B) (out : Outgoing) where
   pub marked_mover : (answer : Answer) → MarksAt may marked spot old new out answer → new.mover ≡ old.mover
   marked_mover (Ok done) marks = ap (λ (d : Debugger X B). d.mover) marks.1
   marked_mover (Err faults.NoSuch) marks = ap (λ (d : Debugger X B). d.mover) marks.1.same
@@ -83,7 +84,8 @@ ended_by None (task ∷ tasks) ending is = cc
 
 module _ {X : Type 0} {B : X → Type 0} where
   -- what is kept of what was told does not move
-  pub kept_mover : (old new : Debugger X B) (told : Result (Unit {0}) DebugFault) → IfOk told (λ _. new ≡ old) → IfErr told (λ _. new ≡ record old { has_failed = true }) → new.mover ≡ old.mover
+  pub kept_mover : (old new : Debugger X B) (told : Result (Unit {0}) DebugFault) → IfOk told (λ _. new ≡ old) →
+      IfErr told (λ _. new ≡ record old { has_failed = true }) → new.mover ≡ old.mover
   kept_mover old new (Ok done) same changed = ap (λ (d : Debugger X B). d.mover) same
   kept_mover old new (Err fault) same changed = ap (λ (d : Debugger X B). d.mover) changed
 

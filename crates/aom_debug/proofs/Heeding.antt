@@ -16,7 +16,8 @@ use Rattle.aom_debug.proofs.Obeying.{is_cut, is_done, is_refused, still_well}
 
 module _ {X : Type 0} {B : X → Type 0} where
   -- a line without words
-  pub heard_nothing : (d : Debugger X B) (before : Option (List ℕ)) (failed : Bool) → d.has_failed ≡ false → Heard (Ok None) d d (record { before = before; now = before; failed = failed })
+  pub heard_nothing : (d : Debugger X B) (before : Option (List ℕ)) (failed : Bool) → d.has_failed ≡ false →
+      Heard (Ok None) d d (record { before = before; now = before; failed = failed })
   heard_nothing d before failed well = record { goes = λ s stands. ([], s, (refl, refl), after_none before, stands); well = well }
 
   -- a line that is bad
@@ -26,18 +27,19 @@ module _ {X : Type 0} {B : X → Type 0} where
 
   pub heard_fault_part : (d : Debugger X B) (fault : DebugFault) (before now : Option (List ℕ)) (failed : Bool) →
       IsCut (fault_text fault) WriteFault failed before now → HeardPart (Err fault) d (record { before = before; now = now; failed = failed })
-  heard_fault_part d fault before now failed cut = record { goes = λ s stands. (fault_text fault, inl (standing d s, (refl, refl)), (cut.sent, cut.out)); failed = cut.fails }
+  heard_fault_part d fault before now failed cut =
+      record { goes = λ s stands. (fault_text fault, inl (standing d s, (refl, refl)), (cut.sent, cut.out)); failed = cut.fails }
 
   module _ (old new : Debugger X B) (command : Command) (well : old.has_failed ≡ false) (before mid : Option (List ℕ)) (failed : Bool) where
     -- a command that is done
-    pub heard_done : Obeys command old new (record { before = before; now = mid; failed = failed }) (Ok tt) → Heard (Ok (Some command)) old new (record { before = before; now = mid; failed = failed })
-    heard_done obeys =
-        record {
-          goes = λ s stands.
-              let f = is_done old new (record { before = before; now = mid; failed = failed }) well command obeys s stands in
-              (f.0, f.1, inl f.2, f.3, f.4);
-          well = still_well old new (record { before = before; now = mid; failed = failed }) well command obeys;
-        }
+    pub heard_done : Obeys command old new (record { before = before; now = mid; failed = failed }) (Ok tt) →
+        Heard (Ok (Some command)) old new (record { before = before; now = mid; failed = failed })
+    heard_done obeys = record {
+      goes = λ s stands.
+          let f = is_done old new (record { before = before; now = mid; failed = failed }) well command obeys s stands in
+          (f.0, f.1, inl f.2, f.3, f.4);
+      well = still_well old new (record { before = before; now = mid; failed = failed }) well command obeys;
+    }
 
     pub heard_cut : Obeys command old new (record { before = before; now = mid; failed = failed }) (Err WriteFault) →
         HeardPart (Ok (Some command)) old (record { before = before; now = mid; failed = failed })
@@ -61,7 +63,8 @@ module _ {X : Type 0} {B : X → Type 0} where
             well = ap (λ (d : Debugger X B). d.has_failed) same ∙ well;
           }
 
-      pub heard_refused_part : IsCut (fault_text fault) WriteFault then mid now → HeardPart (Ok (Some command)) old (record { before = before; now = now; failed = then })
+      pub heard_refused_part : IsCut (fault_text fault) WriteFault then mid now →
+          HeardPart (Ok (Some command)) old (record { before = before; now = now; failed = then })
       heard_refused_part cut =
           let r = is_refused old new (record { before = before; now = mid; failed = failed }) well command fault other obeys in
           record {

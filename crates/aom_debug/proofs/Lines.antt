@@ -46,25 +46,22 @@ module _ {X : Type 0} (p : X → Bool) where
   split_both [] ys = sym (glued_nothing (slice_split p ys))
   split_both (x ∷ xs) ys = go (p x) refl (split_both xs ys)
     where
-      go : (b : Bool) → p x ≡ b → slice_split p (xs ++ ys) ≡ joined (slice_split p xs) (slice_split p ys) → slice_split p (x ∷ (xs ++ ys)) ≡ joined (slice_split p (x ∷ xs)) (slice_split p ys)
-      go true is both =
-          slice_split-cons_yes p x (xs ++ ys) is ∙ ap (λ t. [] ∷ t) both ∙ joined_more (slice_split p xs) (slice_split p ys) (some_parts xs)
+      go : (b : Bool) → p x ≡ b → slice_split p (xs ++ ys) ≡ joined (slice_split p xs) (slice_split p ys) →
+          slice_split p (x ∷ (xs ++ ys)) ≡ joined (slice_split p (x ∷ xs)) (slice_split p ys)
+      go true is both = slice_split-cons_yes p x (xs ++ ys) is ∙ ap (λ t. [] ∷ t) both ∙ joined_more (slice_split p xs) (slice_split p ys) (some_parts xs)
           ∙ ap (λ t. joined t (slice_split p ys)) (sym (slice_split-cons_yes p x xs is))
-      go false is both =
-          slice_split-cons_no p x (xs ++ ys) is ∙ ap (onto_first x) both ∙ joined_first x (slice_split p xs) (slice_split p ys) (some_parts xs) (some_parts ys)
-          ∙ ap (λ t. joined t (slice_split p ys)) (sym (slice_split-cons_no p x xs is))
+      go false is both = slice_split-cons_no p x (xs ++ ys) is ∙ ap (onto_first x) both ∙ joined_first x (slice_split p xs) (slice_split p ys) (some_parts xs)
+          (some_parts ys) ∙ ap (λ t. joined t (slice_split p ys)) (sym (slice_split-cons_no p x xs is))
 
   module _ (text : List X) (lines : List (List X)) (rest : List X) (is : slice_split p text ≡ lines ++ rest ∷ []) where
     -- one byte more in the same line
     pub split_on : (b : X) → p b ≡ false → slice_split p (text ++ b ∷ []) ≡ lines ++ (rest ++ b ∷ []) ∷ []
-    split_on b not =
-        split_both text (b ∷ []) ∙ ap (λ t. joined t (slice_split p (b ∷ []))) is ∙ joined_last lines rest (slice_split p (b ∷ []))
+    split_on b not = split_both text (b ∷ []) ∙ ap (λ t. joined t (slice_split p (b ∷ []))) is ∙ joined_last lines rest (slice_split p (b ∷ []))
         ∙ ap (λ t. lines ++ glued rest t) (slice_split-cons_no p b [] not)
 
     -- the end of a line, and what comes behind it
     pub split_end : (b : X) (more : List X) → p b ≡ true → slice_split p (text ++ b ∷ more) ≡ lines ++ rest ∷ slice_split p more
-    split_end b more feeds =
-        split_both text (b ∷ more) ∙ ap (λ t. joined t (slice_split p (b ∷ more))) is ∙ joined_last lines rest (slice_split p (b ∷ more))
+    split_end b more feeds = split_both text (b ∷ more) ∙ ap (λ t. joined t (slice_split p (b ∷ more))) is ∙ joined_last lines rest (slice_split p (b ∷ more))
         ∙ ap (λ t. lines ++ glued rest t) (slice_split-cons_yes p b more feeds) ∙ ap (λ t. lines ++ t ∷ slice_split p more) (append-nil rest)
 
 -- ---- lines

@@ -21,20 +21,23 @@ module _ {X : Type 0} {B : X → Type 0} (ns : Names) (p : Image) (a c : Machine
 
   -- or a beginning
   abbrev pub Part : Leads → Type 0
-  Part leads = (s : State) → StandsFor a s → (lines : List Line) × (u : State) × leads s lines u × ((sent : ℕ) × (now ≡ after before (take sent (moved_text ns p lines u)))) × StandsFor c u
+  Part leads = (s : State) → StandsFor a s →
+      (lines : List Line) × (u : State) × leads s lines u × ((sent : ℕ) × (now ≡ after before (take sent (moved_text ns p lines u)))) × StandsFor c u
 
   pub all_out : (leads : Leads) → Sends leads a before mid c → Tells c.core (λ s. place_text ns c.core.image s) mid now → Out leads
   all_out leads x tells s stands =
       let f = x s stands in
-      let text = tells.out f.1 f.4.stands ∙ ap (λ q. after mid (place_text ns q f.1)) image ∙ ap (λ o. after o (place_text ns p f.1)) f.3 ∙ after_both before (text_of f.0) (place_text ns p f.1) in
+      let text = tells.out f.1 f.4.stands ∙ ap (λ q. after mid (place_text ns q f.1)) image ∙ ap (λ o. after o (place_text ns p f.1)) f.3
+      ∙ after_both before (text_of f.0) (place_text ns p f.1) in
       (f.0, f.1, f.2, text, f.4)
 
-  pub part_out : (leads all : Leads) → ((s : State) (lines : List Line) (u : State) → leads s lines u → all s lines u) → (fault : DebugFault) (failed : Bool) → Sends leads a before mid c
-      → TellsPart c.core (λ s. place_text ns c.core.image s) fault failed mid now → Part all
+  pub part_out : (leads all : Leads) → ((s : State) (lines : List Line) (u : State) → leads s lines u → all s lines u) → (fault : DebugFault) (failed : Bool) →
+      Sends leads a before mid c → TellsPart c.core (λ s. place_text ns c.core.image s) fault failed mid now → Part all
   part_out leads all weaker fault failed x tells s stands =
       let f = x s stands in
       let g = tells.out f.1 f.4.stands in
-      let text = g.1 ∙ ap (λ q. after mid (take g.0 (place_text ns q f.1))) image ∙ ap (λ o. after o (take g.0 (place_text ns p f.1))) f.3 ∙ cut_next before (text_of f.0) (place_text ns p f.1) g.0 in
+      let text = g.1 ∙ ap (λ q. after mid (take g.0 (place_text ns q f.1))) image ∙ ap (λ o. after o (take g.0 (place_text ns p f.1))) f.3
+      ∙ cut_next before (text_of f.0) (place_text ns p f.1) g.0 in
       (f.0, f.1, weaker s f.0 f.1 f.2, (length (text_of f.0) + g.0, text), f.4)
 
   pub cut_out : (leads : Leads) → Breaks leads a before now c → Part leads

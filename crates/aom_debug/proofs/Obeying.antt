@@ -59,8 +59,8 @@ module _ {X : Type 0} {B : X → Type 0} (old new : Debugger X B) (out : Outgoin
       let f = x.2 s stands in
       (f.0, s, shown_so (λ t. shows old s t) s f.0 x.1 f.1, f.2, stands_same x.1 s stands)
 
-  marks_done : (may : Spot → List Spot → Bool) (marked : Spot → List Spot → List Spot) (method place : Number) → Marks may marked method place old new out (Ok tt)
-      → Done (λ a text b. MarksSo may marked old.mover.machine.core.image method place a text b)
+  marks_done : (may : Spot → List Spot → Bool) (marked : Spot → List Spot → List Spot) (method place : Number) →
+      Marks may marked method place old new out (Ok tt) → Done (λ a text b. MarksSo may marked old.mover.machine.core.image method place a text b)
   marks_done may marked method place x s stands =
       let can = x.2 in (
         _,
@@ -74,7 +74,8 @@ module _ {X : Type 0} {B : X → Type 0} (old new : Debugger X B) (out : Outgoin
   counted : (n : ℕ) (answer : Answer) → (CountsNot old new out answer → ⊥) → Steps n old new out answer → (is_count n ≡ true) × Goes (steps_of n) old new out answer
   counted n answer not x = go (is_count n) refl x
     where
-      go : (b : Bool) → is_count n ≡ b → cond b (Goes (steps_of n) old new out answer) (CountsNot old new out answer) → (is_count n ≡ true) × Goes (steps_of n) old new out answer
+      go : (b : Bool) → is_count n ≡ b → cond b (Goes (steps_of n) old new out answer) (CountsNot old new out answer) →
+          (is_count n ≡ true) × Goes (steps_of n) old new out answer
       go true is y = (is, y)
       go false is y = absurd (not y)
 
@@ -94,13 +95,15 @@ module _ {X : Type 0} {B : X → Type 0} (old new : Debugger X B) (out : Outgoin
       go (Some spot) is y = (spot, is, y)
       go None is y = absurd (not y)
 
-  until_done : (method place : Number) → Obeys (Until method place) old new out (Ok tt) → Done (λ a text b. Does old.mover.machine.core.image (outside_of old.mover) (Until method place) a text b)
+  until_done : (method place : Number) → Obeys (Until method place) old new out (Ok tt) →
+      Done (λ a text b. Does old.mover.machine.core.image (outside_of old.mover) (Until method place) a text b)
   until_done method place x s stands =
       let y = named method place (Ok tt) (λ z. z) x in
       let f = goes_done (ways.Place y.0) y.2 s stands in
       (f.0, f.1, (y.0, y.1, f.2), f.3, f.4)
 
-  pub is_done : (command : Command) → Obeys command old new out (Ok tt) → Done (λ a text b. Does old.mover.machine.core.image (outside_of old.mover) command a text b)
+  pub is_done : (command : Command) → Obeys command old new out (Ok tt) →
+      Done (λ a text b. Does old.mover.machine.core.image (outside_of old.mover) command a text b)
   is_done (Step n) x = steps_done n x
   is_done Next x = goes_done (ways.Over scopes.Step) x
   is_done Finish x = goes_done (ways.Over scopes.Method) x
@@ -178,12 +181,14 @@ module _ {X : Type 0} {B : X → Type 0} (old new : Debugger X B) (out : Outgoin
       go true is y = let r = goes_refused (steps_of n) fault other y in subst (λ f. Refused (Step n) f) (sym r.0) (r.1, (λ s stands. (is, r.2 s stands)))
       go false is y = counts_refused n is fault y
 
-  names_refused : (method place : Number) → spot_named old.mover.machine.core.image method place ≡ None → (fault : DebugFault) → NamesNot old new out (Err fault) → Refused (Until method place) fault
+  names_refused : (method place : Number) → spot_named old.mover.machine.core.image method place ≡ None → (fault : DebugFault) →
+      NamesNot old new out (Err fault) → Refused (Until method place) fault
   names_refused method place is NoSuch x = (x.1, (λ s stands. is))
   names_refused method place is Ended x = absurd (not_both old.has_failed x.0 well)
   names_refused method place is _ x = absurd x
 
-  until_refused : (method place : Number) (fault : DebugFault) → fault ≢ WriteFault → Obeys (Until method place) old new out (Err fault) → Refused (Until method place) fault
+  until_refused : (method place : Number) (fault : DebugFault) → fault ≢ WriteFault → Obeys (Until method place) old new out (Err fault) →
+      Refused (Until method place) fault
   until_refused method place fault other x = go (spot_named old.mover.machine.core.image method place) refl x
     where
       go : (o : Option Spot) → spot_named old.mover.machine.core.image method place ≡ o → GoesNamed o old new out (Err fault) → Refused (Until method place) fault
@@ -204,8 +209,8 @@ module _ {X : Type 0} {B : X → Type 0} (old new : Debugger X B) (out : Outgoin
   marks_refused may marked method place _ other x = absurd x
 
   -- no object is owned there
-  lacks_refused : (shows : Debugger X B → State → List ℕ → Type 0) (lacks : Debugger X B → State → Type 0) (fault : DebugFault) → fault ≢ WriteFault → LooksAt shows lacks old new out (Err fault)
-      → (fault ≡ NoSuch) × Declined old new out × ((s : State) → StandsFor old.mover.machine s → lacks old s)
+  lacks_refused : (shows : Debugger X B → State → List ℕ → Type 0) (lacks : Debugger X B → State → Type 0) (fault : DebugFault) → fault ≢ WriteFault →
+      LooksAt shows lacks old new out (Err fault) → (fault ≡ NoSuch) × Declined old new out × ((s : State) → StandsFor old.mover.machine s → lacks old s)
   lacks_refused shows lacks NoSuch other x = (refl, x.1, x.2)
   lacks_refused shows lacks Ended other x = absurd (not_both old.has_failed x.0 well)
   lacks_refused shows lacks WriteFault other x = absurd (other refl)
@@ -218,7 +223,8 @@ module _ {X : Type 0} {B : X → Type 0} (old new : Debugger X B) (out : Outgoin
   is_refused Turn fault other x = let r = goes_refused turns_of fault other x in subst (λ f. Refused Turn f) (sym r.0) (r.1, r.2)
   is_refused Go fault other x = let r = goes_refused runs_of fault other x in subst (λ f. Refused Go f) (sym r.0) (r.1, r.2)
   is_refused (Until method place) fault other x = until_refused method place fault other x
-  is_refused (Break method place) fault other x = let r = marks_refused is_set with_spot method place fault other x in subst (λ f. Refused (Break method place) f) (sym r.0) (r.1, (λ s stands. r.2))
+  is_refused (Break method place) fault other x = let r = marks_refused is_set with_spot method place fault other x in
+      subst (λ f. Refused (Break method place) f) (sym r.0) (r.1, (λ s stands. r.2))
   is_refused (Unbreak method place) fault other x =
       let r = marks_refused has_spot without_spot method place fault other x in subst (λ f. Refused (Unbreak method place) f) (sym r.0) (r.1, (λ s stands. r.2))
   is_refused Breaks fault other x = absurd (looks_refused (Sees look.Breaks) fault other x)
@@ -273,7 +279,8 @@ module _ {X : Type 0} {B : X → Type 0} (old new : Debugger X B) (out : Outgoin
   is_cut Finish x = goes_cut Finish (overs_of scopes.Method) (λ s ended. ended) x
   is_cut Turn x = goes_cut Turn turns_of (λ s ended. ended) x
   is_cut Go x = goes_cut Go runs_of (λ s ended. ended) x
-  is_cut (Until method place) x = let y = named method place (Err WriteFault) (λ z. z) x in goes_cut (Until method place) (places_of y.0) (λ s ended. (ap is_some y.1, ended)) y.2
+  is_cut (Until method place) x = let y = named method place (Err WriteFault) (λ z. z) x in
+      goes_cut (Until method place) (places_of y.0) (λ s ended. (ap is_some y.1, ended)) y.2
   is_cut (Break method place) x = marks_cut (Break method place) is_set with_spot method place (λ a text b y. y) x
   is_cut (Unbreak method place) x = marks_cut (Unbreak method place) has_spot without_spot method place (λ a text b y. y) x
   is_cut Breaks x = looks_cut Breaks (Sees look.Breaks) (λ s text y. (refl, y)) x

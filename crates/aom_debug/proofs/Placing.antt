@@ -21,36 +21,34 @@ module _ (ns : Names) (m : Machine) (page : List ℕ) (is : page ≡ end_by m.pa
 
   module _ (before mid now : Option (List ℕ)) where
     pub place_cut : (fault : DebugFault) (failed : Bool) → IsCut page fault failed before now → TellsPart m (λ s. place_text ns m.image s) fault failed before now
-    place_cut fault failed cut =
-        record {
-          told = cut.told;
-          fails = cut.fails;
-          out = λ s st.
-              let rest = ended (answer_by ns (next_of m.image s)) in
-              (min cut.sent (length page), cut.out ∙ ap (after before) (cut_short cut.sent page rest) ∙ ap (λ t. after before (take (min cut.sent (length page)) (t ++ rest))) (page_of s st));
-        }
+    place_cut fault failed cut = record {
+      told = cut.told;
+      fails = cut.fails;
+      out = λ s st.
+          let rest = ended (answer_by ns (next_of m.image s)) in
+          (min cut.sent (length page), cut.out ∙ ap (after before) (cut_short cut.sent page rest) ∙ ap (λ t. after before (take (min cut.sent (length page)) (t ++ rest))) (page_of s st));
+    }
 
     module _ (next : Answer) (told : (s : State) → StandsFor m s → next ≡ next_of m.image s) (first : mid ≡ after before page) where
       pub place_told : now ≡ after mid (ended (answer_by ns next)) → Tells m (λ s. place_text ns m.image s) before now
-      place_told out =
-          record {
-            out = λ s st.
-                let rest = ended (answer_by ns next) in
-                out ∙ ap (λ o. after o rest) first ∙ after_both before page rest ∙ ap (λ t. after before (t ++ rest)) (page_of s st)
-                ∙ ap (λ (a : Answer). after before (end_by s.rest.ended (count_cells s.cells) ++ ended (answer_by ns a))) (told s st);
-          }
+      place_told out = record {
+        out = λ s st.
+            let rest = ended (answer_by ns next) in
+            out ∙ ap (λ o. after o rest) first ∙ after_both before page rest ∙ ap (λ t. after before (t ++ rest)) (page_of s st)
+            ∙ ap (λ (a : Answer). after before (end_by s.rest.ended (count_cells s.cells) ++ ended (answer_by ns a))) (told s st);
+      }
 
-      pub place_cut_later : (fault : DebugFault) (failed : Bool) → IsCut (ended (answer_by ns next)) fault failed mid now → TellsPart m (λ s. place_text ns m.image s) fault failed before now
-      place_cut_later fault failed cut =
-          record {
-            told = cut.told;
-            fails = cut.fails;
-            out = λ s st.
-                let rest = ended (answer_by ns next) in
-                let sent = length page + cut.sent in (
-                  sent,
-                  cut.out ∙ ap (λ o. after o (take cut.sent rest)) first ∙ cut_next before page rest cut.sent
-                      ∙ ap (λ t. after before (take sent (t ++ rest))) (page_of s st)
-                      ∙ ap (λ (a : Answer). after before (take sent (end_by s.rest.ended (count_cells s.cells) ++ ended (answer_by ns a)))) (told s st),
-                );
-          }
+      pub place_cut_later : (fault : DebugFault) (failed : Bool) → IsCut (ended (answer_by ns next)) fault failed mid now →
+          TellsPart m (λ s. place_text ns m.image s) fault failed before now
+      place_cut_later fault failed cut = record {
+        told = cut.told;
+        fails = cut.fails;
+        out = λ s st.
+            let rest = ended (answer_by ns next) in
+            let sent = length page + cut.sent in (
+              sent,
+              cut.out ∙ ap (λ o. after o (take cut.sent rest)) first ∙ cut_next before page rest cut.sent
+                  ∙ ap (λ t. after before (take sent (t ++ rest))) (page_of s st)
+                  ∙ ap (λ (a : Answer). after before (take sent (end_by s.rest.ended (count_cells s.cells) ++ ended (answer_by ns a)))) (told s st),
+            );
+      }

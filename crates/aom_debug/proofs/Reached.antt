@@ -16,7 +16,8 @@ use Rattle.aom_debug.specs.Debugging.{Answer, Looks, LooksAt, Outgoing, Seen, Se
 use Rattle.aom_debug.specs.declared.debugger.Debugger.{Debugger}
 use Rattle.std.proofs.lemmas.Result.{IfErr-weaker, IfOk-weaker}
 
-module _ {X : Type 0} {B : X → Type 0} (shows : Debugger X B → State → List ℕ → Type 0) (lacks : Debugger X B → State → Type 0) (old new : Debugger X B) (out : Outgoing) where
+module _ {X : Type 0} {B : X → Type 0} (shows : Debugger X B → State → List ℕ → Type 0) (lacks : Debugger X B → State → Type 0)
+    (old new : Debugger X B) (out : Outgoing) where
   -- what a look answers it answers at a path
   pub looks_at : (answer : Answer) → Looks shows old new out answer → LooksAt shows lacks old new out answer
   looks_at (Ok done) x = x
@@ -36,7 +37,8 @@ module _ {X : Type 0} {B : X → Type 0} (d : Debugger X B) (w : Way) (f : Found
 
   module _ (is : IsThere d w f) where
     pub words_seen : (told : Answer) → IfOk told (λ _. Tells d.mover.machine.core words_text before now) → IfOk told (λ _. Seen (SeesWords w) d before now)
-    words_seen told tells = IfOk-weaker told _ _ (λ done t s st. (_, (_, words_found d.mover.machine.core.image s.cells (owned_at s w) f (is s st.stands), refl), t.out s st.stands)) tells
+    words_seen told tells = IfOk-weaker told _ _
+        (λ done t s st. (_, (_, words_found d.mover.machine.core.image s.cells (owned_at s w) f (is s st.stands), refl), t.out s st.stands)) tells
 
     pub words_part : (failed : Bool) (told : Answer) → IfErr told (λ fault. TellsPart d.mover.machine.core words_text fault failed before now) →
         IfErr told (λ fault. SeenPart (SeesWords w) d fault failed before now)
@@ -48,4 +50,5 @@ module _ {X : Type 0} {B : X → Type 0} (d : Debugger X B) (w : Way) (f : Found
 
     pub queue_part : (failed : Bool) (told : Answer) → IfErr told (λ fault. TellsPart d.mover.machine.core queue_text fault failed before now) →
         IfErr told (λ fault. SeenPart (SeesQueue w) d fault failed before now)
-    queue_part failed told part = IfErr-weaker told _ _ (λ fault t. (t.told, t.fails, (λ s st. (_, (_, queue_found s.cells (owned_at s w) f (is s st.stands), refl), t.out s st.stands)))) part
+    queue_part failed told part = IfErr-weaker told _ _
+        (λ fault t. (t.told, t.fails, (λ s st. (_, (_, queue_found s.cells (owned_at s w) f (is s st.stands), refl), t.out s st.stands)))) part

@@ -1,4 +1,5 @@
--- A path that the map of owners tells is read back: no blank and no dot stands within a number, so the words and the parts between dots are those that were put together.
+-- A path that the map of owners tells is read back: no blank and no dot stands within a number, so the words and the parts between dots are those that were put
+-- together.
 use Rattle.std.proofs.Common.{◌≡◌, ◌∙◌, ◌<◌, ◌≤◌, ◌^◌, ◌==◌, ◌||◌, ◌&&◌, ℕ, Bool, true, false, List, [], ◌∷◌}
 use Rattle.std.proofs.Common.{◌++◌, Option, Some, length, refl, sym, ap, append_assoc, get_or, arith}
 use Rattle.std.specs.Prelude.{codes, decimal, filter, map, nat_le}
@@ -85,7 +86,8 @@ tail_ink : (bs : List Branch) → AreBranches bs → list_all is_ink (flat_map b
 tail_ink [] are = refl
 tail_ink (b ∷ bs) are = list_all-append is_ink (branch_text b) (flat_map branch_text bs) ∙ and_from _ _ (branch_ink b are.0) (tail_ink bs are.1)
 
-split_parts : (w : List ℕ) (bs : List Branch) → list_all is_plain w ≡ true → AreBranches bs → slice_split is_dot (w ++ flat_map branch_text bs) ≡ w ∷ map branch_word bs
+split_parts : (w : List ℕ) (bs : List Branch) → list_all is_plain w ≡ true → AreBranches bs →
+    slice_split is_dot (w ++ flat_map branch_text bs) ≡ w ∷ map branch_word bs
 unfolding branch_word
 split_parts w [] are branches = ap (slice_split is_dot) (append-nil w) ∙ slice_split_none is_dot w (no_dots w are)
 split_parts w (Field f ∷ bs) are branches = slice_split_at is_dot w 46 (branch_word (Field f) ++ flat_map branch_text bs) (no_dots w are) refl
@@ -96,7 +98,8 @@ split_parts w (Session c ∷ bs) are branches = slice_split_at is_dot w 46 (bran
 branch_back : (b : Branch) → IsBranch b → branch_said (branch_word b) ≡ Some b
 unfolding branch_word
 branch_back (Field f) small = ap (λ o. field_said (up_to 7 o)) (number_of_decimal f (omega (arith, small))) ∙ ap field_said (within 0 7 f (omega arith) small)
-branch_back (Session c) small = ap (λ o. session_said (up_to 63 o)) (number_of_decimal c (omega (arith, small))) ∙ ap session_said (within 0 63 c (omega arith) small)
+branch_back (Session c) small = ap (λ o. session_said (up_to 63 o)) (number_of_decimal c (omega (arith, small)))
+    ∙ ap session_said (within 0 63 c (omega arith) small)
 
 branches_back : (bs : List Branch) → AreBranches bs → branches_said (map branch_word bs) ≡ Some bs
 branches_back [] are = refl
@@ -121,8 +124,8 @@ module _ (bs : List Branch) (are : AreBranches bs) where
   -- by what the place says
   by_place : (outer : List ℕ → Option Outer) (w : List ℕ) (o : Outer) →
       list_all is_plain w ≡ true → outer w ≡ Some o → path_by outer (slice_split is_dot (w ++ t)) ≡ fitting (record { outer = o; branches = bs })
-  by_place outer w o plain says =
-      ap (path_by outer) (split_parts w bs plain are) ∙ ap (λ x. path_from x (branches_said (map branch_word bs))) says ∙ ap (path_from (Some o)) (branches_back bs are)
+  by_place outer w o plain says = ap (path_by outer) (split_parts w bs plain are) ∙ ap (λ x. path_from x (branches_said (map branch_word bs))) says
+      ∙ ap (path_from (Some o)) (branches_back bs are)
 
   back : (o : Outer) → IsOuter o → path_said (words (way_text (record { outer = o; branches = bs }))) ≡ fitting (record { outer = o; branches = bs })
   unfolding is_plain is_ink
@@ -130,13 +133,13 @@ module _ (bs : List Branch) (are : AreBranches bs) where
   back Service is = ap path_said (last_word (codes "service") refl (omega arith)) ∙ by_place plain_outer (codes "service") Service refl refl
   back (Entry k) is =
       let plain = digits_plain k (omega (arith, is)) in
-      ap path_said (words_more (codes "clean") (decimal k ++ t) refl (omega arith) ∙ ap (λ ws. codes "clean" ∷ ws) (last_word (decimal k) plain (decimal_nonempty k (omega (arith, is)))))
-      ∙ by_place (numbered_outer (codes "clean")) (decimal k)
+      ap path_said (words_more (codes "clean") (decimal k ++ t) refl (omega arith) ∙ ap (λ ws. codes "clean" ∷ ws)
+      (last_word (decimal k) plain (decimal_nonempty k (omega (arith, is))))) ∙ by_place (numbered_outer (codes "clean")) (decimal k)
       (Entry k) plain (ap (λ o. entry_by (up_to 65535 o)) (number_of_decimal k (omega (arith, is))) ∙ ap entry_by (within 0 65535 k (omega arith) is))
   back (Going k) is =
       let plain = digits_plain k (omega (arith, is)) in
-      ap path_said (words_more (codes "going") (decimal k ++ t) refl (omega arith) ∙ ap (λ ws. codes "going" ∷ ws) (last_word (decimal k) plain (decimal_nonempty k (omega (arith, is)))))
-      ∙ by_place (numbered_outer (codes "going")) (decimal k)
+      ap path_said (words_more (codes "going") (decimal k ++ t) refl (omega arith) ∙ ap (λ ws. codes "going" ∷ ws)
+      (last_word (decimal k) plain (decimal_nonempty k (omega (arith, is))))) ∙ by_place (numbered_outer (codes "going")) (decimal k)
       (Going k) plain (ap (λ o. going_by (up_to 65535 o)) (number_of_decimal k (omega (arith, is))) ∙ ap going_by (within 0 65535 k (omega arith) is))
   back (Register f i) is =
       let frame = digits_plain f (omega (arith, is.0)) in

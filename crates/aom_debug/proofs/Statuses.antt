@@ -49,7 +49,8 @@ module _ (ns : Names) (bytes text : List ℕ) (limit natives reads : ℕ) (p : I
     debugs = record { image = p; spelled = spelled; acceptable = acceptable; script = script; denotes = denotes; enough = begun.enough }
 
     -- what a session comes to from where the debugger begins
-    begun_so : (Q : Image → Environment → SessionState → Type 0) → Q d.mover.machine.core.image (outside_of d.mover) (standing d (boot_state p)) → Q p (outside_by script limit natives) (start_of ns p)
+    begun_so : (Q : Image → Environment → SessionState → Type 0) → Q d.mover.machine.core.image (outside_of d.mover) (standing d (boot_state p)) →
+        Q p (outside_by script limit natives) (start_of ns p)
     begun_so Q x = subst (λ q. Q q (outside_by script limit natives) (start_of ns p)) begun.image
         (subst (λ o. Q d.mover.machine.core.image o (start_of ns p)) begun.outside
         (subst (λ ss. Q d.mover.machine.core.image (outside_of d.mover) (record { state = boot_state p; spots = ss; recent = []; names = ns })) begun.spots
@@ -86,14 +87,16 @@ module _ (ns : Names) (bytes text : List ℕ) (limit natives reads : ℕ) (p : I
 called : (fault : ScriptFault) (kind : ScriptFaultKind) → IsOfText kind → status_of (of_script_kind fault kind) ≡ statuses.CallRefused
 called fault kind h = grind arith
 
-module _ (ns : Names) (bytes text : List ℕ) (limit natives reads : ℕ) (given : Given) (out errors : Sent) (status : ExitStatus) (unread : IsUnread given) (silent : IsSilent out) where
+module _ (ns : Names) (bytes text : List ℕ) (limit natives reads : ℕ) (given : Given) (out errors : Sent) (status : ExitStatus) (unread : IsUnread given)
+    (silent : IsSilent out) where
   abbrev So : ExitStatus → Type 0
   So = DebugAnswersBy ns bytes text limit natives reads given out errors
 
   pub unscripted : (fault : ScriptFault) (line : Fault) → Accepts bytes → RefusesOrWants text fault → line ≡ of_script fault → Told line status errors → So status
   unscripted fault line accepts (inl denotes) is told =
       let call : status_of line ≡ statuses.CallRefused = ap status_of is ∙ called fault fault.kind (is_of_text text fault denotes) in
-      subst So (sym (told.0 ∙ call)) (not_scripted line_text bytes text limit natives fault line out errors statuses.CallRefused accepts (inl denotes) silent is (sym call, told.1), unread)
+      subst So (sym (told.0 ∙ call))
+      (not_scripted line_text bytes text limit natives fault line out errors statuses.CallRefused accepts (inl denotes) silent is (sym call, told.1), unread)
   unscripted fault line accepts (inr wants) is told =
       let memory : Told faults.Memory status errors = subst (λ f. Told f status errors) (is ∙ ap (of_script_kind fault) wants.lines.kind) told in
       subst So (sym memory.0) (inr (script_wants_memory unread silent accepts fault wants memory.1))
@@ -103,8 +106,9 @@ module _ (ns : Names) (bytes text : List ℕ) (limit natives reads : ℕ) (given
   -- they have a fault that is told with the status of a refused image
   refused_by : (fault : Fault) → RefusesImage bytes fault → ((p : Image) → IsSpelled bytes p → IsAcceptable p → fault ≡ faults.Memory) →
       status_of fault ≡ statuses.ImageRefused → Told fault status errors → So status
-  refused_by fault refuses complete image told =
-      subst So (sym (told.0 ∙ image)) (not_run line_text bytes text limit natives fault out errors statuses.ImageRefused refuses complete silent (sym image, told.1), unread)
+  refused_by fault refuses complete image told = subst So (sym (told.0 ∙ image))
+      (not_run line_text bytes text limit natives fault out errors statuses.ImageRefused refuses complete silent (sym image, told.1), unread)
 
-  pub unaccepted : (fault : Fault) → RefusesImage bytes fault → ((p : Image) → IsSpelled bytes p → IsAcceptable p → fault ≡ faults.Memory) → Told fault status errors → So status
+  pub unaccepted : (fault : Fault) → RefusesImage bytes fault → ((p : Image) → IsSpelled bytes p → IsAcceptable p → fault ≡ faults.Memory) →
+      Told fault status errors → So status
   unaccepted fault refuses complete told = grind arith

@@ -26,28 +26,39 @@ module _ {X : Type 0} {B : X → Type 0} (p : Image) (outside : Environment) (st
   -- nothing has come
   pub talks_first : (d : Debugger X B) (s : State) → StandsFor d.mover.machine s →
       d.has_failed ≡ false → Talks d.mover.machine.core.image (outside_of d.mover) (standing d s) [] d (pending_of []) before before
-  talks_first d s stands well =
-      record { lines = []; rest = []; comes = record { parts = refl }; pending = refl; told = []; state = s; session = begins; stands = stands; out = after_none before; image = refl; same = refl; well = well }
+  talks_first d s stands well = record {
+    lines = [];
+    rest = [];
+    comes = record { parts = refl };
+    pending = refl;
+    told = [];
+    state = s;
+    session = begins;
+    stands = stands;
+    out = after_none before;
+    image = refl;
+    same = refl;
+    well = well;
+  }
 
   module _ (d : Debugger X B) (kept : Kept) (here : Option (List ℕ)) (talks : Talks p outside start text d kept before here) where
     -- a byte more in the same line
     pub talks_on : (byte : ℕ) (now : Kept) → (byte == 10) ≡ false →
         ((line : List ℕ) → kept ≡ pending_of line → now ≡ pending_of (line ++ byte ∷ [])) → Talks p outside start (text ++ byte ∷ []) d now before here
-    talks_on byte now other adds =
-        record {
-          lines = talks.lines;
-          rest = talks.rest ++ byte ∷ [];
-          comes = record { parts = split_on (λ b. b == 10) text talks.lines talks.rest talks.comes.parts byte other };
-          pending = adds talks.rest talks.pending;
-          told = talks.told;
-          state = talks.state;
-          session = talks.session;
-          stands = talks.stands;
-          out = talks.out;
-          image = talks.image;
-          same = talks.same;
-          well = talks.well;
-        }
+    talks_on byte now other adds = record {
+      lines = talks.lines;
+      rest = talks.rest ++ byte ∷ [];
+      comes = record { parts = split_on (λ b. b == 10) text talks.lines talks.rest talks.comes.parts byte other };
+      pending = adds talks.rest talks.pending;
+      told = talks.told;
+      state = talks.state;
+      session = talks.session;
+      stands = talks.stands;
+      out = talks.out;
+      image = talks.image;
+      same = talks.same;
+      well = talks.well;
+    }
 
     -- ---- the lines
 
@@ -73,13 +84,12 @@ module _ {X : Type 0} {B : X → Type 0} (p : Image) (outside : Environment) (st
 
     -- and nothing of a line is left
     pub talks_out : has_bytes talks.rest ≡ false → Held p outside start text before here
-    talks_out none =
-        record {
-          told = talks.told;
-          last = standing d talks.state;
-          session = subst (λ ls. Session p outside start ls talks.told (standing d talks.state)) (sym (lines_all none)) talks.session;
-          out = talks.out;
-        }
+    talks_out none = record {
+      told = talks.told;
+      last = standing d talks.state;
+      session = subst (λ ls. Session p outside start ls talks.told (standing d talks.state)) (sym (lines_all none)) talks.session;
+      out = talks.out;
+    }
 
     -- whether it is the end or not
     pub talks_stop : Stopped p outside start text before here
@@ -124,7 +134,8 @@ module _ {X : Type 0} {B : X → Type 0} (p : Image) (outside : Environment) (st
           (subst (λ q. Heeds q (outside_of d.mover) (command_by d.names talks.rest) (standing d talks.state) f.0 (standing new f.1)) talks.image f.2))
 
       -- the last, which lacks its line feed
-      pub talks_last : has_bytes talks.rest ≡ true → Heard (command_by d.names talks.rest) d new (record { before = here; now = now; failed = failed }) → Held p outside start text before now
+      pub talks_last : has_bytes talks.rest ≡ true → Heard (command_by d.names talks.rest) d new (record { before = here; now = now; failed = failed }) →
+          Held p outside start text before now
       talks_last some heard =
           let f = heard.goes talks.state talks.stands in
           record {
@@ -135,9 +146,8 @@ module _ {X : Type 0} {B : X → Type 0} (p : Image) (outside : Environment) (st
           }
 
       -- a line that is whole
-      pub talks_line : (byte : ℕ) (then : Kept) → (byte == 10) ≡ true →
-          then ≡ pending_of [] → Keeps d.mover new.mover → Heard (command_by d.names talks.rest) d new (record { before = here; now = now; failed = failed })
-          → Talks p outside start (text ++ byte ∷ []) new then before now
+      pub talks_line : (byte : ℕ) (then : Kept) → (byte == 10) ≡ true → then ≡ pending_of [] → Keeps d.mover new.mover → Heard (command_by d.names talks.rest) d
+          new (record { before = here; now = now; failed = failed }) → Talks p outside start (text ++ byte ∷ []) new then before now
       talks_line byte then feeds anew keeps heard =
           let f = heard.goes talks.state talks.stands in
           record {
@@ -167,34 +177,40 @@ module _ {X : Type 0} {B : X → Type 0} where
   pub goes_nowhere : (d : Debugger X B) (kept : Kept) (here : Option (List ℕ)) → GoesOn d kept here [] d kept here
   goes_nowhere d kept here p outside start text before talks = subst (λ t. Talks p outside start t d kept before here) (sym (append-nil text)) talks
 
-  pub goes_all : (a d : Debugger X B) (kept now : Kept) (here out : Option (List ℕ)) (some bytes : List ℕ) → some ≡ bytes → GoesOn a kept here some d now out → GoesOn a kept here bytes d now out
+  pub goes_all : (a d : Debugger X B) (kept now : Kept) (here out : Option (List ℕ)) (some bytes : List ℕ) → some ≡ bytes → GoesOn a kept here some d now out →
+      GoesOn a kept here bytes d now out
   goes_all a d kept now here out some bytes is goes = subst (λ t. GoesOn a kept here t d now out) is goes
 
   -- ---- the end
 
-  module _ (d : Debugger X B) (kept : Kept) (here : Option (List ℕ)) (empty : Bool) (says_empty : (line : List ℕ) → kept ≡ pending_of line → empty ≡ (length line == 0)) where
+  module _ (d : Debugger X B) (kept : Kept) (here : Option (List ℕ)) (empty : Bool)
+      (says_empty : (line : List ℕ) → kept ≡ pending_of line → empty ≡ (length line == 0)) where
     -- behind a line feed
     pub ends_at_line : empty ≡ true → Ends d kept here here
-    ends_at_line is p outside start text before talks = talks_out p outside start text before d kept here talks (is_there talks.rest ∙ ap not (sym (says_empty talks.rest talks.pending) ∙ is))
+    ends_at_line is p outside start text before talks =
+        talks_out p outside start text before d kept here talks (is_there talks.rest ∙ ap not (sym (says_empty talks.rest talks.pending) ∙ is))
 
     -- in a line
     module _ (is : empty ≡ false) (now : Option (List ℕ))
         (failed : Bool) (said : Result (Option Command) DebugFault) (says : (line : List ℕ) → kept ≡ pending_of line → said ≡ command_by d.names line) where
       pub ends_in_line : (new : Debugger X B) → Heard said d new (record { before = here; now = now; failed = failed }) → Ends d kept here now
-      ends_in_line new heard p outside start text before talks =
-          talks_last p outside start text before d kept here talks new now failed (is_there talks.rest ∙ ap not (sym (says_empty talks.rest talks.pending) ∙ is))
+      ends_in_line new heard p outside start text before talks = talks_last p outside start text before d kept here talks new now failed
+          (is_there talks.rest ∙ ap not (sym (says_empty talks.rest talks.pending) ∙ is))
           (subst (λ r. Heard r d new (record { before = here; now = now; failed = failed })) (says talks.rest talks.pending) heard)
 
       pub breaks_at_end : HeardPart said d (record { before = here; now = now; failed = failed }) → BreaksOff d kept here [] now failed
       breaks_at_end part p outside start text before talks =
           let some = is_there talks.rest ∙ ap not (sym (says_empty talks.rest talks.pending) ∙ is) in
-          talks_cut p outside start text before d kept here talks now failed (text ++ []) [] (ap lines_of (append-nil text) ∙ lines_last p outside start text before d kept here talks some)
+          talks_cut p outside start text before d kept here talks now failed (text ++ []) []
+          (ap lines_of (append-nil text) ∙ lines_last p outside start text before d kept here talks some)
           (subst (λ r. HeardPart r d (record { before = here; now = now; failed = failed })) (says talks.rest talks.pending) part)
 
   -- ---- one byte more
 
-  module _ (a d : Debugger X B) (first kept : Kept) (here mid : Option (List ℕ)) (bytes more : List ℕ) (byte : ℕ) (is : more ≡ bytes ++ byte ∷ []) (goes : GoesOn a first here bytes d kept mid) where
-    pub goes_byte : (now : Kept) → (byte == 10) ≡ false → ((line : List ℕ) → kept ≡ pending_of line → now ≡ pending_of (line ++ byte ∷ [])) → GoesOn a first here more d now mid
+  module _ (a d : Debugger X B) (first kept : Kept) (here mid : Option (List ℕ)) (bytes more : List ℕ) (byte : ℕ) (is : more ≡ bytes ++ byte ∷ [])
+      (goes : GoesOn a first here bytes d kept mid) where
+    pub goes_byte : (now : Kept) → (byte == 10) ≡ false → ((line : List ℕ) → kept ≡ pending_of line → now ≡ pending_of (line ++ byte ∷ [])) →
+        GoesOn a first here more d now mid
     goes_byte now other adds p outside start text before talks =
         let on = talks_on p outside start (text ++ bytes) before d kept mid (goes p outside start text before talks) byte now other adds in
         subst (λ t. Talks p outside start t d now before mid) (append_assoc text bytes (byte ∷ []) ∙ ap (λ t. text ++ t) (sym is)) on

@@ -62,7 +62,8 @@ module _ {X : Type 0} {B : X → Type 0} (p : Image) (outside : Environment) whe
         (λ s ls v ks u f g. reaches_both p outside s ls v ks u (reaches_goes p outside old s n mid ls v f) g) y
 
     -- the run ends before the next step
-    pub ends_early : (steps : ℕ) → n < steps → progress c.core ≢ Running → progress c.core ≢ Turned → Sends (Arrives p outside) m here out c → Sends (GoesBy p outside steps old mid) a before out c
+    pub ends_early : (steps : ℕ) → n < steps → progress c.core ≢ Running → progress c.core ≢ Turned → Sends (Arrives p outside) m here out c →
+        Sends (GoesBy p outside steps old mid) a before out c
     ends_early steps below rests goes y s stands =
         let f = x s stands in
         let g = y f.1 f.4 in
@@ -71,7 +72,8 @@ module _ {X : Type 0} {B : X → Type 0} (p : Image) (outside : Environment) whe
 
     -- or there is one step more
     module _ (d : Machine X B) (last : Option (List ℕ)) (y : Sends (Arrives p outside) m here out c) where
-      pub one_more : (new : List Spot) → progress c.core ≡ Running → Sends (Strides p outside.refused mid new) c out last d → Sends (GoesSo p outside (suc n) old new) a before last d
+      pub one_more : (new : List Spot) → progress c.core ≡ Running → Sends (Strides p outside.refused mid new) c out last d →
+          Sends (GoesSo p outside (suc n) old new) a before last d
       one_more new running z s stands =
           let f = x s stands in
           let g = y f.1 f.4 in
@@ -94,8 +96,10 @@ module _ {X : Type 0} {B : X → Type 0} (p : Image) (outside : Environment) whe
 
 -- what goes out in a loop of steps, by what it keeps
 module _ {X : Type 0} {B : X → Type 0} (a m c : Mover X B) (keeps : Keeps a m) (here out : Option (List ℕ)) where
-  pub comes_so : Sends (Arrives m.machine.core.image (outside_of m)) m.machine here out c.machine → Sends (Arrives a.machine.core.image (outside_of a)) m.machine here out c.machine
+  pub comes_so : Sends (Arrives m.machine.core.image (outside_of m)) m.machine here out c.machine →
+      Sends (Arrives a.machine.core.image (outside_of a)) m.machine here out c.machine
   comes_so = heard_as keeps (λ q o. Sends (Arrives q o) m.machine here out c.machine)
 
-  pub cut_so : Breaks (Reaches m.machine.core.image (outside_of m)) m.machine here out c.machine → Breaks (Reaches a.machine.core.image (outside_of a)) m.machine here out c.machine
+  pub cut_so : Breaks (Reaches m.machine.core.image (outside_of m)) m.machine here out c.machine →
+      Breaks (Reaches a.machine.core.image (outside_of a)) m.machine here out c.machine
   cut_so = heard_as keeps (λ q o. Breaks (Reaches q o) m.machine here out c.machine)

@@ -31,15 +31,15 @@ module _ {X : Type 0} {B : X → Type 0} where
   pub keeps_noting : {old new : Mover X B} → Keeps old new → (spots : List Spot) → Keeps old (record new { recent = spots })
   keeps_noting {new = new} keeps spots =
       let ready = keeps.ready in
-      let again : IsReady (record new { recent = spots }) = record { stands = ready.stands; none = ready.none; room = ready.room; timely = ready.timely; few = ready.few } in
+      let again : IsReady (record new { recent = spots }) =
+      record { stands = ready.stands; none = ready.none; room = ready.room; timely = ready.timely; few = ready.few } in
       record { image = keeps.image; natives = keeps.natives; script = keeps.script; turn = keeps.turn; limit = keeps.limit; ready = again }
 
   -- a machine that has moved, and stands for a state, and whose turn is cleared again
   pub keeps_with : (m : Mover X B) → IsReady m → (machine : Machine X B) (turn : LineBuffer) (page : List ℕ) → machine.core.image ≡ m.machine.core.image →
       natives_of machine ≡ natives_of m.machine → turn ≡ m.turn → Stands machine → Keeps m (record m { machine = machine; turn = turn; page = page })
   keeps_with m ready machine turn page image natives same stands =
-      let again : IsReady (record m { machine = machine; turn = turn; page = page }) =
-      record {
+      let again : IsReady (record m { machine = machine; turn = turn; page = page }) = record {
         stands = stands;
         none = ap (λ (t : LineBuffer). t.lines) same ∙ ready.none;
         room = rw (image, ap (λ (t : LineBuffer). t.room) same) ready.room;

@@ -75,7 +75,8 @@ module _ (p : Image) (outside : Environment) (few : outside.limit ≤ 2 ^ 64 - 1
       go (Some ending) leads = absurd (not_ended u.rest.ended ending leads.1 again.going)
       go None leads = by leads.3
         where
-          by : (is_some (payer u.tasks) ≡ true) ⊎ (IsBetween u × (length outside.events - u.rest.delivered < length outside.events - s.rest.delivered)) → left_of u < left_of s
+          by : (is_some (payer u.tasks) ≡ true)
+              ⊎ (IsBetween u × (length outside.events - u.rest.delivered < length outside.events - s.rest.delivered)) → left_of u < left_of s
           by (inl paid) = absurd (unpaid u again paid)
           by (inr told) = falls_told s u idle again leads.2 told.1
 
@@ -107,7 +108,8 @@ module _ (p : Image) (outside : Environment) (few : outside.limit ≤ 2 ^ 64 - 1
           absurd cc
       go None leads = open_by leads.3
         where
-          open_by : (is_some (payer u.tasks) ≡ true) ⊎ (IsBetween u × (length outside.events - u.rest.delivered < length outside.events - s.rest.delivered)) → left_of v < left_of s
+          open_by : (is_some (payer u.tasks) ≡ true)
+              ⊎ (IsBetween u × (length outside.events - u.rest.delivered < length outside.events - s.rest.delivered)) → left_of v < left_of s
           open_by (inl paid) = by leads.2 leads.1 paid
           open_by (inr told) = absurd (between_runs_not u told.0 running)
 

@@ -28,7 +28,8 @@ use Rattle.aom_debug_moves.proofs.Sending.{after_none, sends_if_not, sends_if_so
 
 -- ---- it is a run
 
-reaches_cut : (b : Bool) (p : Image) (outside : Environment) (s : State) (lines : List Line) (u : State) → IfSo b (EndsByLimit p outside) s lines u → Reaches p outside s lines u
+reaches_cut : (b : Bool) (p : Image) (outside : Environment) (s : State) (lines : List Line) (u : State) → IfSo b (EndsByLimit p outside) s lines u →
+    Reaches p outside s lines u
 reaches_cut true p outside s lines u x = x.0
 reaches_cut false p outside s lines u x = subst (λ ls. Reaches p outside s ls u) (sym x.0) (subst (λ v. Reaches p outside s [] v) (sym x.1) from_here)
 

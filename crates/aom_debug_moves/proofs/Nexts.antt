@@ -95,7 +95,8 @@ module _ (p : Image) (m : Parts) (s : State) (st : StandsFor (record { image = p
   -- the first session with it that is there, told by its client, or itself
   data Firsts (n first : ℕ) : Option Seat → Type 0 where
     itself : first ≡ n → Firsts n first None
-    a_session : (c : ℕ) (o : Object) → held s.cells (Elsewhere (Session n c)) ≡ Some o → first ≡ o.name → Firsts n first (Some (record { object = o; place = Elsewhere (Session n c) }))
+    a_session : (c : ℕ) (o : Object) → held s.cells (Elsewhere (Session n c)) ≡ Some o → first ≡ o.name →
+        Firsts n first (Some (record { object = o; place = Elsewhere (Session n c) }))
 
   firsts : (n first : ℕ) → GoesFirst m n first → Firsts n first (first_session s.cells n (service_of s.cells n).sessions)
   firsts n first goes = go (first_there m.clients (sessions_at m.clients n)) refl
@@ -122,16 +123,19 @@ module _ (p : Image) (m : Parts) (s : State) (st : StandsFor (record { image = p
   -- its destruction begins with that of what goes first
   begins_with : (o : Object) (first class : ℕ) → named s.cells o.name ≡ Some o →
       GoesFirst m o.name first → class_at m.cells first ≡ Some class → begins_by class (role_of p class Destruct) ≡ destruction_of p s.cells (Some o)
-  begins_with o first class lives goes told = elim (firsts o.name first goes) as (λ x f. begins_by class (role_of p class Destruct) ≡ destruction_by p (goes_first o x)) [
-    | itself is ↦ sym (ap (destruction_by p) (thing_at o first class lives is told))
-    | a_session c x holds is ↦ sym (ap (destruction_by p) (thing_at x first class (held_lives s.cells (Elsewhere (Session o.name c)) x st.typed.good.tidy holds) is told))
-  ]
+  begins_with o first class lives goes told =
+      elim (firsts o.name first goes) as (λ x f. begins_by class (role_of p class Destruct) ≡ destruction_by p (goes_first o x)) [
+        | itself is ↦ sym (ap (destruction_by p) (thing_at o first class lives is told))
+        | a_session c x holds
+            is ↦ sym (ap (destruction_by p) (thing_at x first class (held_lives s.cells (Elsewhere (Session o.name c)) x st.typed.good.tidy holds) is told))
+      ]
 
   pub destroyed_told : (q : Place) (n first class : ℕ) → n ≡ number (held s.cells q) → Lives m.cells n →
       GoesFirst m n first → class_at m.cells first ≡ Some class → begins_by class (role_of p class Destruct) ≡ destruction_of p s.cells (held s.cells q)
   destroyed_told q n first class is lives goes told =
       let x = owns_living q n is lives in
-      begins_with x.0 first class (held_lives s.cells q x.0 st.typed.good.tidy x.1) (subst (λ k. GoesFirst m k first) x.2 goes) told ∙ sym (ap (destruction_of p s.cells) x.1)
+      begins_with x.0 first class (held_lives s.cells q x.0 st.typed.good.tidy x.1) (subst (λ k. GoesFirst m k first) x.2 goes) told
+      ∙ sym (ap (destruction_of p s.cells) x.1)
 
   -- ---- the task on top
 
@@ -147,16 +151,20 @@ module _ (p : Image) (m : Parts) (s : State) (st : StandsFor (record { image = p
       number ≡ going_here m.stack.tasks → Lives m.cells (going_here m.stack.tasks) → class_at m.cells number ≡ Some class → Gone class ≡ next_in p s s.tasks
   goes_told number class going is lives told = go refl refl (alike m.stack.tasks s.tasks st.agrees.tasks) going is
     where
-      shows : (x : ℕ) (ms : List Machine_task) (ts : List Task) → m.stack.tasks ≡ Destroy_held x ∷ ms → SameTasks ms ts → x ≡ number_of_object (held s.cells (Going (length ts)))
+      shows : (x : ℕ) (ms : List Machine_task) (ts : List Task) → m.stack.tasks ≡ Destroy_held x ∷ ms → SameTasks ms ts →
+          x ≡ number_of_object (held s.cells (Going (length ts)))
       shows x ms ts e same =
           let here : value m (Going (length ts)) ≡ x = ap (λ us. going_in us (length ts)) e ∙ at_top x ms (length ts) (same_length ms ts same) in
           sym here ∙ st.agrees.values (Going (length ts))
 
-      owned : (x : ℕ) (ts : List Task) (o : Option Object) → held s.cells (Going (length ts)) ≡ o → x ≡ number_of_object o → number ≡ x → IsSome (cell_at m.cells number) → Gone class ≡ going_of o
+      owned : (x : ℕ) (ts : List Task) (o : Option Object) → held s.cells (Going (length ts)) ≡ o → x ≡ number_of_object o → number ≡ x →
+          IsSome (cell_at m.cells number) → Gone class ≡ going_of o
       owned x ts None e shown same some = absurd (false≢true (sym (ap is_some (ap (cell_at m.cells) (same ∙ shown) ∙ st.agrees.cells.null_is_none)) ∙ some))
-      owned x ts (Some o) e shown same some = sym (ap gone_by (thing_at o number class (held_lives s.cells (Going (length ts)) o st.typed.good.tidy e) (same ∙ shown) told))
+      owned x ts (Some o) e shown same some =
+          sym (ap gone_by (thing_at o number class (held_lives s.cells (Going (length ts)) o st.typed.good.tidy e) (same ∙ shown) told))
 
-      go : {ms : List Machine_task} {us : List Task} → m.stack.tasks ≡ ms → s.tasks ≡ us → Alike ms us → IsDestroying ms → number ≡ going_here ms → Gone class ≡ next_in p s us
+      go : {ms : List Machine_task} {us : List Task} → m.stack.tasks ≡ ms → s.tasks ≡ us → Alike ms us → IsDestroying ms → number ≡ going_here ms →
+          Gone class ≡ next_in p s us
       go e f (both_go x ms ts small same more) going is = owned x ts
           (held s.cells (Going (length ts))) refl (shows x ms ts e same) is (subst (λ k. IsSome (cell_at m.cells k)) (sym (is ∙ sym (ap going_here e))) lives)
       go e f _ going is = absurd going
@@ -179,7 +187,8 @@ module _ (p : Image) (m : Parts) (s : State) (st : StandsFor (record { image = p
       second x ms ts e f small same o holds =
           let deep = same_length ms ts same in
           let over : (length (Destroy_held x ∷ ms) == length ts) ≡ false = ne_eqb (length (Destroy_held x ∷ ms)) (length ts) (λ even. omega (arith, even, deep)) in
-          let here : value m (Going (length ts)) ≡ x = ap (λ us. going_in us (length ts)) e ∙ ap (λ b. cond b null (going_in (Destroy_held x ∷ ms) (length ts))) over ∙ at_top x ms (length ts) deep in
+          let here : value m (Going (length ts)) ≡ x = ap (λ us. going_in us (length ts)) e
+          ∙ ap (λ b. cond b null (going_in (Destroy_held x ∷ ms) (length ts))) over ∙ at_top x ms (length ts) deep in
           let named_so = held_lives s.cells (Going (length ts)) o st.typed.good.tidy holds in
           let is : x ≡ number (held s.cells (Going (length ts))) = sym here ∙ st.agrees.values (Going (length ts)) in
           let own : x ≡ o.name = is ∙ ap number holds in
@@ -188,13 +197,15 @@ module _ (p : Image) (m : Parts) (s : State) (st : StandsFor (record { image = p
             below = ts;
             tasks = f;
             number = is;
-            lives = subst (Lives m.cells) (sym own) (object_lives_at p m s st.agrees o named_so (object_there p m s st.agrees o named_so (omega (arith, small, own))));
+            lives = subst (Lives m.cells) (sym own)
+                (object_lives_at p m s st.agrees o named_so (object_there p m s st.agrees o named_so (omega (arith, small, own))));
           }
 
       first : (ms : List Machine_task) (ts : List Task) → m.stack.tasks ≡ Closes ∷ ms → s.tasks ≡ Closing ∷ ts → Alike ms ts → ClosesOver s ts → (x : ℕ) × ClosesAt x
       first ms ts e f like over = with_both like e f over.tasks
         where
-          with_both : {ms : List Machine_task} {ts : List Task} → Alike ms ts → m.stack.tasks ≡ Closes ∷ ms → s.tasks ≡ Closing ∷ ts → ts ≡ Destroy ∷ over.below → (x : ℕ) × ClosesAt x
+          with_both : {ms : List Machine_task} {ts : List Task} → Alike ms ts → m.stack.tasks ≡ Closes ∷ ms → s.tasks ≡ Closing ∷ ts →
+              ts ≡ Destroy ∷ over.below → (x : ℕ) × ClosesAt x
           with_both (both_go x ns us small same more) e f g =
               let rest : us ≡ over.below = cc in
               (x, second x ns us e f small same over.object (ap (λ vs. held s.cells (Going (length vs))) rest ∙ over.held))
@@ -205,7 +216,8 @@ module _ (p : Image) (m : Parts) (s : State) (st : StandsFor (record { image = p
       go e f _ closing = absurd closing
 
   -- so what is next is the first step of its destruction
-  pub closes_next_told : (x : ℕ) (at : ClosesAt x) (told : Answer) → told ≡ destruction_of p s.cells (held s.cells (Going (length at.below))) → told ≡ next_in p s s.tasks
+  pub closes_next_told : (x : ℕ) (at : ClosesAt x) (told : Answer) → told ≡ destruction_of p s.cells (held s.cells (Going (length at.below))) →
+      told ≡ next_in p s s.tasks
   closes_next_told x at told is = is ∙ sym (ap (next_in p s) at.tasks)
 
   -- ---- the end of a dispatch
@@ -220,7 +232,8 @@ module _ (p : Image) (m : Parts) (s : State) (st : StandsFor (record { image = p
           by same.0 ∙ ap all (ap (dispatch_of same.0) (sym which) ∙ same.1) ∙ sym (is e ts)
       go _ ending = absurd (none-some d ending)
 
-  pub none_ends_told : (in_tasks : List Task → Bool) → ((us : List Task) → NoEnd us → in_tasks us ≡ false) → ending_here m.stack.tasks ≡ None → false ≡ in_tasks s.tasks
+  pub none_ends_told : (in_tasks : List Task → Bool) → ((us : List Task) → NoEnd us → in_tasks us ≡ false) → ending_here m.stack.tasks ≡ None →
+      false ≡ in_tasks s.tasks
   none_ends_told in_tasks is none = go (alike m.stack.tasks s.tasks st.agrees.tasks) none
     where
       go : {ms : List Machine_task} {us : List Task} → Alike ms us → ending_here ms ≡ None → false ≡ in_tasks us

@@ -90,10 +90,12 @@ module _ (p : Image) (outside : Environment) (stays : State → Bool) (old : Lis
 
 -- so far, with something at hand only at a place to stay
 abbrev pub GoesFar : Image → Environment → (State → Bool) → Courses
-GoesFar p outside stays old new s lines u = (n : ℕ) × Then (λ a ls b. Passes p outside stays old a n new ls b) (Arrives p outside) s lines u × HasBegun n s × IsThere stays u
+GoesFar p outside stays old new s lines u = (n : ℕ) × Then (λ a ls b. Passes p outside stays old a n new ls b) (Arrives p outside) s lines u
+    × HasBegun n s × IsThere stays u
 
 module _ (p : Image) (outside : Environment) (stays : State → Bool) where
-  far_first : (old new : List Spot) (s : State) (ls : List Line) (u : State) → WalksIfAny p outside.refused stays old new s ls u → GoesFar p outside stays old new s ls u
+  far_first : (old new : List Spot) (s : State) (ls : List Line) (u : State) → WalksIfAny p outside.refused stays old new s ls u →
+      GoesFar p outside stays old new s ls u
   far_first old new s ls u (inl y) = (
     0,
     (s, [], [], subst (λ spots. Passes p outside stays old s 0 spots [] s) (sym y.1.2) passes_none, subst (λ v. Arrives p outside s [] v) (sym y.1.1) no_turns, y.1.0),
@@ -137,12 +139,14 @@ module _ (p : Image) (outside : Environment) (stays : State → Bool) where
             let text = x.1.1 ++ ((x.1.2 ++ z.1) ++ z.2) in
             (suc all.0, (u, text, [], all.1, no_turns, lines_on ∙ sym (append-nil text)), (λ running none. absurd cc), y.1.2)
 
-        go : (IsOver z.0 × Rests mid new z.0 z.2 u) ⊎ (IsAtHand z.0 × WalksOn p outside.refused stays mid new z.0 z.2 u) → GoesFar p outside stays old new s (ls ++ ks) u
+        go : (IsOver z.0 × Rests mid new z.0 z.2 u) ⊎ (IsAtHand z.0 × WalksOn p outside.refused stays mid new z.0 z.2 u) →
+            GoesFar p outside stays old new s (ls ++ ks) u
         go (inl y) = far_turned y.1 (inl (over_rests z.0 y.0))
         go (inr y) = by y.1
 
   -- the run is over, or it is at a place to stay
-  goes_on_by : (old new : List Spot) (s : State) (ls : List Line) (u : State) → progress_of u ≢ Turned → GoesFar p outside stays old new s ls u → GoesOn p outside stays old new s ls u
+  goes_on_by : (old new : List Spot) (s : State) (ls : List Line) (u : State) → progress_of u ≢ Turned → GoesFar p outside stays old new s ls u →
+      GoesOn p outside stays old new s ls u
   goes_on_by old new s ls u goes x = (x.0, x.1, x.2, go x.3)
     where
       go : IsThere stays u → IsOver u ⊎ (stays u ≡ true)
@@ -159,7 +163,8 @@ module _ {X : Type 0} {B : X → Type 0} (p : Image) (outside : Environment) (st
   begins_far old new a c before out x s stands = let f = x s stands in (f.0, f.1, far_first p outside stays old new s f.0 f.1 f.2, f.3, f.4)
 
   module _ (old mid : List Spot) (a m c : Machine X B) (before here out : Option (List ℕ)) (x : Sends (GoesFar p outside stays old mid) a before here m) where
-    pub goes_far : (new : List Spot) → Sends (InDispatch p outside (WalksOn p outside.refused stays) mid new) m here out c → Sends (GoesFar p outside stays old new) a before out c
+    pub goes_far : (new : List Spot) → Sends (InDispatch p outside (WalksOn p outside.refused stays) mid new) m here out c →
+        Sends (GoesFar p outside stays old new) a before out c
     goes_far new y s stands =
         let f = x s stands in
         let g = y f.1 f.4 in
@@ -180,7 +185,8 @@ module _ {X : Type 0} {B : X → Type 0} (p : Image) (outside : Environment) (st
 module _ {X : Type 0} {B : X → Type 0} (a m n : Mover X B) (keeps : Keeps a m) (until : Until) (marks : List Spot) (here out : Option (List ℕ)) where
   -- a dispatch from one state to another, up to a place to stay
   abbrev Passed : Image → Environment → Type 0
-  Passed q outside = Sends (InDispatch q outside (WalksOn q outside.refused (λ (s : State). stays_at q until marks s)) m.recent n.recent) m.machine here out n.machine
+  Passed q outside = Sends (InDispatch q outside (WalksOn q outside.refused (λ (s : State). stays_at q until marks s)) m.recent n.recent)
+      m.machine here out n.machine
 
   pub passed : Passed m.machine.core.image (outside_of m) → Passed a.machine.core.image (outside_of a)
   passed = heard_as keeps Passed

@@ -27,11 +27,13 @@ pub reaches_by : (p : Image) (outside : Environment) (steps : ℕ) (old new : Li
 reaches_by p outside steps old new s lines u (inl x) = reaches_goes p outside old s steps new lines u x
 reaches_by p outside steps old new s lines u (inr y) =
     let z = y.2 in
-    subst (λ ls. Reaches p outside s ls u) (sym z.5) (reaches_both p outside s z.1 z.0 z.2 u (reaches_goes p outside old s y.0 new z.1 z.0 z.3) (reaches_arrived p outside z.0 z.2 u z.4))
+    subst (λ ls. Reaches p outside s ls u) (sym z.5)
+    (reaches_both p outside s z.1 z.0 z.2 u (reaches_goes p outside old s y.0 new z.1 z.0 z.3) (reaches_arrived p outside z.0 z.2 u z.4))
 
 -- turns, and then moves in a dispatch
-reaches_in : (p : Image) (outside : Environment) (leads : Courses) → ((old new : List Spot) (s : State) (lines : List Line) (u : State) → leads old new s lines u → Moving p outside.refused s lines u)
-    → (old new : List Spot) (s : State) (lines : List Line) (u : State) → InDispatch p outside leads old new s lines u → Reaches p outside s lines u
+reaches_in : (p : Image) (outside : Environment) (leads : Courses) →
+    ((old new : List Spot) (s : State) (lines : List Line) (u : State) → leads old new s lines u → Moving p outside.refused s lines u) →
+    (old new : List Spot) (s : State) (lines : List Line) (u : State) → InDispatch p outside leads old new s lines u → Reaches p outside s lines u
 reaches_in p outside leads moves old new s lines u x = subst (λ ls. Reaches p outside s ls u) (sym x.5) (go x.4)
   where
     go : (IsOver x.0 × Rests old new x.0 x.2 u) ⊎ (IsAtHand x.0 × leads old new x.0 x.2 u) → Reaches p outside s (x.1 ++ x.2) u
@@ -45,7 +47,8 @@ moving_there : (p : Image) (refused : List ℕ) (stays : State → Bool) (old ne
     WalksThere p refused stays old new s lines u → Moving p refused s lines u
 moving_there p refused stays old new s lines u x = moving_walk p refused stays old s (suc x.0) new lines u x.1
 
-pub reaches_over : (p : Image) (outside : Environment) (old new : List Spot) (s : State) (lines : List Line) (u : State) → TurnsOver p outside old new s lines u → Reaches p outside s lines u
+pub reaches_over : (p : Image) (outside : Environment) (old new : List Spot) (s : State) (lines : List Line) (u : State) →
+    TurnsOver p outside old new s lines u → Reaches p outside s lines u
 reaches_over p outside = reaches_in p outside (WalksThere p outside.refused (λ s. root_is_due p s)) (moving_there p outside.refused (λ s. root_is_due p s))
 
 pub reaches_step_over : (p : Image) (outside : Environment) (scope : Awaited) (spots : List Spot)
@@ -57,7 +60,8 @@ pub reaches_on : (p : Image) (outside : Environment) (stays : State → Bool) (o
     GoesOn p outside stays old new s lines u → Reaches p outside s lines u
 reaches_on p outside stays old new s lines u x =
     let z = x.1 in
-    subst (λ ls. Reaches p outside s ls u) (sym z.5) (reaches_both p outside s z.1 z.0 z.2 u (reaches_passed p outside stays old s x.0 new z.1 z.0 z.3) (reaches_arrived p outside z.0 z.2 u z.4))
+    subst (λ ls. Reaches p outside s ls u) (sym z.5)
+    (reaches_both p outside s z.1 z.0 z.2 u (reaches_passed p outside stays old s x.0 new z.1 z.0 z.3) (reaches_arrived p outside z.0 z.2 u z.4))
 
 -- with the run's end by its limit it is a run too
 reaches_way : (p : Image) (outside : Environment) (spots : List Spot) (way : Course) (old new : List Spot) (s : State) (lines : List Line) (u : State) →

@@ -56,7 +56,8 @@ last_under (t ∷ ts) =
 alike : (m : Machine_task) (u : Task) → SameTask m u → runs m ≡ is_method u
 alike m u same = grind arith
 
-one_more : (m : Machine_task) (u : Task) (ms : List Machine_task) (us : List Task) → SameTask m u → length ms ≡ length us → under_run ms ≡ under_method us → under_run (m ∷ ms) ≡ under_method (u ∷ us)
+one_more : (m : Machine_task) (u : Task) (ms : List Machine_task) (us : List Task) → SameTask m u → length ms ≡ length us → under_run ms ≡ under_method us →
+    under_run (m ∷ ms) ≡ under_method (u ∷ us)
 one_more m u ms us same long below = ap (λ b. cond b (length ms) (under_run ms)) (alike m u same)
     ∙ ap (λ n. cond (is_method u) n (under_run ms)) long ∙ ap (λ k. cond (is_method u) (length us) k) below
 

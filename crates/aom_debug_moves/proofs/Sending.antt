@@ -37,12 +37,14 @@ running_of s hand = ap (λ e. progress_by e s.tasks) hand.going ∙ ap (λ ts. p
 pub moving_of : (p : Image) (refused : List ℕ) (s : State) (lines : List Line) (u : State) → StepsOnce p refused s lines u → Moving p refused s lines u
 moving_of p refused s lines u x = steps_on p refused x.0 s [] s lines u begins x.1
 
-pub moving_if : (b : Bool) (p : Image) (refused : List ℕ) (s : State) (lines : List Line) (u : State) → IfSo b (StepsOnce p refused) s lines u → Moving p refused s lines u
+pub moving_if : (b : Bool) (p : Image) (refused : List ℕ) (s : State) (lines : List Line) (u : State) → IfSo b (StepsOnce p refused) s lines u →
+    Moving p refused s lines u
 moving_if true p refused s lines u x = moving_of p refused s lines u x
 moving_if false p refused s lines u x = subst (λ ls. Moving p refused s ls u) (sym x.0) (subst (λ v. Moving p refused s [] v) (sym x.1) begins)
 
 -- a step of a debugger is moves
-pub moving_stride : (p : Image) (refused : List ℕ) (old new : List Spot) (s : State) (lines : List Line) (u : State) → Strides p refused old new s lines u → Moving p refused s lines u
+pub moving_stride : (p : Image) (refused : List ℕ) (old new : List Spot) (s : State) (lines : List Line) (u : State) → Strides p refused old new s lines u →
+    Moving p refused s lines u
 moving_stride p refused old new s lines u x =
     let first = moving_if (root_is_due p s) p refused s x.1 x.0 x.3 in
     let y = x.4.1 in
@@ -54,7 +56,8 @@ moving_stride p refused old new s lines u x =
 -- turns one after another are a run
 pub reaches_arrived : (p : Image) (outside : Environment) (s : State) (lines : List Line) (u : State) → Arrives p outside s lines u → Reaches p outside s lines u
 reaches_arrived p outside s _ _ stays = reaches_begins
-reaches_arrived p outside s _ _ (turns {lines} {more} {v} {u} before idle once) = reaches_both p outside s lines v more u (reaches_arrived p outside s lines v before) once.1
+reaches_arrived p outside s _ _ (turns {lines} {more} {v} {u} before idle once) =
+    reaches_both p outside s lines v more u (reaches_arrived p outside s lines v before) once.1
 
 -- how far it is to a state at which something is at hand
 abbrev pub to_go : Progress → ℕ → ℕ
@@ -68,8 +71,10 @@ nearer Running new old less = omega arith
 nearer (Ended ending) new old less = omega arith
 
 -- what is out after two texts
-pub sent_both : (before mid out : Option (List ℕ)) (a b : List Line) → mid ≡ after before (text_of a) → out ≡ after mid (text_of b) → out ≡ after before (text_of (a ++ b))
-sent_both before mid out a b first later = later ∙ ap (λ o. after o (text_of b)) first ∙ after_both before (text_of a) (text_of b) ∙ ap (after before) (sym (text_of_both a b))
+pub sent_both : (before mid out : Option (List ℕ)) (a b : List Line) → mid ≡ after before (text_of a) → out ≡ after mid (text_of b) →
+    out ≡ after before (text_of (a ++ b))
+sent_both before mid out a b first later = later ∙ ap (λ o. after o (text_of b)) first ∙ after_both before (text_of a) (text_of b)
+    ∙ ap (after before) (sym (text_of_both a b))
 
 turned_not_running : Turned ≡ Running → ⊥
 turned_not_running e = absurd cc
@@ -97,9 +102,8 @@ module _ {X : Type 0} {B : X → Type 0} where
         let f = x s stands in
         let g = y f.1 f.4 in
         let n = g.3.0 in
-        let text =
-        g.3.1 ∙ ap (λ o. after o (take n (text_of g.0))) f.3 ∙ cut_next before (text_of f.0) (text_of g.0) n ∙ ap (λ t. after before (take (length (text_of f.0) + n) t)) (sym (text_of_both f.0 g.0))
-        in
+        let text = g.3.1 ∙ ap (λ o. after o (take n (text_of g.0))) f.3 ∙ cut_next before (text_of f.0) (text_of g.0) n
+        ∙ ap (λ t. after before (take (length (text_of f.0) + n) t)) (sym (text_of_both f.0 g.0)) in
         (f.0 ++ g.0, g.1, joins s f.0 f.1 g.0 g.1 f.2 g.2, (length (text_of f.0) + n, text), g.4)
 
   pub sends_as : (a c : Machine X B) (before out : Option (List ℕ)) (one other : Leads) →
@@ -109,7 +113,8 @@ module _ {X : Type 0} {B : X → Type 0} where
   pub sends_nothing : (leads : Leads) (m : Machine X B) (out : Option (List ℕ)) → Sends (IfSo false leads) m out out m
   sends_nothing leads m out s stands = ([], s, (refl, refl), after_none out, stands)
 
-  pub sends_if_so : (b : Bool) → b ≡ true → (leads : Leads) (a c : Machine X B) (before out : Option (List ℕ)) → Sends leads a before out c → Sends (IfSo b leads) a before out c
+  pub sends_if_so : (b : Bool) → b ≡ true → (leads : Leads) (a c : Machine X B) (before out : Option (List ℕ)) → Sends leads a before out c →
+      Sends (IfSo b leads) a before out c
   sends_if_so b is leads a c before out x = subst (λ y. Sends (IfSo y leads) a before out c) (sym is) x
 
   pub sends_if_not : (b : Bool) → b ≡ false → (leads : Leads) (m : Machine X B) (out : Option (List ℕ)) → Sends (IfSo b leads) m out out m
@@ -118,7 +123,8 @@ module _ {X : Type 0} {B : X → Type 0} where
   -- what is asked for is what the states say
   pub sends_where : (b : Bool) (test : State → Bool) (leads : Leads) (a c : Machine X B) (before out : Option (List ℕ)) →
       ((s : State) → StandsFor a s → b ≡ test s) → Sends (IfSo b leads) a before out c → Sends (Where test leads) a before out c
-  sends_where b test leads a c before out is x = sends_as a c before out (IfSo b leads) (Where test leads) (λ s stands ls u y. subst (λ z. IfSo z leads s ls u) (is s stands) y) x
+  sends_where b test leads a c before out is x =
+      sends_as a c before out (IfSo b leads) (Where test leads) (λ s stands ls u y. subst (λ z. IfSo z leads s ls u) (is s stands) y) x
 
   -- what one step does, whatever it hears
   abbrev pub Stepped : Machine X B → Progress → LineBuffer → LineBuffer → Machine X B → Type 0
@@ -148,7 +154,8 @@ module _ {X : Type 0} {B : X → Type 0} where
         let x = steps s stands in
         (x.1.0, x.1.1, (x.0, x.1.2), e ∙ ap (λ ls. after before (text_of ls)) (lines_of s stands), x.1.5)
 
-    pub breaks_step : (before out : Option (List ℕ)) (n : ℕ) → out ≡ after before (take n (text_of now.lines)) → Breaks (Moving old.core.image told.refused) old before out new
+    pub breaks_step : (before out : Option (List ℕ)) (n : ℕ) → out ≡ after before (take n (text_of now.lines)) →
+        Breaks (Moving old.core.image told.refused) old before out new
     breaks_step before out n e s stands =
         let x = steps s stands in
         (x.1.0, x.1.1, steps_on old.core.image told.refused x.0 s [] s x.1.0 x.1.1 begins x.1.2, (n, e ∙ ap (λ ls. after before (take n (text_of ls))) (lines_of s stands)), x.1.5)
@@ -159,18 +166,21 @@ module _ {X : Type 0} {B : X → Type 0} where
         let x = steps st.0 st.1 in
         is_as_far old.core st.0 st.1.stands ∙ go x.1.1 x.1.0 x.1.2 (sym (is_as_far new.core x.1.1 x.1.5.stands) ∙ running)
       where
-        go : (u : State) (lines : List Line) → Steps old.core.image told.refused (steps st.0 st.1).0 st.0 lines u → progress_of u ≡ Running → progress_of st.0 ≡ Running
+        go : (u : State) (lines : List Line) → Steps old.core.image told.refused (steps st.0 st.1).0 st.0 lines u → progress_of u ≡ Running →
+            progress_of st.0 ≡ Running
         go u lines (rests done) is = is
         go u lines (moves c hand free hears goes rest) is = running_of st.0 hand
 
   -- ---- turns
 
-  module _ (old new : Machine X B) (outside : Environment) (ending : Option Ending) (told now : LineBuffer) (none : told.lines ≡ []) (takes : TakesTurns old outside ending told now new) where
+  module _ (old new : Machine X B) (outside : Environment) (ending : Option Ending) (told now : LineBuffer) (none : told.lines ≡ [])
+      (takes : TakesTurns old outside ending told now new) where
     pub stands_turned : Stands old → Stands new
     stands_turned st = let x = takes st.0 st.1 in (x.1, x.5)
 
     pub turn_cleared : Stands old → (clear : LineBuffer) → clear ≡ record now { lines = [] } → clear ≡ told
-    turn_cleared st clear is = let x = takes st.0 st.1 in is ∙ ap (λ (t : LineBuffer). record t { lines = [] }) x.3 ∙ ap (λ ls. record told { lines = ls }) (sym none)
+    turn_cleared st clear is = let x = takes st.0 st.1 in is ∙ ap (λ (t : LineBuffer). record t { lines = [] }) x.3
+        ∙ ap (λ ls. record told { lines = ls }) (sym none)
 
     turned_lines : (s : State) (stands : StandsFor old s) → now.lines ≡ (takes s stands).0
     turned_lines s stands = ap (λ (t : LineBuffer). t.lines) (takes s stands).3 ∙ ap (λ ls. ls ++ (takes s stands).0) none
@@ -180,7 +190,8 @@ module _ {X : Type 0} {B : X → Type 0} where
         let x = takes s stands in
         (x.0, x.1, (ending, x.2, x.4), e ∙ ap (λ ls. after before (text_of ls)) (turned_lines s stands), x.5)
 
-    pub breaks_turn : (before out : Option (List ℕ)) (n : ℕ) → out ≡ after before (take n (text_of now.lines)) → Breaks (Reaches old.core.image outside) old before out new
+    pub breaks_turn : (before out : Option (List ℕ)) (n : ℕ) → out ≡ after before (take n (text_of now.lines)) →
+        Breaks (Reaches old.core.image outside) old before out new
     breaks_turn before out n e s stands =
         let x = takes s stands in
         (x.0, x.1, x.2, (n, e ∙ ap (λ ls. after before (take n (text_of ls))) (turned_lines s stands)), x.5)
@@ -208,9 +219,8 @@ module _ {X : Type 0} {B : X → Type 0} where
   pub fewer : (outside : Environment) →
       outside.limit ≤ 2 ^ 64 - 1 → (m mid : Machine X B) (told turn : LineBuffer) (ending : Option Ending) → Stands m → progress m.core ≡ Turned →
       TakesTurns m outside ending told turn mid → progress mid.core ≡ Turned → left outside.events outside.limit mid < left outside.events outside.limit m
-  fewer outside few m mid told turn None stands between takes again =
-      fewer_left outside few m mid mid told turn (record turn { lines = [] }) Turned None None stands between takes
-      (λ s st. ([], s, begins, refl, refl, sym again ∙ is_as_far mid.core s st.stands, (λ no. absurd (turned_not_running no)), st))
+  fewer outside few m mid told turn None stands between takes again = fewer_left outside few m mid mid told turn (record turn { lines = [] }) Turned None None
+      stands between takes (λ s st. ([], s, begins, refl, refl, sym again ∙ is_as_far mid.core s st.stands, (λ no. absurd (turned_not_running no)), st))
   fewer outside few m mid told turn (Some ending) stands between takes again =
       let x = takes stands.0 stands.1 in
       absurd (not_over x.1 ending x.4.1 (sym (is_as_far mid.core x.1 x.5.stands) ∙ again))

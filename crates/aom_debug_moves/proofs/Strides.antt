@@ -40,7 +40,8 @@ module _ {X : Type 0} {B : X → Type 0} (p : Image) (refused : List ℕ) (stays
 
   module _ (old mid : List Spot) (a m c : Machine X B) (before here out : Option (List ℕ)) (x : Sends (Underway p refused stays old mid) a before here m) where
     -- one step more
-    pub steps_more : (new : List Spot) → progress m.core ≡ Running → Sends (Strides p refused mid new) m here out c → Sends (Begun p refused stays old new) a before out c
+    pub steps_more : (new : List Spot) → progress m.core ≡ Running → Sends (Strides p refused mid new) m here out c →
+        Sends (Begun p refused stays old new) a before out c
     steps_more new running y s stands =
         let f = x s stands in
         let g = y f.1 f.4 in
@@ -65,18 +66,22 @@ module _ {X : Type 0} {B : X → Type 0} (p : Image) (refused : List ℕ) (stays
 
   -- ---- where nothing is at hand, or at a place to stay already
 
-  pub rests_here : (spots : List Spot) (m : Machine X B) (out : Option (List ℕ)) (b : Bool) → b ≡ true → Sends (WalksUnless b p refused stays spots spots) m out out m
-  rests_here spots m out b is = subst (λ z. Sends (WalksUnless z p refused stays spots spots) m out out m) (sym is) (λ s stands. ([], s, (refl, refl, refl), after_none out, stands))
+  pub rests_here : (spots : List Spot) (m : Machine X B) (out : Option (List ℕ)) (b : Bool) → b ≡ true →
+      Sends (WalksUnless b p refused stays spots spots) m out out m
+  rests_here spots m out b is =
+      subst (λ z. Sends (WalksUnless z p refused stays spots spots) m out out m) (sym is) (λ s stands. ([], s, (refl, refl, refl), after_none out, stands))
 
   module _ (old new : List Spot) (a c : Machine X B) (before out : Option (List ℕ)) where
     pub goes_on : (b : Bool) → b ≡ false → Sends (WalksThere p refused stays old new) a before out c → Sends (WalksUnless b p refused stays old new) a before out c
     goes_on b is x = subst (λ z. Sends (WalksUnless z p refused stays old new) a before out c) (sym is) x
 
-    pub walked_if_any : (b : Bool) → (b ≡ true → progress a.core ≢ Running) → Sends (WalksUnless b p refused stays old new) a before out c → Sends (WalksIfAny p refused stays old new) a before out c
+    pub walked_if_any : (b : Bool) → (b ≡ true → progress a.core ≢ Running) → Sends (WalksUnless b p refused stays old new) a before out c →
+        Sends (WalksIfAny p refused stays old new) a before out c
     walked_if_any true idle x s stands = let f = x s stands in (f.0, f.1, inl ((λ is. idle refl (is_as_far a.core s stands.stands ∙ is)), f.2), f.3, f.4)
     walked_if_any false idle x s stands = let f = x s stands in (f.0, f.1, inr f.2, f.3, f.4)
 
-    pub walked_on : (b : Bool) → ((s : State) → StandsFor a s → b ≡ stays s) → Sends (WalksUnless b p refused stays old new) a before out c → Sends (WalksOn p refused stays old new) a before out c
+    pub walked_on : (b : Bool) → ((s : State) → StandsFor a s → b ≡ stays s) → Sends (WalksUnless b p refused stays old new) a before out c →
+        Sends (WalksOn p refused stays old new) a before out c
     walked_on true told x s stands = let f = x s stands in (f.0, f.1, inl (sym (told s stands), f.2), f.3, f.4)
     walked_on false told x s stands = let f = x s stands in (f.0, f.1, inr (sym (told s stands), f.2), f.3, f.4)
 
@@ -86,10 +91,10 @@ module _ {X : Type 0} {B : X → Type 0} (a m n : Mover X B) (keeps : Keeps a m)
     (so_far : Sends (Underway a.machine.core.image a.turn.refused stays old m.recent) a.machine before here m.machine) where
   pub stepped : progress m.machine.core ≡ Running → Sends (Strides m.machine.core.image m.turn.refused m.recent n.recent) m.machine here out n.machine
       → Sends (Begun a.machine.core.image a.turn.refused stays old n.recent) a.machine before out n.machine
-  stepped running step =
-      steps_more a.machine.core.image a.turn.refused stays old m.recent a.machine m.machine n.machine before here out so_far n.recent running
+  stepped running step = steps_more a.machine.core.image a.turn.refused stays old m.recent a.machine m.machine n.machine before here out so_far n.recent running
       (begun_as keeps (λ q r. Sends (Strides q r m.recent n.recent) m.machine here out n.machine) step)
 
-  pub step_cut : Breaks (Moving m.machine.core.image m.turn.refused) m.machine here out n.machine → Breaks (Moving a.machine.core.image a.turn.refused) a.machine before out n.machine
+  pub step_cut : Breaks (Moving m.machine.core.image m.turn.refused) m.machine here out n.machine →
+      Breaks (Moving a.machine.core.image a.turn.refused) a.machine before out n.machine
   step_cut cut = steps_cut a.machine.core.image a.turn.refused stays old m.recent a.machine m.machine n.machine before here out so_far
       (begun_as keeps (λ q r. Breaks (Moving q r) m.machine here out n.machine) cut)

@@ -43,7 +43,8 @@ turn_cut p outside a m c before mid out x y = breaks_then a m c before mid out (
     (Reaches p outside) (λ s ls v ks u f g. reaches_both p outside s ls v ks u (reaches_arrived p outside s ls v f) g) (cut_run p outside m c mid out y)
 
 -- so where the turns keep the machine's image and what is refused
-pub walk_cut : {X : Type 0} {B : X → Type 0} (a m n : Mover X B) → Keeps a m → (before mid out : Option (List ℕ)) → Sends (Arrives a.machine.core.image (outside_of a)) a.machine before mid m.machine
-    → Breaks (Moving m.machine.core.image m.turn.refused) m.machine mid out n.machine → Breaks (Reaches a.machine.core.image (outside_of a)) a.machine before out n.machine
+pub walk_cut : {X : Type 0} {B : X → Type 0} (a m n : Mover X B) → Keeps a m → (before mid out : Option (List ℕ)) →
+    Sends (Arrives a.machine.core.image (outside_of a)) a.machine before mid m.machine → Breaks (Moving m.machine.core.image m.turn.refused) m.machine mid out
+    n.machine → Breaks (Reaches a.machine.core.image (outside_of a)) a.machine before out n.machine
 walk_cut a m n keeps before mid out x y = turn_cut a.machine.core.image
     (outside_of a) a.machine m.machine n.machine before mid out x (begun_as keeps (λ q r. Breaks (Moving q r) m.machine mid out n.machine) y)

@@ -31,20 +31,20 @@ module _ (line methods place : ℕ) (s : Statement) (ss : List Statement) (spot 
       let at : spot.place ≡ further = omega (arith, p) in
       later 0 (omega (arith, m)) (ap (λ xs. option_map (λ (x : Statement). x.line) (slice_get xs spot.place)) (part_yes (begins k.Method) s ss 0 starts)
       ∙ ap (λ n. option_map (λ (x : Statement). x.line) (slice_get (part (begins k.Method) ss 0) n)) at ∙ l)
-  behind_method starts (later number m l) =
-      later (suc number) (omega (arith, m)) (ap (λ xs. option_map (λ (x : Statement). x.line) (slice_get xs spot.place)) (part_yes (begins k.Method) s ss (suc number) starts) ∙ l)
+  behind_method starts (later number m l) = later (suc number) (omega (arith, m))
+      (ap (λ xs. option_map (λ (x : Statement). x.line) (slice_get xs spot.place)) (part_yes (begins k.Method) s ss (suc number) starts) ∙ l)
 
   -- or it stands in the part at hand
   behind_other : begins k.Method s ≡ false → Stands line methods (place + 1) ss spot → Stands line methods place (s ∷ ss) spot
-  behind_other stands (here further m p l) =
-      here (suc further) m (omega (arith, p)) (ap (λ xs. option_map (λ (x : Statement). x.line) (slice_get xs (suc further))) (part_first (begins k.Method) s ss stands) ∙ l)
+  behind_other stands (here further m p l) = here (suc further) m (omega (arith, p))
+      (ap (λ xs. option_map (λ (x : Statement). x.line) (slice_get xs (suc further))) (part_first (begins k.Method) s ss stands) ∙ l)
   behind_other stands (later number m l) =
       later number m (ap (λ xs. option_map (λ (x : Statement). x.line) (slice_get xs spot.place)) (part_no (begins k.Method) s ss number stands) ∙ l)
 
   -- or it is the one
   at_last : begins k.Method s ≡ false → s.line ≡ line → methods ≡ suc spot.method → spot.place ≡ place → Stands line methods place (s ∷ ss) spot
-  at_last stands is m p =
-      here 0 m (omega (arith, p)) (ap (λ xs. option_map (λ (x : Statement). x.line) (slice_get xs 0)) (part_first (begins k.Method) s ss stands) ∙ ap (λ (n : ℕ). Some n) is)
+  at_last stands is m p = here 0 m (omega (arith, p))
+      (ap (λ xs. option_map (λ (x : Statement). x.line) (slice_get xs 0)) (part_first (begins k.Method) s ss stands) ∙ ap (λ (n : ℕ). Some n) is)
 
 -- the place at hand
 placed : (methods place : ℕ) (spot : Spot) → place_in methods place ≡ Some spot → (methods ≡ suc spot.method) × (spot.place ≡ place)
@@ -52,7 +52,8 @@ placed zero place spot is = absurd (none-some spot is)
 placed (suc method) place spot is = go (nat_le method 65535) is
   where
     go : (b : Bool) → cond b (Some (record { method = method; place = place })) None ≡ Some spot → (suc method ≡ suc spot.method) × (spot.place ≡ place)
-    go true e = let same = same_Some (record { method = method; place = place }) spot e in (ap (λ (x : Spot). suc x.method) same, sym (ap (λ (x : Spot). x.place) same))
+    go true e = let same = same_Some (record { method = method; place = place }) spot e in
+        (ap (λ (x : Spot). suc x.method) same, sym (ap (λ (x : Spot). x.place) same))
     go false e = absurd (none-some spot e)
 
 -- what is found where a search may go on is found in the rest
@@ -69,7 +70,8 @@ one_behind line methods place s ss spot next further is = method (begins k.Metho
     other : begins k.Method s ≡ false → (b : Bool) → (s.line == line) ≡ b → cond b
         (place_in methods place) (cond (nat_lt place 65536) (spot_from line methods (place + 1) ss) None) ≡ Some spot → Stands line methods place (s ∷ ss) spot
     other stands true at e = let there = placed methods place spot e in at_last line methods place s ss spot stands (eqb-true s.line line at) there.0 there.1
-    other stands false at e = behind_other line methods place s ss spot stands (further (went_on (nat_lt place 65536) (spot_from line methods (place + 1) ss) spot e))
+    other stands false at e =
+        behind_other line methods place s ss spot stands (further (went_on (nat_lt place 65536) (spot_from line methods (place + 1) ss) spot e))
 
     method : (b : Bool) → begins k.Method s ≡ b → cond b (cond (nat_lt methods 65536) (spot_from line (methods + 1) 0 ss) None) (cond (s.line == line)
         (place_in methods place) (cond (nat_lt place 65536) (spot_from line methods (place + 1) ss) None)) ≡ Some spot → Stands line methods place (s ∷ ss) spot
@@ -79,14 +81,17 @@ one_behind line methods place s ss spot next further is = method (begins k.Metho
 -- what is found in the rest of a text stands there
 found : (line methods place : ℕ) (ss : List Statement) (spot : Spot) → spot_from line methods place ss ≡ Some spot → Stands line methods place ss spot
 found line methods place [] spot is = absurd (none-some spot is)
-found line methods place (s ∷ ss) spot is = one_behind line methods place s ss spot (λ e. found line (methods + 1) 0 ss spot e) (λ e. found line methods (place + 1) ss spot e) is
+found line methods place (s ∷ ss) spot is =
+    one_behind line methods place s ss spot (λ e. found line (methods + 1) 0 ss spot e) (λ e. found line methods (place + 1) ss spot e) is
 
 -- from the beginning of a text on no method was declared before, so that it stands in a part that one begins
-in_text : (text : List ℕ) (line : ℕ) (spot : Spot) → Stands line 0 0 (statements text) spot → option_map (λ (s : Statement). s.line) (statement_at (names_of text) spot) ≡ Some line
+in_text : (text : List ℕ) (line : ℕ) (spot : Spot) → Stands line 0 0 (statements text) spot →
+    option_map (λ (s : Statement). s.line) (statement_at (names_of text) spot) ≡ Some line
 in_text text line spot (here further m p l) = absurd (omega (arith, m))
 in_text text line spot (later number m l) =
     let same : spot.method + 1 ≡ suc number = omega (arith, m) in
     ap (λ n. option_map (λ (s : Statement). s.line) (slice_get (part (begins k.Method) (statements text) n) spot.place)) same ∙ l
 
-pub found_in_line : (text : List ℕ) (line : ℕ) (spot : Spot) → spot_in text line ≡ Some spot → option_map (λ s. s.line) (statement_at (names_of text) spot) ≡ Some line
+pub found_in_line : (text : List ℕ) (line : ℕ) (spot : Spot) → spot_in text line ≡ Some spot →
+    option_map (λ s. s.line) (statement_at (names_of text) spot) ≡ Some line
 found_in_line text line spot is = in_text text line spot (found line 0 0 (statements text) spot is)

@@ -25,11 +25,8 @@ module _ (f : ℕ → Bool) (k : ℕ) where
   -- it is none of the first so many; it is the next, or not
   pub numbered_told : (n here others : ℕ) (b : Bool) →
       here ≡ cond (f n) 1 0 → others ≡ counted f n → numbered f k n ≡ None → ((here == 1) && (others == k)) ≡ b → numbered f k (suc n) ≡ cond b (Some n) None
-  numbered_told n here others b is count none told =
-      ap (λ o. or_else o (at_count f k n)) none
-      ∙ ap (λ c. cond (c && (counted f n == k)) (Some n) None) (sym (is_so here n is))
-      ∙ ap (λ j. cond ((here == 1) && (j == k)) (Some n) None) (sym count)
-      ∙ ap (λ c. cond c (Some n) None) told
+  numbered_told n here others b is count none told = ap (λ o. or_else o (at_count f k n)) none ∙ ap (λ c. cond (c && (counted f n == k)) (Some n) None)
+      (sym (is_so here n is)) ∙ ap (λ j. cond ((here == 1) && (j == k)) (Some n) None) (sym count) ∙ ap (λ c. cond c (Some n) None) told
 
   -- then it is that of any more
   pub numbered_more : (n m d : ℕ) → n ≤ m → numbered f k n ≡ Some d → numbered f k m ≡ Some d

@@ -31,10 +31,8 @@ held_same s x y h same is = subst (λ o. IsHeld s o h) same is
 -- on from an object to what a branch leads to
 pub onward_object : (s : State) (o : Option Object) (cell class : ℕ) (b : Branch) (h : Holding) →
     IsHeld s o (holds.Object cell class) → IsHeld s (held s.cells (branch_place cell b)) h → IsHeld s (onward s.cells o b) h
-onward_object s o cell class b h is there =
-    held_same s _ _ h
-    (ap (λ n. held s.cells (branch_place n b)) (sym is.3) ∙ ap (λ t. owned_by t (held s.cells (branch_place is.0.name b))) (sym is.2) ∙ ap (λ x. onward s.cells x b) (sym is.1))
-    there
+onward_object s o cell class b h is there = held_same s _ _ h (ap (λ n. held s.cells (branch_place n b)) (sym is.3)
+    ∙ ap (λ t. owned_by t (held s.cells (branch_place is.0.name b))) (sym is.2) ∙ ap (λ x. onward s.cells x b) (sym is.1)) there
 
 -- from nothing, and from a message, to nothing
 pub onward_nothing : (s : State) (o : Option Object) (b : Branch) → o ≡ None → onward s.cells o b ≡ None

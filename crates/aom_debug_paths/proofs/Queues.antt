@@ -29,7 +29,8 @@ entry_told k (Close c) = refl
 
 entries_told : (k : kept.State) (es : List QueueEntry) → map (λ e. taken_answer (taken_entry k e)) es ≡ map asked_answer (map (asked_by k.places) es)
 entries_told k [] = refl
-entries_told k (e ∷ es) = ap (λ a. a ∷ map (λ x. taken_answer (taken_entry k x)) es) (entry_told k e) ∙ ap (λ ys. asked_answer (asked_by k.places e) ∷ ys) (entries_told k es)
+entries_told k (e ∷ es) = ap (λ a. a ∷ map (λ x. taken_answer (taken_entry k x)) es) (entry_told k e)
+    ∙ ap (λ ys. asked_answer (asked_by k.places e) ∷ ys) (entries_told k es)
 
 -- what is told of what waits behind so many others
 abbrev pub entry_lines : Parts → ℕ → ℕ → List Answer
@@ -38,14 +39,11 @@ entry_lines m n i = listed (option_map (λ e. taken_answer (taken_entry m.client
 -- all of a queue
 pub queue_told : (p : Image) (m : Parts) (s : State) → StandsFor (record { image = p; parts = m }) s → (n : ℕ) →
     gathered (entry_lines m n) (length (queue_at m.clients n)) ≡ waiting_lines (service_of s.cells n).queue
-queue_told p m s st n =
-    items_answered (λ e. taken_answer (taken_entry m.clients e)) (queue_at m.clients n)
-    ∙ entries_told m.clients (queue_at m.clients n)
+queue_told p m s st n = items_answered (λ e. taken_answer (taken_entry m.clients e)) (queue_at m.clients n) ∙ entries_told m.clients (queue_at m.clients n)
     ∙ ap (map asked_answer) (st.agrees.services.clients.queues n)
 
 pub queue_found : (cs : List Cell) (x : Option Object) (f : Found) → IsFound x (Some f) → queue_in cs x ≡ Some (waiting_lines (service_of cs f.cell).queue)
-queue_found cs x f is =
-    ap (λ y. queue_in cs y) is.1 ∙ ap (λ t. object_queue cs is.0.name t) is.2 ∙ ap (λ n. Some (waiting_lines (service_of cs n).queue)) is.3
+queue_found cs x f is = ap (λ y. queue_in cs y) is.1 ∙ ap (λ t. object_queue cs is.0.name t) is.2 ∙ ap (λ n. Some (waiting_lines (service_of cs n).queue)) is.3
 
 -- and there is none where there is no object
 pub queue_none : (cs : List Cell) (x : Option Object) → IsFound x None → queue_in cs x ≡ None

@@ -17,7 +17,8 @@ use Rattle.aom_debug_views.specs.Sights.{class_in, class_of}
 use Rattle.aom_debug_paths.specs.declared.following.Found.{Found}
 use Rattle.aom_debug_paths.specs.Paths.{IsFound, object_words, word_lines, words_in}
 
-pub words_found : (p : Image) (cs : List Cell) (x : Option Object) (f : Found) → IsFound x (Some f) → words_in p cs x ≡ Some (word_lines cs f.cell (words_of p f.class))
+pub words_found : (p : Image) (cs : List Cell) (x : Option Object) (f : Found) → IsFound x (Some f) →
+    words_in p cs x ≡ Some (word_lines cs f.cell (words_of p f.class))
 words_found p cs x f is =
     ap (λ y. words_in p cs y) is.1 ∙ ap (λ t. object_words p cs is.0.name t) is.2 ∙ ap (λ n. Some (word_lines cs n (words_of p f.class))) is.3
 
@@ -31,7 +32,8 @@ words_none p cs (Some o) none = go o.thing none
     go A_message is = refl
 
 -- a word of what lives in a cell
-pub word_told : (p : Image) (m : Parts) (s : State) → StandsFor (record { image = p; parts = m }) s → (n : ℕ) → Lives m.cells n → (w : ℕ) → word_at m.cells n w ≡ word_field s.cells n w
+pub word_told : (p : Image) (m : Parts) (s : State) → StandsFor (record { image = p; parts = m }) s → (n : ℕ) → Lives m.cells n → (w : ℕ) →
+    word_at m.cells n w ≡ word_field s.cells n w
 word_told p m s st n lives w = st.agrees.cells.words n w (below (cell_at m.cells n) refl lives)
   where
     below : (o : Option Machine_cell) → cell_at m.cells n ≡ o → IsSome o → n < 4096

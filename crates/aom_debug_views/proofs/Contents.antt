@@ -51,21 +51,24 @@ use Rattle.aom_debug_views.proofs.Words.{kind_there, word_shown}
 class_content : (cs : List Cell) (o : Option Object) (class : ℕ) → class_of o ≡ Some class → Some (contents.Own class) ≡ owned_content cs o
 class_content cs x class is = grind (arith, nat_tests, thing_is)
 
-module _ (p : Image) (m : Parts) (n : ℕ) (r : Place) (shows : Shows (record { image = p; parts = m }) n r) (s : State) (st : StandsFor (record { image = p; parts = m }) s) where
+module _ (p : Image) (m : Parts) (n : ℕ) (r : Place) (shows : Shows (record { image = p; parts = m }) n r) (s : State)
+    (st : StandsFor (record { image = p; parts = m }) s) where
   pub null_content : n ≡ null → Some contents.Null ≡ owned_content s.cells (held s.cells r)
   null_content is = grind (arith, nat_tests, not_null p m st.typing s st.typed st.agrees r)
 
   pub own_content : (class : ℕ) → Some class ≡ class_at m.cells n → Some (contents.Own class) ≡ owned_content s.cells (held s.cells r)
   own_content class is = class_content s.cells (held s.cells r) class (sym (class_held p m s st r n (shows.each s st)) ∙ sym is)
 
-  pub message_content : (source : Source) → None ≡ class_at m.cells n → Some source ≡ source_at m n → Some (contents.Message source) ≡ owned_content s.cells (held s.cells r)
+  pub message_content : (source : Source) → None ≡ class_at m.cells n → Some source ≡ source_at m n →
+      Some (contents.Message source) ≡ owned_content s.cells (held s.cells r)
   message_content source none told = grind (arith, nat_tests, message_found p m n source r s st shows)
 
   pub no_content : n ≢ null → (Lives m.cells n → ⊥) → None ≡ source_at m n → None ≡ owned_content s.cells (held s.cells r)
   no_content some dead unsent = absurd (some (shows.each s st ∙ ap number ((none_sends p m n r dead (sym unsent) shows).each s st)))
 
   -- what has a number and no class is a message
-  pub unclassed_content : n ≢ null → None ≡ class_at m.cells n → option_map (λ source. contents.Message source) (source_at m n) ≡ owned_content s.cells (held s.cells r)
+  pub unclassed_content : n ≢ null → None ≡ class_at m.cells n →
+      option_map (λ source. contents.Message source) (source_at m n) ≡ owned_content s.cells (held s.cells r)
   unclassed_content some none = go (source_at m n) refl
     where
       dead : (c : Option Machine_cell) → None ≡ class_of_cell c → IsSome c → ⊥
@@ -81,13 +84,15 @@ module _ (p : Image) (m : Parts) (stands : Stands (record { image = p; parts = m
   abbrev M : Machine
   M = record { image = p; parts = m }
 
-  pub frame_shows : (k : ℕ) (f : Machine_frame) (sh : Shape) → over m.stack.tasks k ≡ Some (Runs_frame f) → IsShapeAt p f.method f.place (Some sh) → ShowsFrame M sh f k
+  pub frame_shows : (k : ℕ) (f : Machine_frame) (sh : Shape) → over m.stack.tasks k ≡ Some (Runs_frame f) →
+      IsShapeAt p f.method f.place (Some sh) → ShowsFrame M sh f k
   frame_shows k f sh there shape = record {
     there = λ s st. frame_there p m s st k f there;
     registers = λ i. by i (register sh i) refl ((frame_shown p m agrees k f sh there shape).each i);
   }
     where
-      by : (i : ℕ) (kind : Kind) → register sh i ≡ kind → ShowsIf (may_own kind) M (slice_index_or f.registers i null) (Register k i) → RegisterShows M kind (slice_index_or f.registers i null) k i
+      by : (i : ℕ) (kind : Kind) → register sh i ≡ kind → ShowsIf (may_own kind) M (slice_index_or f.registers i null) (Register k i) →
+          RegisterShows M kind (slice_index_or f.registers i null) k i
       by i Unset is shows = tt
       by i Word is shows = word_shown p m k i f sh there (frame_method p m agrees stands k f there) shape is
       by i Null is shows = shows
@@ -190,7 +195,8 @@ same_register : (kinds others : ℕ → Kind) → ((i : ℕ) → kinds i ≡ oth
     (cs : List Cell) (depth : ℕ) (o : Option Task) (i : ℕ) → listed (register_in kinds cs depth o i) ≡ listed (register_in others cs depth o i)
 same_register kinds others same cs depth x i = grind arith
 
-same_lines : (kinds others : ℕ → Kind) → ((i : ℕ) → kinds i ≡ others i) → (s : State) (depth : ℕ) (o : Option Task) → frame_lines kinds s depth o ≡ frame_lines others s depth o
+same_lines : (kinds others : ℕ → Kind) → ((i : ℕ) → kinds i ≡ others i) → (s : State) (depth : ℕ) (o : Option Task) →
+    frame_lines kinds s depth o ≡ frame_lines others s depth o
 same_lines kinds others same s depth o = grind arith
 
 pub typed_lines : (ns : Names) (p : Image) (m : Parts) (f : Machine_frame) (sh : Shape) (depth : ℕ) → ShowsFrame (record { image = p; parts = m }) sh f depth →

@@ -90,9 +90,8 @@ module _ (p : Image) (m : Parts) (s : State) (st : StandsFor (record { image = p
   names_below class n k is = grind (arith, nat_tests, class_named p m s st n)
 
   pub class_counted : (class count : ℕ) → count ≡ counted (λ n. is_class class (class_at m.cells n)) m.cells.limit → count ≡ count_class class s.cells
-  class_counted class count is =
-      is ∙ counted_same (λ n. is_class class (class_at m.cells n)) (has class s.cells) m.cells.limit (λ k less. ap (is_class class) (class_named p m s st k))
-      ∙ counted_names class m.cells.limit s.cells st.typed.good.tidy (names_below class)
+  class_counted class count is = is ∙ counted_same (λ n. is_class class (class_at m.cells n)) (has class s.cells) m.cells.limit
+      (λ k less. ap (is_class class) (class_named p m s st k)) ∙ counted_names class m.cells.limit s.cells st.typed.good.tidy (names_below class)
 
 -- how many there are in all
 module _ (ns : Names) (m : Parts) (n : ℕ) (is : n ≡ living m.cells) (p : Image) where
@@ -102,7 +101,8 @@ module _ (ns : Names) (m : Parts) (n : ℕ) (is : n ≡ living m.cells) (p : Ima
   same_count : (s : State) → StandsFor (record { image = p; parts = m }) s → ended (answer_by ns (Cells n)) ≡ answers_by ns (all_cells s)
   same_count s st = grind (arith, nat_tests, append-nil)
 
-  pub count_told : (before now : Option (List ℕ)) → now ≡ after before (ended (answer_by ns (Cells n))) → Tells (record { image = p; parts = m }) (λ s. answers_by ns (all_cells s)) before now
+  pub count_told : (before now : Option (List ℕ)) → now ≡ after before (ended (answer_by ns (Cells n))) →
+      Tells (record { image = p; parts = m }) (λ s. answers_by ns (all_cells s)) before now
   count_told before now out = record { out = λ s st. out ∙ ap (λ t. after before t) (same_count s st) }
 
   pub count_cut : (fault : DebugFault) (failed : Bool) (before now : Option (List ℕ)) → IsCut (ended (answer_by ns (Cells n))) fault failed before now →

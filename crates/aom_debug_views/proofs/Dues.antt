@@ -35,7 +35,8 @@ module _ (p : Image) (m : Parts) (s : State) (st : StandsFor (record { image = p
   pub classless_told : None ≡ class_at m.cells n → None ≡ timer_answer s.cells n
   classless_told none = grind (arith, nat_tests, no_timer, class_named p m s st n)
 
-  pub timer_told : (class due : ℕ) → Some class ≡ class_at m.cells n → due_in (requested s.cells n) ≡ Some due → Some (Timer_answer class due) ≡ timer_answer s.cells n
+  pub timer_told : (class due : ℕ) → Some class ≡ class_at m.cells n → due_in (requested s.cells n) ≡ Some due →
+      Some (Timer_answer class due) ≡ timer_answer s.cells n
   timer_told class due told is = grind (arith, nat_tests, class_named p m s st n)
 
 -- ---- all timers
@@ -48,7 +49,8 @@ found : (n : ℕ) (ts : List Timer) → IsSome (due_of n ts) → Contains (map (
 found n [] some = absurd (false≢true some)
 found n (t ∷ ts) some = go (t.id == n) refl (λ later. found n ts later) some
   where
-    go : (b : Bool) → (t.id == n) ≡ b → (IsSome (due_of n ts) → Contains (map (λ t. t.id) ts) n) → IsSome (if b then Some t.due else due_of n ts) → Contains (t.id ∷ map (λ t. t.id) ts) n
+    go : (b : Bool) → (t.id == n) ≡ b → (IsSome (due_of n ts) → Contains (map (λ t. t.id) ts) n) → IsSome (if b then Some t.due else due_of n ts) →
+        Contains (t.id ∷ map (λ t. t.id) ts) n
     go true is later some = (0, omega arith, eqb-true t.id n is)
     go false other later some = let there = later some in let within = there.1 in (suc there.0, omega (arith, within), there.2)
 
@@ -70,7 +72,8 @@ module _ (m : Machine) (each : All (λ t. due_of t.id m.parts.active.pending.tim
   all_told : (s : State) → told_to s (length (names_of m.parts)) ≡ timer_answers s.cells (names_of m.parts)
   all_told s = gathered_items (λ o. listed (timer_at s.cells o)) (names_of m.parts)
 
-  pub timers_told : (ns : Names) (before now : Option (List ℕ)) → Tells m (λ s. answers_by ns (told_to s (length (names_of m.parts)))) before now → TellsTimers ns m before now
+  pub timers_told : (ns : Names) (before now : Option (List ℕ)) → Tells m (λ s. answers_by ns (told_to s (length (names_of m.parts)))) before now →
+      TellsTimers ns m before now
   timers_told ns before now all = record { order = in_order; out = λ s st. all.out s st ∙ ap (λ xs. after before (answers_by ns xs)) (all_told s) }
 
   pub timers_cut : (ns : Names) (fault : DebugFault) (failed : Bool) (before now : Option (List ℕ)) →

@@ -106,7 +106,8 @@ some_by priority r has = grind arith
 
 pub pairs_by : {A : Type 0} (R : ℕ → ℕ → Type 0) (f : A → ℕ) (xs : List A) → AllPairs (λ x y. R (f x) (f y)) xs → AllPairs R (map f xs)
 pairs_by R f [] pairs = pairs-nil R
-pairs_by R f (x ∷ xs) pairs = AllPairs-cons R (f x) (map f xs) (All-map (R (f x)) f xs (pairs-head (λ y z. R (f y) (f z)) x xs pairs)) (pairs_by R f xs (pairs-tail (λ y z. R (f y) (f z)) x xs pairs))
+pairs_by R f (x ∷ xs) pairs = AllPairs-cons R (f x) (map f xs) (All-map (R (f x)) f xs (pairs-head (λ y z. R (f y) (f z)) x xs pairs))
+    (pairs_by R f xs (pairs-tail (λ y z. R (f y) (f z)) x xs pairs))
 
 -- who is asked in the state is enlisted, and has an entry
 listed_by : (q : Option Machine_request) (r : Option Request) (w : Option Bool) → Tells_request q r w → IsSome r → IsSome q
@@ -124,7 +125,8 @@ module _ (m : Machine) (whole : IsListed m.parts) where
   -- they are the enlisted objects in the order of choice
   pub in_order : (s : State) → StandsFor m s → InOrderOfChoice s.cells (names_of m.parts)
   in_order s st = record {
-    enlisted = All-map (λ n. IsSome (requested s.cells n)) (λ e. e.id) m.parts.active.roster.entries (λ k d within. some_by _ _ (st.agrees.requests.stands.priorities k d within));
+    enlisted = All-map (λ n. IsSome (requested s.cells n)) (λ e. e.id) m.parts.active.roster.entries
+        (λ k d within. some_by _ _ (st.agrees.requests.stands.priorities k d within));
     all = λ n some. let enlisted =
         listed_by (request_at m.parts.active.table n) (requested s.cells n) (queued m.image s.cells n) (st.agrees.requests.stands.tells n) some in
         let at = some_is (place n m.parts.active.roster) (whole n enlisted) in
@@ -139,7 +141,8 @@ module _ (m : Machine) (whole : IsListed m.parts) where
   all_told : (s : State) → told_to s (length (names_of m.parts)) ≡ active_answers m.image s.cells (names_of m.parts)
   all_told s = gathered_items (λ o. listed (active_at m.image s.cells o)) (names_of m.parts)
 
-  pub actives_told : (ns : Names) (before now : Option (List ℕ)) → Tells m (λ s. answers_by ns (told_to s (length (names_of m.parts)))) before now → TellsActives ns m before now
+  pub actives_told : (ns : Names) (before now : Option (List ℕ)) → Tells m (λ s. answers_by ns (told_to s (length (names_of m.parts)))) before now →
+      TellsActives ns m before now
   actives_told ns before now all = record { order = in_order; out = λ s st. all.out s st ∙ ap (λ xs. after before (answers_by ns xs)) (all_told s) }
 
   pub actives_cut : (ns : Names) (fault : DebugFault) (failed : Bool) (before now : Option (List ℕ)) →

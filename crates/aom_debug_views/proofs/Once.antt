@@ -173,7 +173,8 @@ module _ (m : Machine) (s : State) (st : StandsFor m s) (sessions_once : Session
       let within = declaring p st.sound.wired owner.0.thing y.0 f owner.2 in
       (owner.0, owner.1, omega (arith, less, within, few_classes))
 
-  session_owner : (n c : ℕ) (x : Object) → held cs (Elsewhere (Session n c)) ≡ Some x → (o : Object) × (named cs n ≡ Some o) × (height x.thing < height o.thing) × IsIn c (service_of cs n).sessions
+  session_owner : (n c : ℕ) (x : Object) → held cs (Elsewhere (Session n c)) ≡ Some x →
+      (o : Object) × (named cs n ≡ Some o) × (height x.thing < height o.thing) × IsIn c (service_of cs n).sessions
   session_owner n c x holds =
       let owner = at_session p st.typing st.sound.wired s st.typed n c x holds in
       let lower = session_lower p st.sound.wired owner.0 x.thing owner.3 in
@@ -196,8 +197,10 @@ module _ (m : Machine) (s : State) (st : StandsFor m s) (sessions_once : Session
 
   -- a place that holds nothing does not
   occurs_none : (r q : Place) (e : Up s q) (x : Object) → held cs q ≡ Some x → held cs r ≡ None → occurs r q e ≡ 0
-  occurs_none r q (up_field o above there holds high few ends) x on none = let here = none_bit cs q r x on none in let rest = occurs_none r above ends o holds none in omega (arith, here, rest)
-  occurs_none r q (up_session o above there holds high within ends) x on none = let here = none_bit cs q r x on none in let rest = occurs_none r above ends o holds none in omega (arith, here, rest)
+  occurs_none r q (up_field o above there holds high few ends) x on none = let here = none_bit cs q r x on none in let rest =
+      occurs_none r above ends o holds none in omega (arith, here, rest)
+  occurs_none r q (up_session o above there holds high within ends) x on none = let here = none_bit cs q r x on none in let rest =
+      occurs_none r above ends o holds none in omega (arith, here, rest)
   occurs_none r q (up_register deep small) x on none = none_bit cs q r x on none
   occurs_none r q (up_entry high) x on none = none_bit cs q r x on none
   occurs_none r q (up_going deep) x on none = none_bit cs q r x on none
@@ -229,7 +232,8 @@ module _ (m : Machine) (s : State) (st : StandsFor m s) (sessions_once : Session
   ends_here r q e x o on here lone nothing = grind (arith, place_bit, sum_of_none)
 
   -- one that holds an object stands there as often as that is what the way begins with, and as its fields and sessions stand there
-  split : (r q : Place) (e : Up s q) (x o : Object) → held cs q ≡ Some x → held cs r ≡ Some o → occurs r q e ≡ bit (o.name == x.name) + beneath_count o.thing (under_it o q e)
+  split : (r q : Place) (e : Up s q) (x o : Object) → held cs q ≡ Some x → held cs r ≡ Some o →
+      occurs r q e ≡ bit (o.name == x.name) + beneath_count o.thing (under_it o q e)
   split r (Field n f) (up_field y above there holds high few ends) x o on here =
       let first = place_bit cs tidy (Field n f) r x o on here in
       let rest = split r above ends y o holds here in
@@ -238,8 +242,10 @@ module _ (m : Machine) (s : State) (st : StandsFor m s) (sessions_once : Session
       let this : bit ((o.name == n) && (f == f)) ≡ bit (o.name == n) = ap (λ b. bit ((o.name == n) && b)) (eq-eqb f f refl) ∙ last_same (o.name == n) in
       let name = by_name r o y n there in
       let more = beneath_more o.thing (bit (o.name == n)) (under_it o above ends) (no_owner r o y n here there high) in
-      let seats = sum_of_same (λ c. 0 + occurs (Elsewhere (Session o.name c)) above ends) (λ c. occurs (Elsewhere (Session o.name c)) above ends) (service_of cs o.name).sessions (λ c. omega arith) in
-      let all : bit (o.name == n) + under_it o above ends ≡ under_it o (Field n f) (up_field y above there holds high few ends) = omega (arith, fields, one, this, seats) in
+      let seats = sum_of_same (λ c. 0 + occurs (Elsewhere (Session o.name c)) above ends) (λ c. occurs (Elsewhere (Session o.name c)) above ends)
+      (service_of cs o.name).sessions (λ c. omega arith) in
+      let all : bit (o.name == n) + under_it o above ends ≡ under_it o (Field n f) (up_field y above there holds high few ends) =
+      omega (arith, fields, one, this, seats) in
       let under = ap (beneath_count o.thing) all in
       omega (arith, first, rest, name, more, under)
   split r (Elsewhere (Session n c)) (up_session y above there holds high within ends) x o on here =
@@ -265,15 +271,18 @@ module _ (m : Machine) (s : State) (st : StandsFor m s) (sessions_once : Session
   split r q up_queue x o on here = ends_here r q up_queue x o on here refl refl
 
   -- so what hangs from a place has a line of an object as often as the place stands on the way from it
-  hangs_on : (fuel : ℕ) (w : Way) (r q : Place) (e : Up s q) (x : Object) → held cs q ≡ Some x → held_height (held cs r) ≤ fuel → lines_of x.name (tree cs fuel w (held cs r)) ≡ occurs r q e
+  hangs_on : (fuel : ℕ) (w : Way) (r q : Place) (e : Up s q) (x : Object) → held cs q ≡ Some x → held_height (held cs r) ≤ fuel →
+      lines_of x.name (tree cs fuel w (held cs r)) ≡ occurs r q e
   hangs_on zero w r q e x on low = grind (arith, nat_tests, occurs_none r q e x on)
   hangs_on (suc fuel) w r q e x on low = go (λ w r low. hangs_on fuel w r q e x on low) (held cs r) refl low
     where
-      lower_still : (o : Object) → held cs r ≡ Some o → suc (height o.thing) ≤ suc fuel → (f : ℕ) (y : Option Object) → held cs (Field o.name f) ≡ y → held_height y ≤ fuel
+      lower_still : (o : Object) → held cs r ≡ Some o → suc (height o.thing) ≤ suc fuel → (f : ℕ) (y : Option Object) →
+          held cs (Field o.name f) ≡ y → held_height y ≤ fuel
       lower_still o is low f None there = omega arith
       lower_still o is low f (Some y) there = let less = lower r o y f is there in omega (arith, less, low)
 
-      lower_there : (o : Object) → held cs r ≡ Some o → suc (height o.thing) ≤ suc fuel → (c : ℕ) (y : Option Object) → held cs (Elsewhere (Session o.name c)) ≡ y → held_height y ≤ fuel
+      lower_there : (o : Object) → held cs r ≡ Some o → suc (height o.thing) ≤ suc fuel → (c : ℕ) (y : Option Object) →
+          held cs (Elsewhere (Session o.name c)) ≡ y → held_height y ≤ fuel
       lower_there o is low c None there = omega arith
       lower_there o is low c (Some y) there = let less = lower_seat r o y c is there in omega (arith, less, low)
 
@@ -321,9 +330,11 @@ module _ (m : Machine) (s : State) (st : StandsFor m s) (sessions_once : Session
           let other = ne_eqb o.name n (λ same. none-some o (sym none ∙ ap (named cs) (sym same) ∙ held_lives cs r o tidy is)) in
           let both = lines_append n (gathered (below o) 8) (flat_map (beyond o) seats) in
           let fields = lines_gathered n (below o) 8 ∙ sum_none (λ f. lines_of n (below o f)) 8 (λ f less. deeper (further w (By_field f)) (Field o.name f)) in
-          let sessions = lines_flat n (beyond o) seats ∙ sum_of_none (λ c. lines_of n (beyond o c)) seats (λ c among. deeper (further w (By_session c)) (Elsewhere (Session o.name c))) in
+          let sessions = lines_flat n (beyond o) seats
+          ∙ sum_of_none (λ c. lines_of n (beyond o c)) seats (λ c among. deeper (further w (By_session c)) (Elsewhere (Session o.name c))) in
           let under : lines_of n owned ≡ 0 = omega (arith, both, fields, sessions) in
-          ap (λ b. cond b (suc (lines_of n (beneath o.thing owned))) (lines_of n (beneath o.thing owned))) other ∙ lines_beneath n o.thing owned ∙ beneath_zero o.thing (lines_of n owned) under
+          ap (λ b. cond b (suc (lines_of n (beneath o.thing owned))) (lines_of n (beneath o.thing owned))) other ∙ lines_beneath n o.thing owned
+          ∙ beneath_zero o.thing (lines_of n owned) under
 
   -- ---- all outer places
 
@@ -377,7 +388,8 @@ module _ (m : Machine) (s : State) (st : StandsFor m s) (sessions_once : Session
   weigh_one (Elsewhere (Session n c)) (up_session y above there holds high within ends) = grind (arith, weigh_same, weigh_one above ends)
   weigh_one (Register D I) (up_register deep small) =
       let inner = sum_one (λ i. here D i) I 16 small (λ i other. other_register (D == D) (i == I) other) in
-      let outer = sum_one (λ d. sum_to (λ i. here d i) 16) D (length s.tasks) deep (λ d other. sum_none (λ i. here d i) 16 (λ i less. ap (λ b. bit (b && (i == I))) other)) in
+      let outer = sum_one (λ d. sum_to (λ i. here d i) 16) D (length s.tasks) deep
+      (λ d other. sum_none (λ i. here d i) 16 (λ i less. ap (λ b. bit (b && (i == I))) other)) in
       let entries = sum_none (λ k. occurs (Entry k) (Register D I) (up_register deep small)) (length s.items) (λ k less. refl) in
       let goings = sum_none (λ d. occurs (Going d) (Register D I) (up_register deep small)) (length s.tasks) (λ k less. refl) in
       omega (arith, inner, outer, entries, goings, one)
@@ -454,7 +466,8 @@ module _ (m : Machine) (s : State) (st : StandsFor m s) (sessions_once : Session
             (λ none. ap (λ o. register_over o i) none)) (register_small (Register d i) x holds d i (over parts.stack.tasks d) refl there),
         refl,
       )
-  up (suc fuel) (Entry k) x holds high = (up_entry (entry_small (Entry k) x holds k (over parts.entries.items k) refl (entry_there parts.entries.items k ∙ number_there (Entry k) x holds)), refl)
+  up (suc fuel) (Entry k) x holds high =
+      (up_entry (entry_small (Entry k) x holds k (over parts.entries.items k) refl (entry_there parts.entries.items k ∙ number_there (Entry k) x holds)), refl)
   up (suc fuel) (Going d) x holds high =
       let there = sym (going_there parts.stack.tasks d) ∙ number_there (Going d) x holds in
       (up_going (task_there (Going d) x holds d (over parts.stack.tasks d) (going_over (over parts.stack.tasks d)) refl there (λ none. ap going_over none)), refl)
@@ -490,8 +503,8 @@ module _ (m : Machine) (s : State) (st : StandsFor m s) (sessions_once : Session
   once n (Some x) is =
       let owner = owner_there cs tidy n x is in
       let e = up 257 owner.0 x owner.2 (omega arith) in
-      ap (λ k. lines_of k (owners s)) (sym (named_name cs n x is)) ∙ lines_weighed x.name (λ r. occurs r owner.0 e.0) (λ outer r. all_hang outer r owner.0 e.0 x owner.2) ∙ weigh_one owner.0 e.0
-      ∙ ap bit e.1 ∙ ap (λ w. cond (not (waits_in w)) 1 0) (sym owner.1)
+      ap (λ k. lines_of k (owners s)) (sym (named_name cs n x is)) ∙ lines_weighed x.name (λ r. occurs r owner.0 e.0)
+      (λ outer r. all_hang outer r owner.0 e.0 x owner.2) ∙ weigh_one owner.0 e.0 ∙ ap bit e.1 ∙ ap (λ w. cond (not (waits_in w)) 1 0) (sym owner.1)
 
 pub told_once : ToldOnce
 told_once m s st agrees sessions_once n = once m s st sessions_once n (named s.cells n) refl

@@ -64,7 +64,8 @@ called_keeps : (target : Target) (class : Option ℕ) (ended j : ℕ) (sh : Shap
 called_keeps x class ended j sh = grind (arith, nat_tests, keeps_set sh, readied_twice)
 
 module _ (p : Image) (j : ℕ) (sh : Shape) where
-  call_keeps : (target : Target) (m first ended : ℕ) → Keeps (register sh j) (register (while_called target (method_class p m) ended (arguments_moved (arguments_of p m) first sh)) j)
+  call_keeps : (target : Target) (m first ended : ℕ) →
+      Keeps (register sh j) (register (while_called target (method_class p m) ended (arguments_moved (arguments_of p m) first sh)) j)
   call_keeps target m first ended = grind (arith, nat_tests, keeps_on, moved_keeps, called_keeps target)
 
   news_keep : (news : News) → Keeps (register sh j) (register (waiting_for p news sh) j)
@@ -117,7 +118,8 @@ module _ (p : Image) (m : Parts) (agrees : AgreesInAll (record { image = p; part
   M = record { image = p; parts = m }
 
   -- the agreement of a frame that stands at a depth
-  agreed : (s : State) (st : StandsFor M s) (k : ℕ) (fr : Frame) → over s.tasks k ≡ Some (Run fr) → (above : List Task) × RegistersAgree p (agrees s st).typing m s above fr k
+  agreed : (s : State) (st : StandsFor M s) (k : ℕ) (fr : Frame) → over s.tasks k ≡ Some (Run fr) →
+      (above : List Task) × RegistersAgree p (agrees s st).typing m s above fr k
   agreed s st k fr there = grind (arith, nat_tests, parted s.tasks k (Run fr) there)
 
   -- its method is there
@@ -126,7 +128,8 @@ module _ (p : Image) (m : Parts) (agrees : AgreesInAll (record { image = p; part
       let fr = frame_there p m stands.0 stands.1 k f there in
       method_there stands.0 stands.1 k f fr.0 fr.1 fr.2
     where
-      method_there : (s : State) → StandsFor M s → (k : ℕ) (f : Machine_frame) (fr : Frame) → over s.tasks k ≡ Some (Run fr) → SameFrame f fr → IsSome (method_at p f.method)
+      method_there : (s : State) → StandsFor M s → (k : ℕ) (f : Machine_frame) (fr : Frame) → over s.tasks k ≡ Some (Run fr) → SameFrame f fr →
+          IsSome (method_at p f.method)
       method_there s st k f fr there same =
           let a = agreed s st k fr there in
           let passes = (agrees s st).strongest.typed.each fr.method fr.place a.1.shape a.1.typed in
@@ -134,7 +137,8 @@ module _ (p : Image) (m : Parts) (agrees : AgreesInAll (record { image = p; part
           ap (λ n. is_some (method_at p n)) same.method ∙ ap is_some found.1
 
   -- the strongest state of its place says no more than the state that agrees
-  reached : (s : State) (st : StandsFor M s) (k : ℕ) (f : Machine_frame) (fr : Frame) (found : Option Shape) → over s.tasks k ≡ Some (Run fr) → SameFrame f fr → IsShapeAt p f.method f.place found →
+  reached : (s : State) (st : StandsFor M s) (k : ℕ) (f : Machine_frame) (fr : Frame) (found : Option Shape) →
+      over s.tasks k ≡ Some (Run fr) → SameFrame f fr → IsShapeAt p f.method f.place found →
       (above : List Task) × (agree : RegistersAgree p (agrees s st).typing m s above fr k) × (next : Shape) × (found ≡ Some next) × SaysNoMore next agree.shape
   reached s st k f fr found there same shape =
       let a = agreed s st k fr there in
@@ -167,7 +171,8 @@ module _ (p : Image) (m : Parts) (agrees : AgreesInAll (record { image = p; part
       )
 
   -- so each register is shown, or owns nothing
-  pub frame_shown : (k : ℕ) (f : Machine_frame) (sh : Shape) → over m.stack.tasks k ≡ Some (Runs_frame f) → IsShapeAt p f.method f.place (Some sh) → ShowsAll M sh f.registers k
+  pub frame_shown : (k : ℕ) (f : Machine_frame) (sh : Shape) → over m.stack.tasks k ≡ Some (Runs_frame f) → IsShapeAt p f.method f.place (Some sh) →
+      ShowsAll M sh f.registers k
   frame_shown k f sh there shape = record { each = λ i. by_kind i (may_own (register sh i)) refl }
     where
       by_kind : (i : ℕ) (b : Bool) → may_own (register sh i) ≡ b → ShowsIf b M (slice_index_or f.registers i null) (Register k i)

@@ -53,7 +53,8 @@ abbrev SameOver : Option Machine_item → Option Item → Type 0
 SameOver i j = BothOver SameItem i j
 
 both_over : (k : ℕ) (is : List Machine_item) (js : List Item) → SameItems is js → SameOver (over is k) (over js k)
-both_over k = by_items (λ is js. SameOver (over is k) (over js k)) tt (λ i j is js same rest below. one_over SameItem i j k is js same (same_items_length is js rest) below)
+both_over k = by_items (λ is js. SameOver (over is k) (over js k)) tt
+    (λ i j is js same rest below. one_over SameItem i j k is js same (same_items_length is js rest) below)
 
 abbrev pub answer_at : Heap → Option Machine_item → Option Answer
 answer_at h None = None
@@ -85,7 +86,8 @@ entry_number : (is : List Machine_item) (k n : ℕ) → over is k ≡ Some (Hold
 entry_number [] k n is_there = absurd (none-some (Holds_object n) is_there)
 entry_number (i ∷ is) k n there = go (entry_number is k n) (length is == k) there
   where
-    go : (over is k ≡ Some (Holds_object n) → entry_in is k ≡ n) → (b : Bool) → cond b (Some i) (over is k) ≡ Some (Holds_object n) → cond b (owned_by i) (entry_in is k) ≡ n
+    go : (over is k ≡ Some (Holds_object n) → entry_in is k ≡ n) → (b : Bool) → cond b (Some i) (over is k) ≡ Some (Holds_object n) →
+        cond b (owned_by i) (entry_in is k) ≡ n
     go below x y = grind (arith, nat_tests, same_Some)
 
 module _ (p : Image) (m : Parts) (s : State) (st : StandsFor (record { image = p; parts = m }) s) where

@@ -12,7 +12,8 @@ spaced_next : (ws : List (List ℕ)) (w : List ℕ) → Some w ≡ first_of ws �
 spaced_next [] w is = absurd (none-some w (sym is))
 spaced_next (x ∷ xs) w is = ap (λ (u : List ℕ). (32 ∷ []) ++ (u ++ spaced xs)) (sym (same_Some w x is))
 
-module _ (done : List ℕ) (ws others : List (List ℕ)) (w all : List ℕ) (is : Some w ≡ first_of ws) (rest : others ≡ others_of ws) (was : done ++ spaced ws ≡ all) where
+module _ (done : List ℕ) (ws others : List (List ℕ)) (w all : List ℕ) (is : Some w ≡ first_of ws) (rest : others ≡ others_of ws)
+    (was : done ++ spaced ws ≡ all) where
   pub before_space : done ++ ((32 ∷ []) ++ (w ++ spaced others)) ≡ all
   before_space = ap (λ xs. done ++ ((32 ∷ []) ++ (w ++ spaced xs))) rest ∙ ap (λ (u : List ℕ). done ++ u) (sym (spaced_next ws w is)) ∙ was
 

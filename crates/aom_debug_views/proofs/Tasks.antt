@@ -59,7 +59,8 @@ abbrev pub SameOver : Option Machine_task → Option Task → Type 0
 SameOver m u = BothOver SameTask m u
 
 both_over : (k : ℕ) (ms : List Machine_task) (us : List Task) → SameTasks ms us → SameOver (over ms k) (over us k)
-both_over k = by_tasks (λ ms us. SameOver (over ms k) (over us k)) tt (λ m u ms us same rest below. one_over SameTask m u k ms us same (same_length ms us rest) below)
+both_over k = by_tasks (λ ms us. SameOver (over ms k) (over us k)) tt
+    (λ m u ms us same rest below. one_over SameTask m u k ms us same (same_length ms us rest) below)
 
 -- a frame
 frame_by : (f : Machine_frame) (u : Option Task) → SameOver (Some (Runs_frame f)) u → (fr : Frame) × (u ≡ Some (Run fr)) × SameFrame f fr
@@ -117,7 +118,8 @@ module _ (p : Image) (m : Parts) where
   as_many_tasks s st = same_length tasks s.tasks st.agrees.tasks
 
   -- the frame at a depth
-  pub frame_there : (s : State) → StandsFor M s → (k : ℕ) (f : Machine_frame) → over tasks k ≡ Some (Runs_frame f) → (fr : Frame) × (over s.tasks k ≡ Some (Run fr)) × SameFrame f fr
+  pub frame_there : (s : State) → StandsFor M s → (k : ℕ) (f : Machine_frame) → over tasks k ≡ Some (Runs_frame f) →
+      (fr : Frame) × (over s.tasks k ≡ Some (Run fr)) × SameFrame f fr
   frame_there s st k f there = frame_by f (over s.tasks k) (subst (λ o. SameOver o (over s.tasks k)) there (same_over s st k))
 
   pub frame_stands : (k : ℕ) (f : Machine_frame) → Some f ≡ frame_over (over tasks k) → over tasks k ≡ Some (Runs_frame f)
@@ -126,7 +128,8 @@ module _ (p : Image) (m : Parts) where
   pub frames_told : (s : State) → StandsFor M s → (k : ℕ) → is_some (frame_over (over tasks k)) ≡ is_frame (over s.tasks k)
   frames_told s st k = (counted (over tasks k) (over s.tasks k) (same_over s st k)).0
 
-  pub goings_told : (s : State) → StandsFor M s → (k : ℕ) (o : Option Machine_task) → o ≡ slice_get (reverse tasks) k → goings_over o ≡ cond (is_going (over s.tasks k)) 1 0
+  pub goings_told : (s : State) → StandsFor M s → (k : ℕ) (o : Option Machine_task) → o ≡ slice_get (reverse tasks) k →
+      goings_over o ≡ cond (is_going (over s.tasks k)) 1 0
   goings_told s st k o is = ap goings_over (is ∙ over_from_bottom tasks k) ∙ (counted (over tasks k) (over s.tasks k) (same_over s st k)).1
 
   -- the number in a register, and that of what goes
@@ -154,7 +157,8 @@ module _ (p : Image) (m : Parts) where
       number_of s st =
           let both = no_frame (over tasks k) (over s.tasks k) i (same_over s st k) (sym none) in
           let word = word_there s.tasks k i ∙ both.1 in
-          sym (register_there tasks k i ∙ both.0) ∙ subst (λ w. Represents (value m (Register k i)) w (held s.cells (Register k i))) word (st.agrees.values (Register k i))
+          sym (register_there tasks k i ∙ both.0)
+          ∙ subst (λ w. Represents (value m (Register k i)) w (held s.cells (Register k i))) word (st.agrees.values (Register k i))
 
       by_null : (s : State) → StandsFor M s → (o : Option Object) → held s.cells (Register k i) ≡ o → null ≡ number (held s.cells (Register k i)) → o ≡ None
       by_null s st x holds is = grind (arith, not_null p m st.typing s st.typed st.agrees (Register k i))

@@ -26,7 +26,8 @@ sent_on (Some t) now new a b was put = put ∙ ap (λ o. after o b) was ∙ ap (
 beginning : (a b c : List ℕ) (n : ℕ) → take (length a + min n (length b)) (a ++ (b ++ c)) ≡ a ++ take n b
 beginning a b c n = grind (arith, nat_tests, take-append-add a (b ++ c), take-append-le, take_min n b)
 
-pub cut_on : (before now new : Option (List ℕ)) (a b c : List ℕ) (n : ℕ) → now ≡ after before a → new ≡ after now (take n b) → (sent : ℕ) × (new ≡ after before (take sent (a ++ (b ++ c))))
+pub cut_on : (before now new : Option (List ℕ)) (a b c : List ℕ) (n : ℕ) → now ≡ after before a → new ≡ after now (take n b) →
+    (sent : ℕ) × (new ≡ after before (take sent (a ++ (b ++ c))))
 cut_on before now new a b c n was put = search (arith, nat_tests, sent_on before now new a, beginning a b c n)
 
 -- nothing is out yet
@@ -41,7 +42,8 @@ module _ {A : Type 0} where
   gathered_here f i zero less = absurd (omega arith)
   gathered_here f i (suc n) less = go (gathered_here f i n) (i == n) refl
     where
-      go : (i < n → (rest : List A) × (gathered f n ≡ gathered f i ++ (f i ++ rest))) → (b : Bool) → (i == n) ≡ b → (rest : List A) × (gathered f (suc n) ≡ gathered f i ++ (f i ++ rest))
+      go : (i < n → (rest : List A) × (gathered f n ≡ gathered f i ++ (f i ++ rest))) → (b : Bool) → (i == n) ≡ b →
+          (rest : List A) × (gathered f (suc n) ≡ gathered f i ++ (f i ++ rest))
       go below true is = search (arith, nat_tests, eqb-true i n is, append-nil (f i))
       go below false is =
           let other = eqb-false i n is in
@@ -73,8 +75,10 @@ module _ {A : Type 0} (line : A → List ℕ) (f : ℕ → List A) where
   text_to n = flat_map line (gathered f n)
 
   -- the lines of one more
-  pub line_sent : (before now new : Option (List ℕ)) (i : ℕ) → now ≡ after before (text_to i) → new ≡ after now (flat_map line (f i)) → new ≡ after before (text_to (i + 1))
-  line_sent before now new i was put = rw add-one (sent_on before now new (text_to i) (flat_map line (f i)) was put ∙ ap (λ u. after before u) (sym (flat_map-append line (gathered f i) (f i))))
+  pub line_sent : (before now new : Option (List ℕ)) (i : ℕ) → now ≡ after before (text_to i) → new ≡ after now (flat_map line (f i)) →
+      new ≡ after before (text_to (i + 1))
+  line_sent before now new i was put =
+      rw add-one (sent_on before now new (text_to i) (flat_map line (f i)) was put ∙ ap (λ u. after before u) (sym (flat_map-append line (gathered f i) (f i))))
 
   -- or a beginning of them, and so of all
   pub line_cut : (before now new : Option (List ℕ)) (i n sent : ℕ) →
@@ -82,8 +86,7 @@ module _ {A : Type 0} (line : A → List ℕ) (f : ℕ → List A) where
   line_cut before now new i n sent less was put =
       let all = gathered_here f i n less in
       let parts : text_to n ≡ text_to i ++ (flat_map line (f i) ++ flat_map line all.0) =
-      ap (flat_map line) all.1 ∙ flat_map-append line (gathered f i) (f i ++ all.0) ∙ ap (λ (u : List ℕ). text_to i ++ u) (flat_map-append line (f i) all.0)
-      in
+      ap (flat_map line) all.1 ∙ flat_map-append line (gathered f i) (f i ++ all.0) ∙ ap (λ (u : List ℕ). text_to i ++ u) (flat_map-append line (f i) all.0) in
       let cut = cut_on before now new (text_to i) (flat_map line (f i)) (flat_map line all.0) sent was put in
       (cut.0, cut.1 ∙ ap (λ u. after before (take cut.0 u)) (sym parts))
 
@@ -146,13 +149,15 @@ module _ {A : Type 0} (line : A → List ℕ) (m : Machine) (a b : State → Lis
   abbrev both : State → List ℕ
   both s = flat_map line (a s ++ b s)
 
-  pub tells_both : (before now new : Option (List ℕ)) → Tells m (λ s. flat_map line (a s)) before now → Tells m (λ s. flat_map line (b s)) now new → Tells m both before new
+  pub tells_both : (before now new : Option (List ℕ)) → Tells m (λ s. flat_map line (a s)) before now →
+      Tells m (λ s. flat_map line (b s)) now new → Tells m both before new
   tells_both before now new first later = record {
     out = λ s st. sent_on before now new
         (flat_map line (a s)) (flat_map line (b s)) (first.out s st) (later.out s st) ∙ ap (λ u. after before u) (sym (flat_map-append line (a s) (b s)));
   }
 
-  pub cut_first : (before new : Option (List ℕ)) (fault : DebugFault) (failed : Bool) → TellsPart m (λ s. flat_map line (a s)) fault failed before new → TellsPart m both fault failed before new
+  pub cut_first : (before new : Option (List ℕ)) (fault : DebugFault) (failed : Bool) → TellsPart m (λ s. flat_map line (a s)) fault failed before new →
+      TellsPart m both fault failed before new
   cut_first before new fault failed first = record {
     told = first.told;
     fails = first.fails;
@@ -189,12 +194,14 @@ cut_within before now new a b c all fault failed is was cut =
     record { told = cut.told; fails = cut.fails; sent = part.0; out = part.1 ∙ ap (λ u. after before (take part.0 u)) is }
 
 -- of the first of two, or of the second
-pub cut_in_first : (before new : Option (List ℕ)) (a b : List ℕ) (fault : DebugFault) (failed : Bool) → IsCut a fault failed before new → IsCut (a ++ b) fault failed before new
+pub cut_in_first : (before new : Option (List ℕ)) (a b : List ℕ) (fault : DebugFault) (failed : Bool) → IsCut a fault failed before new →
+    IsCut (a ++ b) fault failed before new
 cut_in_first before new a b fault failed cut = cut_within before before new [] a b (a ++ b) fault failed refl (none_sent before) cut
 
 pub cut_in_second : (before now new : Option (List ℕ)) (a b : List ℕ) (fault : DebugFault) (failed : Bool) →
     now ≡ after before a → IsCut b fault failed now new → IsCut (a ++ b) fault failed before new
 cut_in_second before now new a b fault failed was cut = cut_within before now new a b [] (a ++ b) fault failed (ap (λ (u : List ℕ). a ++ u) (append-nil b)) was cut
 
-pub cut_as : (a b : List ℕ) (fault : DebugFault) (failed : Bool) (before now : Option (List ℕ)) → a ≡ b → IsCut a fault failed before now → IsCut b fault failed before now
+pub cut_as : (a b : List ℕ) (fault : DebugFault) (failed : Bool) (before now : Option (List ℕ)) → a ≡ b → IsCut a fault failed before now →
+    IsCut b fault failed before now
 cut_as a b fault failed before now is cut = search (arith, nat_tests)

@@ -86,7 +86,8 @@ untold_source : (c : Option ℕ) (slot : Bool) (x : MessagePlace) (source : Sour
 untold_source x slot y source none unsent is = grind arith
 
 -- of each message it is told
-message_sourced : (p : Image) (m : Parts) (s : State) → StandsFor (record { image = p; parts = m }) s → (o : Object) → named s.cells o.name ≡ Some o → o.thing ≡ Message → source_at m o.name ≡ None → ⊥
+message_sourced : (p : Image) (m : Parts) (s : State) → StandsFor (record { image = p; parts = m }) s → (o : Object) → named s.cells o.name ≡ Some o →
+    o.thing ≡ Message → source_at m o.name ≡ None → ⊥
 message_sourced p m s st o lives message untold = low (nat_lt o.name 4096) refl untold
   where
     said : is_a_message (named s.cells o.name) ≡ true
@@ -102,10 +103,12 @@ message_sourced p m s st o lives message untold = low (nat_lt o.name 4096) refl 
     within : (j : ℕ) → o.name ≡ message_name j → 1024 ≤ j → ⊥
     within j name past = grind (arith, nat_tests, said)
 
-    high : (b : Bool) → nat_lt o.name 5120 ≡ b → nat_lt o.name 4096 ≡ false → cond b (source_of (token_class m.tokens (o.name - 4096)) (place_at m.clients (o.name - 4096))) None ≡ None → ⊥
+    high : (b : Bool) → nat_lt o.name 5120 ≡ b → nat_lt o.name 4096 ≡ false →
+        cond b (source_of (token_class m.tokens (o.name - 4096)) (place_at m.clients (o.name - 4096))) None ≡ None → ⊥
     high x less past none = grind (arith, nat_tests, ltb-false, named_so, within)
 
-    low : (b : Bool) → nat_lt o.name 4096 ≡ b → cond b None (cond (nat_lt o.name 5120) (source_of (token_class m.tokens (o.name - 4096)) (place_at m.clients (o.name - 4096))) None) ≡ None → ⊥
+    low : (b : Bool) → nat_lt o.name 4096 ≡ b →
+        cond b None (cond (nat_lt o.name 5120) (source_of (token_class m.tokens (o.name - 4096)) (place_at m.clients (o.name - 4096))) None) ≡ None → ⊥
     low x less none = grind (arith, nat_tests, ltb-true, said, high)
 
 module _ (p : Image) (m : Parts) where
@@ -147,7 +150,8 @@ module _ (p : Image) (m : Parts) where
   -- ---- messages
 
   -- the number of a message is that of its place
-  at_place : (n : ℕ) (source : Source) → source_at m n ≡ Some source → (j : ℕ) × (n ≡ message_name j) × (source_of (token_class m.tokens j) (place_at m.clients j) ≡ Some source)
+  at_place : (n : ℕ) (source : Source) → source_at m n ≡ Some source →
+      (j : ℕ) × (n ≡ message_name j) × (source_of (token_class m.tokens j) (place_at m.clients j) ≡ Some source)
   at_place n source is = grind (arith, nat_tests, ltb-false n 4096)
 
   -- so a number that no cell has, and of which it is told who hears, is that of a place that holds a message of that name
@@ -207,9 +211,9 @@ module _ (p : Image) (m : Parts) where
 
   pub message_unsent : (ns : Names) (n : ℕ) (source : Source) (depth d : ℕ) (w : Way) (r : Place) (t : List ℕ) → Shows M n r → class_at m.cells n ≡ None →
       source_at m n ≡ Some source → t ≡ way_text w → d ≡ suc depth → (before now : Option (List ℕ)) (fault : DebugFault) (failed : Bool) →
-      IsCut (ended (t ++ codes " " ++ hearer_by ns source)) fault failed before now → TellsPart M (λ s. owners_text ns (tree s.cells d w (held s.cells r))) fault failed before now
-  message_unsent ns n source depth d w r t shows none sent is deep before now fault failed cut =
-      search (arith, nat_tests, tree_message ns n source depth w r t)
+      IsCut (ended (t ++ codes " " ++ hearer_by ns source)) fault failed before now →
+      TellsPart M (λ s. owners_text ns (tree s.cells d w (held s.cells r))) fault failed before now
+  message_unsent ns n source depth d w r t shows none sent is deep before now fault failed cut = search (arith, nat_tests, tree_message ns n source depth w r t)
 
   -- where no cell has the number, a message's line is all that hangs there, if there is one
   module _ (ns : Names) (n depth d : ℕ) (w : Way) (r : Place)
@@ -220,7 +224,8 @@ module _ (p : Image) (m : Parts) where
     pub uncelled_told : now ≡ after before (message_text ns t (source_at m n)) → Tells M (λ s. owners_text ns (tree s.cells d w (held s.cells r))) before now
     uncelled_told put = go (source_at m n) refl put
       where
-        go : (o : Option Source) → source_at m n ≡ o → now ≡ after before (message_text ns t o) → Tells M (λ s. owners_text ns (tree s.cells d w (held s.cells r))) before now
+        go : (o : Option Source) → source_at m n ≡ o → now ≡ after before (message_text ns t o) →
+            Tells M (λ s. owners_text ns (tree s.cells d w (held s.cells r))) before now
         go None unsent put = search (arith, nat_tests, tree_none, none_sends n r none unsent shows)
         go (Some source) sent put = message_told ns n source depth d w r t shows classless sent is deep before now put
 
@@ -234,7 +239,8 @@ module _ (p : Image) (m : Parts) where
         go (Some source) sent cut = message_unsent ns n source depth d w r t shows classless sent is deep before now fault failed cut
 
   -- all that hangs from an object is out, or a beginning of it, by the line, by what hangs from the fields, and by what hangs from the sessions
-  module _ (ns : Names) (n class depth d : ℕ) (w : Way) (r : Place) (t : List ℕ) (shows : Shows M n r) (told : class_at m.cells n ≡ Some class) (is : t ≡ way_text w) (deep : d ≡ suc depth) where
+  module _ (ns : Names) (n class depth d : ℕ) (w : Way) (r : Place) (t : List ℕ) (shows : Shows M n r) (told : class_at m.cells n ≡ Some class)
+      (is : t ≡ way_text w) (deep : d ≡ suc depth) where
     abbrev line_text : List ℕ
     line_text = ended (t ++ codes " " ++ class_by ns class)
 
@@ -260,7 +266,8 @@ module _ (p : Image) (m : Parts) where
             ∙ ap (λ u. after before u) (append_assoc line_text (fields_text s) (sessions_text s) ∙ parts_of s st);
       }
 
-      pub sessions_unsent : (new : Option (List ℕ)) (fault : DebugFault) (failed : Bool) → TellsPart M sessions_text fault failed mid new → TellsPart M Tree fault failed before new
+      pub sessions_unsent : (new : Option (List ℕ)) (fault : DebugFault) (failed : Bool) → TellsPart M sessions_text fault failed mid new →
+          TellsPart M Tree fault failed before new
       sessions_unsent new fault failed later = record {
         told = later.told;
         fails = later.fails;
@@ -273,7 +280,8 @@ module _ (p : Image) (m : Parts) where
             );
       }
 
-    pub line_unsent : (before new : Option (List ℕ)) (fault : DebugFault) (failed : Bool) → IsCut line_text fault failed before new → TellsPart M Tree fault failed before new
+    pub line_unsent : (before new : Option (List ℕ)) (fault : DebugFault) (failed : Bool) → IsCut line_text fault failed before new →
+        TellsPart M Tree fault failed before new
     line_unsent before new fault failed cut = record {
       told = cut.told;
       fails = cut.fails;
@@ -327,17 +335,18 @@ module _ (p : Image) (m : Parts) where
           sym (append_assoc (done_text clients s) here rest) ∙ ap (λ (u : List ℕ). u ++ rest) (sym (one_more clients c s))
           ∙ sym (flat_map-append (owned_line ns) (flat_map (beyond n depth w s) (clients ++ c ∷ [])) (flat_map (beyond n depth w s) others))
           ∙ ap (flat_map (owned_line ns)) (sym (flat_map-append (beyond n depth w s) (clients ++ c ∷ []) others))
-          ∙ ap (λ cs. flat_map (owned_line ns) (flat_map (beyond n depth w s) cs)) (all s st)
-          in
+          ∙ ap (λ cs. flat_map (owned_line ns) (flat_map (beyond n depth w s) cs)) (all s st) in
           (part.0, part.1 ∙ ap (λ u. after before (take part.0 u)) whole);
     }
 
     pub seats_told : (clients : List ℕ) → clients ≡ sessions_at m.clients n → (before now : Option (List ℕ)) →
         Tells M (done_text clients) before now → Tells M (λ s. flat_map (owned_line ns) (flat_map (beyond n depth w s) (seats_of n s))) before now
-    seats_told clients all before now was = record { out = λ s st. was.out s st ∙ ap (λ cs. after before (done_text cs s)) (all ∙ st.agrees.services.clients.sessions n) }
+    seats_told clients all before now was =
+        record { out = λ s st. was.out s st ∙ ap (λ cs. after before (done_text cs s)) (all ∙ st.agrees.services.clients.sessions n) }
 
   -- where nothing is held, nothing hangs
-  pub tree_untold : (ns : Names) (d : ℕ) (w : Way) (r : Place) (out : Option (List ℕ)) → ShowsNone M r → Tells M (λ s. owners_text ns (tree s.cells d w (held s.cells r))) out out
+  pub tree_untold : (ns : Names) (d : ℕ) (w : Way) (r : Place) (out : Option (List ℕ)) → ShowsNone M r →
+      Tells M (λ s. owners_text ns (tree s.cells d w (held s.cells r))) out out
   tree_untold ns d w r out none = record { out = grind (arith, nat_tests, none_sent out, tree_none) }
 
   -- as many generations as there are hang from an outer place
@@ -357,7 +366,8 @@ module _ (p : Image) (m : Parts) where
   grown_untold ns outer r out none = tree_untold ns generations (record { outer = outer; branches = [] }) r out none
 
   -- nothing hangs from registers that own nothing
-  pub none_hang : (ns : Names) (depth frames : ℕ) (out : Option (List ℕ)) → ((i : ℕ) → ShowsNone M (Register depth i)) → Tells M (λ s. owners_text ns (frame_registers s.cells depth frames 16)) out out
+  pub none_hang : (ns : Names) (depth frames : ℕ) (out : Option (List ℕ)) → ((i : ℕ) → ShowsNone M (Register depth i)) →
+      Tells M (λ s. owners_text ns (frame_registers s.cells depth frames 16)) out out
   none_hang ns depth frames out none = record {
     out = λ s st. none_sent out
         ∙ ap (λ xs. after out (owners_text ns xs)) (sym (gathered_none 16 (λ i. grown s.cells (In_register frames i) (Register depth i))

@@ -91,7 +91,8 @@ called_words : (target : Target) (class : Option ℕ) (ended i : ℕ) (sh : Shap
 called_words x class ended i sh is = grind (arith, nat_tests, at-put_at Unset sh.registers, eqb-true)
 
 -- what goes was no word
-emptied_words : (sh : Shape) (a i : ℕ) (test : Kind → Bool) → test Word ≡ false → test (register sh a) ≡ true → register sh i ≡ Word → register (set_register sh a Null) i ≡ Word
+emptied_words : (sh : Shape) (a i : ℕ) (test : Kind → Bool) → test Word ≡ false → test (register sh a) ≡ true → register sh i ≡ Word →
+    register (set_register sh a Null) i ≡ Word
 emptied_words sh a i test never met is = grind (arith, at-put_at Unset sh.registers a i Null)
 
 module _ (p : Image) (m pc : ℕ) (sh : Shape) (i : ℕ) (is : register sh i ≡ Word) where
@@ -108,7 +109,8 @@ module _ (p : Image) (m pc : ℕ) (sh : Shape) (i : ℕ) (is : register sh i ≡
 
 -- ---- so it has a word
 
-under_words : (p : Image) (t : Typing) (cs : List Cell) (above : List Task) (fr : Frame) (below : List Task) → AllWait p t cs (above ++ Run fr ∷ below) → Waits p t cs (length below) fr
+under_words : (p : Image) (t : Typing) (cs : List Cell) (above : List Task) (fr : Frame) (below : List Task) → AllWait p t cs (above ++ Run fr ∷ below) →
+    Waits p t cs (length below) fr
 under_words p t cs [] fr below w = w.0
 under_words p t cs (Run g ∷ above) fr below w = under_words p t cs above fr below w.1
 under_words p t cs (Trapped ∷ above) fr below w = under_words p t cs above fr below w
@@ -127,7 +129,8 @@ module _ (p : Image) (m : Parts) where
   abbrev M : Machine
   M = record { image = p; parts = m }
 
-  module _ (s : State) (st : StandsFor M s) (k i : ℕ) (fr : Frame) (shape : Shape) (typed : shape_at st.typing fr.method fr.place ≡ Some shape) (is : register shape i ≡ Word) where
+  module _ (s : State) (st : StandsFor M s) (k i : ℕ) (fr : Frame) (shape : Shape) (typed : shape_at st.typing fr.method fr.place ≡ Some shape)
+      (is : register shape i ≡ Word) where
     word_is : (other : Shape) → shape_at st.typing fr.method fr.place ≡ Some other → register other i ≡ Word
     word_is other there = ap (λ (x : Shape). register x i) (same_Some other shape (sym there ∙ typed)) ∙ is
 

@@ -35,8 +35,7 @@ goes_on w x b part parts said fits = ap (λ o. onto w (before o (branches_said p
   where
     go : (o : Option (List Branch)) → onto w (before (Some b) o) ≡ onto x o
     go None = refl
-    go (Some bs) =
-        ap (λ ys. fitting (record w { branches = ys })) (sym (append_assoc w.branches (b ∷ []) bs))
+    go (Some bs) = ap (λ ys. fitting (record w { branches = ys })) (sym (append_assoc w.branches (b ∷ []) bs))
         ∙ ap (λ (y : Way). fitting (record y { branches = y.branches ++ bs })) (fits_so (further w b) x fits)
 
 -- what fits still fits

@@ -1,5 +1,6 @@
 -- What is kept of a line while it comes, by what is taken of it.
-use Rattle.std.proofs.Common.{◌≡◌, ◌≤◌, ◌<◌, ◌+◌, ◌∙◌, ℕ, Bool, true, false, cond, nat_lt, List, [], ◌∷◌, ◌++◌, length, take, length-append, ap, sym, arith, rules, tests, min, Some, None}
+use Rattle.std.proofs.Common.{◌≡◌, ◌≤◌, ◌<◌, ◌+◌, ◌∙◌, ℕ, Bool, true, false, cond, nat_lt, List, [], ◌∷◌, ◌++◌, length, take, length-append, ap, sym, arith}
+use Rattle.std.proofs.Common.{rules, tests, min, Some, None}
 use Rattle.std.proofs.lemmas.List.{length-take, take-append-le, take_all}
 use Rattle.aom_debug_words.specs.Lines.{Kept, fitting_line, pending_of}
 
@@ -16,20 +17,22 @@ lt_false a b h = search (rules, tests, h)
 -- no room: the line goes on
 pub full : (line : List ℕ) (b : ℕ) (k : Kept) → k ≡ pending_of line → length k.bytes ≡ 256 → record { bytes = k.bytes; is_long = true } ≡ pending_of (line ++ b ∷ [])
 full line b k is at =
-    let long : 256 ≤ length line = let e : min 256 (length line) ≡ 256 = sym (length-take 256 line) ∙ (sym (ap (λ (x : Kept). length x.bytes) is) ∙ at) in omega (arith, e) in
+    let long : 256 ≤ length line = let e : min 256 (length line) ≡ 256 = sym (length-take 256 line)
+    ∙ (sym (ap (λ (x : Kept). length x.bytes) is) ∙ at) in omega (arith, e) in
     let bytes : k.bytes ≡ take 256 (line ++ b ∷ []) = ap (λ (x : Kept). x.bytes) is ∙ sym (take-append-le 256 line (b ∷ []) long) in
     let over : true ≡ nat_lt 256 (length (line ++ b ∷ [])) = sym (lt_true 256 (length (line ++ b ∷ [])) (omega (arith, long, more line b))) in
     ap (λ (x : List ℕ). record { bytes = x; is_long = true }) bytes ∙ ap (λ (x : Bool). record { bytes = take 256 (line ++ b ∷ []); is_long = x }) over
 
 -- room: it is kept whole
-pub fits : (line : List ℕ) (b : ℕ) (k : Kept) → k ≡ pending_of line → length k.bytes < 256 → record { bytes = k.bytes ++ b ∷ []; is_long = k.is_long } ≡ pending_of (line ++ b ∷ [])
+pub fits : (line : List ℕ) (b : ℕ) (k : Kept) → k ≡ pending_of line → length k.bytes < 256 →
+    record { bytes = k.bytes ++ b ∷ []; is_long = k.is_long } ≡ pending_of (line ++ b ∷ [])
 fits line b k is below =
-    let short : length line < 256 = let e : min 256 (length line) ≡ length k.bytes = sym (length-take 256 line) ∙ sym (ap (λ (x : Kept). length x.bytes) is) in omega (arith, e, below) in
-    let bytes : k.bytes ++ b ∷ [] ≡ take 256 (line ++ b ∷ []) =
-    ap (λ (x : Kept). x.bytes ++ b ∷ []) is ∙ ap (λ (x : List ℕ). x ++ b ∷ []) (take_all 256 line (omega (arith, short)))
-    ∙ sym (take_all 256 (line ++ b ∷ []) (omega (arith, short, more line b))) in
-    let over : k.is_long ≡ nat_lt 256 (length (line ++ b ∷ [])) =
-    ap (λ (x : Kept). x.is_long) is ∙ (lt_false 256 (length line) (omega (arith, short)) ∙ sym (lt_false 256 (length (line ++ b ∷ [])) (omega (arith, short, more line b)))) in
+    let short : length line < 256 = let e : min 256 (length line) ≡ length k.bytes = sym (length-take 256 line) ∙ sym (ap (λ (x : Kept). length x.bytes) is) in
+    omega (arith, e, below) in
+    let bytes : k.bytes ++ b ∷ [] ≡ take 256 (line ++ b ∷ []) = ap (λ (x : Kept). x.bytes ++ b ∷ []) is
+    ∙ ap (λ (x : List ℕ). x ++ b ∷ []) (take_all 256 line (omega (arith, short))) ∙ sym (take_all 256 (line ++ b ∷ []) (omega (arith, short, more line b))) in
+    let over : k.is_long ≡ nat_lt 256 (length (line ++ b ∷ [])) = ap (λ (x : Kept). x.is_long) is
+    ∙ (lt_false 256 (length line) (omega (arith, short)) ∙ sym (lt_false 256 (length (line ++ b ∷ [])) (omega (arith, short, more line b)))) in
     ap (λ (x : List ℕ). record { bytes = x; is_long = k.is_long }) bytes ∙ ap (λ (x : Bool). record { bytes = take 256 (line ++ b ∷ []); is_long = x }) over
 
 -- a line that is kept whole

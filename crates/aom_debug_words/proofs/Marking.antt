@@ -1,5 +1,6 @@
 -- The first breakpoint at a place is the one that a search from the front finds, by recursion.
-use Rattle.std.proofs.Common.{◌≡◌, ◌∙◌, ◌+◌, ◌||◌, ℕ, suc, Bool, true, false, not, cond, nat_lt, List, [], ◌∷◌, ◌++◌, length, Some, None, refl, sym, ap, arith, rules, tests}
+use Rattle.std.proofs.Common.{◌≡◌, ◌∙◌, ◌+◌, ◌||◌, ℕ, suc, Bool, true, false, not, cond, nat_lt, List, [], ◌∷◌, ◌++◌, length, Some, None, refl, sym, ap, arith}
+use Rattle.std.proofs.Common.{rules, tests}
 use Rattle.std.specs.List.{position, position_or_len, remove}
 use Rattle.std.proofs.lemmas.Bool.{le-ltb, lt-ltb, ltb-false, ltb-true}
 use Rattle.aom_debug_words.specs.declared.spot.Spot.{Spot}
@@ -66,7 +67,8 @@ same_self spot = search (rules, tests)
 
 last_taken : (spot : Spot) (xs : List Spot) → has_spot spot xs ≡ false → without_spot spot (xs ++ spot ∷ []) ≡ xs
 last_taken spot [] none = ap (λ b. cond b [] (spot ∷ [])) (same_self spot)
-last_taken spot (x ∷ xs) none = first_last (same_spot spot x) (has_spot spot xs) x spot xs (without_spot spot (xs ++ spot ∷ [])) none (λ rest. last_taken spot xs rest)
+last_taken spot (x ∷ xs) none =
+    first_last (same_spot spot x) (has_spot spot xs) x spot xs (without_spot spot (xs ++ spot ∷ [])) none (λ rest. last_taken spot xs rest)
 
 by_room : (b : Bool) (spot : Spot) (spots : List Spot) → has_spot spot spots ≡ false → without_spot spot (cond b (spots ++ spot ∷ []) spots) ≡ spots
 by_room true spot spots none = last_taken spot spots none

@@ -80,7 +80,8 @@ pub writes_alike : (p : Image) (s u : State) → AreAlike s u → written p s �
 writes_alike p s u alike = sym (writes_so alike.names alike.one_to_one p s) ∙ ap (written p) (sym alike.same)
 
 pub moves_stay_alike : MovesStayAlike
-moves_stay_alike p t refused c d s u well kept there alike open_c open_d answers = (move_alike p t refused c d s u well kept there alike open_c open_d answers, writes_alike p s u alike)
+moves_stay_alike p t refused c d s u well kept there alike open_c open_d answers =
+    (move_alike p t refused c d s u well kept there alike open_c open_d answers, writes_alike p s u alike)
 
 -- a turn hears what the other hears, and the name of what one makes becomes that of the other
 module _ (p : Image) (t : Typing) (outside : Environment) (heard other : Heard)

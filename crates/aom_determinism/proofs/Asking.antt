@@ -38,7 +38,8 @@ module _ (cs : List Cell) (o : Object) (lives : named cs o.name ≡ Some o) (e :
   taken_waits n c none h = grind (arith, nat_tests, eqb-true o.name n, service_here cs o.name, service_there cs o.name n)
 
   -- its connect is served, or none is lost
-  accepted_waits : (clients : List Client) (x : Seat) (k : ℕ) → x.object ≡ o → e ≡ Connect_of k → AllWait clients cs → AreThere clients then (Some (Of_server x k Accepts))
+  accepted_waits : (clients : List Client) (x : Seat) (k : ℕ) → x.object ≡ o → e ≡ Connect_of k → AllWait clients cs →
+      AreThere clients then (Some (Of_server x k Accepts))
   accepted_waits clients x k same first all = record { asked = asked; serves = tt }
     where
       asked : (n c : ℕ) → is_connecting_at n (client_at clients c) ≡ true → (waits then n c || ((x.object.name == n) && (k == c))) ≡ true
@@ -57,13 +58,13 @@ module _ (p : Image) (s u : State) (all : AllWait s.clients s.cells) (x : Seat) 
   abbrev n : ℕ
   n = x.object.name
 
-  connect_there : (c : ℕ) (es : List Asked) → (service_of s.cells n).queue ≡ Connect_of c ∷ es → (m : Option ℕ) → accepting m x c (taken_from n s) ≡ Goes u → AllThere u
+  connect_there : (c : ℕ) (es : List Asked) → (service_of s.cells n).queue ≡ Connect_of c ∷ es → (m : Option ℕ) →
+      accepting m x c (taken_from n s) ≡ Goes u → AllThere u
   connect_there c es queue y e = grind (arith, nat_tests, goes_same, accepted_waits s.cells x.object lives (Connect_of c) es queue s.clients x c)
 
   -- the session is at its place while it serves
-  message_there :
-      (c m : ℕ) (es : List Asked) → (service_of s.cells n).queue ≡ Message_of c m ∷ es → (o : Option Object) → held s.cells (Elsewhere (Session n c)) ≡ o →
-      attended p x c o m (taken_from n s) ≡ Goes u → AllThere u
+  message_there : (c m : ℕ) (es : List Asked) → (service_of s.cells n).queue ≡ Message_of c m ∷ es → (o : Option Object) →
+      held s.cells (Elsewhere (Session n c)) ≡ o → attended p x c o m (taken_from n s) ≡ Goes u → AllThere u
   message_there c m es queue None at e = cc
   message_there c m es queue (Some o) at e = go (part_of p Attends o.thing) e
     where
@@ -83,7 +84,8 @@ module _ (p : Image) (s u : State) (all : AllWait s.clients s.cells) (x : Seat) 
         serves = calm.places n c ∙ held_served s.cells n (taken_first (service_of s.cells n)) (Elsewhere (Session n c)) ∙ at;
       })
 
-  close_there : (c : ℕ) (es : List Asked) → (service_of s.cells n).queue ≡ Close_of c ∷ es → (o : Option Object) → parting_with p x c o (taken_from n s) ≡ Goes u → AllThere u
+  close_there : (c : ℕ) (es : List Asked) → (service_of s.cells n).queue ≡ Close_of c ∷ es → (o : Option Object) →
+      parting_with p x c o (taken_from n s) ≡ Goes u → AllThere u
   close_there c es queue y e = grind (arith, nat_tests, goes_same, dispatch_begun, AllWait, service_moved, others_wait)
 
   serves_there : (queue : List Asked) → (service_of s.cells n).queue ≡ queue → serves_first p x queue s ≡ Goes u → AllThere u
@@ -97,7 +99,8 @@ module _ (p : Image) (s u : State) (all : AllWait s.clients s.cells) (x : Seat) 
     where
       go : (b : Bool) → cond b (serves_first p x (service_of s.cells n).queue s) (dispatched (part_of p Handles x.object.thing) x s) ≡ Goes u → AllThere u
       go true e = serves_there (service_of s.cells n).queue refl e
-      go false e = let d = dispatched_so p s u x e in subst AllThere (sym d.2) (grind (arith, nat_tests, plain_there s.clients, same_waits s.clients s.cells, same_requested s.cells x.object, on_none))
+      go false e = let d = dispatched_so p s u x e in
+          subst AllThere (sym d.2) (grind (arith, nat_tests, plain_there s.clients, same_waits s.clients s.cells, same_requested s.cells x.object, on_none))
 
 -- ---- a client does something
 
@@ -117,7 +120,8 @@ module _ (p : Image) (client : ℕ) (s : State) (tidy : Tidy s.cells) (fit : Cli
   abbrev StillWait : State → Type 0
   StillWait u = AllWait u.clients u.cells
 
-  connecting_waits : (r : Option CommandRefusal) (class : ℕ) (l : Option Listed) → asked_server p class s.cells ≡ l → (slots : ℕ) → StillWait (connecting p client s r l slots)
+  connecting_waits : (r : Option CommandRefusal) (class : ℕ) (l : Option Listed) → asked_server p class s.cells ≡ l → (slots : ℕ) →
+      StillWait (connecting p client s r l slots)
   connecting_waits (Some r) class l listed slots n d e = all n d e
   connecting_waits None class None listed slots n d e = all n d e
   connecting_waits None class (Some x) listed slots n d e = go (client == d) refl
@@ -133,10 +137,9 @@ module _ (p : Image) (client : ℕ) (s : State) (tidy : Tidy s.cells) (fit : Cli
           let l = asked_there p class s.cells x tidy listed in
           let lives : named s.cells x.name ≡ Some l.0 = ap (λ k. named s.cells k) (sym l.1) ∙ l.2 in
           let q = (service_of s.cells x.name).queue in
-          ap (λ k. waits cells k d) (sym at)
-          ∙ ap (λ v. list_any (is_connect_of d) v.queue) (service_here s.cells x.name (asked_last (Connect_of client) (service_of s.cells x.name)) l.0 lives)
-          ∙ list_any-append (is_connect_of d) q (Connect_of client ∷ []) ∙ ap (λ b. list_any (is_connect_of d) q || (b || false)) (eq-eqb client d same)
-          ∙ or_true (list_any (is_connect_of d) q)
+          ap (λ k. waits cells k d) (sym at) ∙ ap (λ v. list_any (is_connect_of d) v.queue)
+          (service_here s.cells x.name (asked_last (Connect_of client) (service_of s.cells x.name)) l.0 lives) ∙ list_any-append (is_connect_of d) q
+          (Connect_of client ∷ []) ∙ ap (λ b. list_any (is_connect_of d) q || (b || false)) (eq-eqb client d same) ∙ or_true (list_any (is_connect_of d) q)
         where
           or_true : (b : Bool) → (b || true) ≡ true
           or_true true = refl
@@ -145,7 +148,8 @@ module _ (p : Image) (client : ℕ) (s : State) (tidy : Tidy s.cells) (fit : Cli
       go : (b : Bool) → (client == d) ≡ b → waits cells n d ≡ true
       go true same =
           let at = eqb-true client d same in
-          let now = ap (λ k. client_at (with_client client (Connecting x.name slots) s.clients) k) (sym at) ∙ client_here client (Connecting x.name slots) s.clients in
+          let now = ap (λ k. client_at (with_client client (Connecting x.name slots) s.clients) k) (sym at)
+          ∙ client_here client (Connecting x.name slots) s.clients in
           its_own (eqb-true x.name n (ap (is_connecting_at n) (sym now) ∙ e)) at
       go false other = calm.connects n d (all n d (ap (is_connecting_at n) (sym (client_there client d (Connecting x.name slots) s.clients other)) ∙ e))
 
@@ -163,7 +167,8 @@ module _ (p : Image) (client : ℕ) (s : State) (tidy : Tidy s.cells) (fit : Cli
       go n d true same h =
           let none = ap (λ k. service_of s.cells k) (sym (eqb-true name n same)) ∙ service_unnamed s.cells name free in
           absurd (true≢false (sym h ∙ ap (λ v. list_any (is_connect_of d) v.queue) none))
-      go n d false other h = ap (λ b. list_any (is_connect_of d) (cond b sent (service_of (reserved (asked_last (Message_of client name)) server s.cells) n)).queue) other ∙ calm.connects n d h
+      go n d false other h = ap (λ b. list_any (is_connect_of d)
+          (cond b sent (service_of (reserved (asked_last (Message_of client name)) server s.cells) n)).queue) other ∙ calm.connects n d h
   sending_waits None _ name free words = all
 
   leaving_waits : (to : Option Client) → ((n : ℕ) (k : Client) → to ≡ Some k → is_connecting_at n k ≡ false) → StillWait (leaving p client s to)

@@ -112,7 +112,8 @@ module _ (p : Image) (answer : ℤ) (s : State) where
     pub at_it : (k : ℕ) (b c : Bool) → b ≡ c → (serves p s.cells k o.name && b) ≡ ((n == k) && c)
     at_it k b c e = ap (λ x. x && b) (served k) ∙ ap (λ x. (n == k) && x) e
 
-    pub found : (session owed : Bool) → is_dead s.killed n ≡ false → in_session s.cells o.name ≡ session → is_owed (requested s.cells o.name) ≡ owed → Finds p s n o.name session owed
+    pub found : (session owed : Bool) → is_dead s.killed n ≡ false → in_session s.cells o.name ≡ session → is_owed (requested s.cells o.name) ≡ owed →
+        Finds p s n o.name session owed
     found session owed alive met owing = record {
       lives = alive;
       serves = here;
@@ -127,7 +128,8 @@ module _ (p : Image) (answer : ℤ) (s : State) where
     open_for : is_owed (requested s.cells o.name) ≡ true → in_session s.cells o.name ≡ true
     open_for owed = grind (arith, nat_tests, here)
 
-    connects : (d x : Bool) → is_dead s.killed n ≡ d → in_session s.cells o.name ≡ x → Told p answer s (wanted_if (not (d || x)) (Opens n o.name)) (set_session o.name (opens d x answer) s.cells)
+    connects : (d x : Bool) → is_dead s.killed n ≡ d → in_session s.cells o.name ≡ x →
+        Told p answer s (wanted_if (not (d || x)) (Opens n o.name)) (set_session o.name (opens d x answer) s.cells)
     connects true true dead met = absurd (true≢false (sym dead ∙ alive_in met))
     connects true false dead met = opened_alike o false (sym met)
     connects false true dead met = opened_alike o true (sym met)
@@ -147,7 +149,8 @@ module _ (p : Image) (answer : ℤ) (s : State) where
       not_begun : (d x : Bool) → (not d && x) ≡ false → Told p answer s None (set_request o.name (then d x) s.cells)
       not_begun d x e = grind (arith, nat_tests, asked_alike o, owed_then d x, idle_owed)
 
-      issues : (d x : Bool) → is_dead s.killed n ≡ d → in_session s.cells o.name ≡ x → Told p answer s (wanted_if (not d && x) (Starts n o.name f w)) (set_request o.name (then d x) s.cells)
+      issues : (d x : Bool) → is_dead s.killed n ≡ d → in_session s.cells o.name ≡ x →
+          Told p answer s (wanted_if (not d && x) (Starts n o.name f w)) (set_request o.name (then d x) s.cells)
       issues true x dead met = not_begun true x refl
       issues false false dead met = not_begun false false refl
       issues false true dead met = record {
@@ -164,7 +167,8 @@ module _ (p : Image) (answer : ℤ) (s : State) where
     }
     asks _ _ f w dead met = told_none _ (unchanged_itself p s.cells)
 
-    aborts : (b : Bool) → is_owed (requested s.cells o.name) ≡ b → Told p answer s (wanted_if b (Cancels n o.name)) (set_request o.name (on_request aborted (requested s.cells o.name)) s.cells)
+    aborts : (b : Bool) → is_owed (requested s.cells o.name) ≡ b →
+        Told p answer s (wanted_if b (Cancels n o.name)) (set_request o.name (on_request aborted (requested s.cells o.name)) s.cells)
     aborts false owed = asked_alike o _ (aborted_owed (requested s.cells o.name) ∙ sym owed)
     aborts true owed = record {
       finds = found true true (alive_in (open_for owed)) (open_for owed) owed;
@@ -172,7 +176,8 @@ module _ (p : Image) (answer : ℤ) (s : State) where
       meets = meets_asked p s.cells o (on_request aborted (requested s.cells o.name));
     }
 
-    closes : is_owed (requested s.cells o.name) ≡ false → (b : Bool) → in_session s.cells o.name ≡ b → Told p answer s (wanted_if b (Closes n o.name)) (set_session o.name false s.cells)
+    closes : is_owed (requested s.cells o.name) ≡ false → (b : Bool) → in_session s.cells o.name ≡ b →
+        Told p answer s (wanted_if b (Closes n o.name)) (set_session o.name false s.cells)
     closes unowed false met = opened_alike o false (sym met)
     closes unowed true met = record {
       finds = found true false (alive_in met) met unowed;
@@ -184,7 +189,8 @@ module _ (p : Image) (answer : ℤ) (s : State) where
 
 module _ (p : Image) (answer : ℤ) (s : State) (fr : Frame) (ts : List Task) where
   -- a method that cancels has its request completed as it ends
-  pub ended_same : not (is_cancel (method_role p fr.method) && int_eq (status_of (own_request s.cells fr.home)) pending) ≡ true → Unchanged p s.cells (ended_cells p fr s.cells)
+  pub ended_same : not (is_cancel (method_role p fr.method) && int_eq (status_of (own_request s.cells fr.home)) pending) ≡ true →
+      Unchanged p s.cells (ended_cells p fr s.cells)
   ended_same e =
       grind (arith, nat_tests, Unchanged p s.cells, unchanged_itself p s.cells, asked_same p answer s fr.home, cancelled_owed, completed_owed, not-true)
 
@@ -214,15 +220,18 @@ module _ (p : Image) (answer : ℤ) (s : State) (fr : Frame) (ts : List Task) wh
     pub ask_told : (b x : ℕ) (h : Home) → IsAlive s.cells h → Told p answer s (wanted_by s p fr ts h (An_ask b x)) s.cells
     ask_told b x y alive = grind (arith, nat_tests, told_none p answer s, unchanged_itself p s.cells, asks p answer s holds)
 
-    pub abort_told : (h : Home) → IsAlive s.cells h → Told p answer s (wanted_by s p fr ts h A_cancel) (rerequested s.cells h (on_request aborted (own_request s.cells h)))
+    pub abort_told : (h : Home) → IsAlive s.cells h →
+        Told p answer s (wanted_by s p fr ts h A_cancel) (rerequested s.cells h (on_request aborted (own_request s.cells h)))
     abort_told (Inside o from) alive = go (native_of (thing_kind p o.thing)) refl
       where
-        go : (x : Option ℕ) → native_of (thing_kind p o.thing) ≡ x → Told p answer s (wanted_at s fr ts o x A_cancel) (set_request o.name (on_request aborted (requested s.cells o.name)) s.cells)
+        go : (x : Option ℕ) → native_of (thing_kind p o.thing) ≡ x →
+            Told p answer s (wanted_at s fr ts o x A_cancel) (set_request o.name (on_request aborted (requested s.cells o.name)) s.cells)
         go None e = asked_elsewhere p answer s o alive e _
         go (Some n) e = aborts p answer s holds o alive n e (is_owed (requested s.cells o.name)) refl
     abort_told _ alive = told_none p answer s _ (unchanged_itself p s.cells)
 
-    pub close_told : (h : Home) → IsAlive s.cells h → is_owed (own_request s.cells h) ≡ false → Told p answer s (wanted_by s p fr ts h A_close) (resessioned s.cells h false)
+    pub close_told : (h : Home) → IsAlive s.cells h → is_owed (own_request s.cells h) ≡ false →
+        Told p answer s (wanted_by s p fr ts h A_close) (resessioned s.cells h false)
     close_told (Inside o from) alive unowed = go (native_of (thing_kind p o.thing)) refl
       where
         go : (x : Option ℕ) → native_of (thing_kind p o.thing) ≡ x → Told p answer s (wanted_at s fr ts o x A_close) (set_session o.name false s.cells)

@@ -68,7 +68,8 @@ unchanged_stored p cs x w v =
     grind (arith, nat_tests, unchanged_itself p cs, unchanged_alike p cs, named_set_word cs, requested_set_word cs, session_set_word cs)
 
 -- a new cell owes nothing, and has no session
-pub unchanged_new : (p : Image) (name : ℕ) (thing : Thing) (words : List ℤ) (owner : Place) (cs : List Cell) → named cs name ≡ None → Unchanged p cs (with_new name thing words owner cs)
+pub unchanged_new : (p : Image) (name : ℕ) (thing : Thing) (words : List ℤ) (owner : Place) (cs : List Cell) → named cs name ≡ None →
+    Unchanged p cs (with_new name thing words owner cs)
 unchanged_new p name thing words owner cs unused = search (arith, nat_tests, eqb-true name, owes p cs, and_right, meets p cs)
 
 -- ---- another request, and another session

@@ -33,7 +33,8 @@ module _ (names : ℕ → ℕ) where
   messages_kept (c ∷ cs) = ap (λ n. cond (is_object c.object.thing) n (suc n)) (messages_kept cs)
 
   -- what of a queue passes a test that looks at no name
-  filter_renamed : (f : Asked → Bool) → ((e : Asked) → f (renamed_asked names e) ≡ f e) → (es : List Asked) → filter f (renamed_queue names es) ≡ renamed_queue names (filter f es)
+  filter_renamed : (f : Asked → Bool) → ((e : Asked) → f (renamed_asked names e) ≡ f e) → (es : List Asked) →
+      filter f (renamed_queue names es) ≡ renamed_queue names (filter f es)
   filter_renamed f same [] = refl
   filter_renamed f same (e ∷ es) = grind (arith, nat_tests, filter_renamed f same es, cond_applied)
 
@@ -67,7 +68,8 @@ module _ (names : ℕ → ℕ) where
   dies_renamed x = grind arith
 
 module _ (names : ℕ → ℕ) (one_to_one : IsOneToOne names) where
-  asked_kept : (r : Option CommandRefusal) (most : ℕ) (l : Option Listed) (cs : List Cell) → asked_of r most (option_map (renamed_listed names) l) (renamed_cells names cs) ≡ asked_of r most l cs
+  asked_kept : (r : Option CommandRefusal) (most : ℕ) (l : Option Listed) (cs : List Cell) →
+      asked_of r most (option_map (renamed_listed names) l) (renamed_cells names cs) ≡ asked_of r most l cs
   asked_kept None most (Some x) cs = grind (arith, nat_tests, service_renamed names one_to_one cs x.name, seats_kept names)
   asked_kept _ most _ cs = refl
 
@@ -84,7 +86,8 @@ module _ (names : ℕ → ℕ) (one_to_one : IsOneToOne names) where
     pub refusal_kept : (command : ClientCommand) → refusal p client s' command ≡ refusal p client s command
     refusal_kept x = grind (arith, nat_tests, own_renamed, server_renamed names p, asked_kept, room_kept)
 
-    connecting_renamed : (r : Option CommandRefusal) (l : Option Listed) (slots : ℕ) → connecting p client s' r (option_map (renamed_listed names) l) slots ≡ renamed names (connecting p client s r l slots)
+    connecting_renamed : (r : Option CommandRefusal) (l : Option Listed) (slots : ℕ) →
+        connecting p client s' r (option_map (renamed_listed names) l) slots ≡ renamed names (connecting p client s r l slots)
     connecting_renamed None (Some x) slots = grind (
       arith,
       nat_tests,
@@ -93,7 +96,8 @@ module _ (names : ℕ → ℕ) (one_to_one : IsOneToOne names) where
     )
     connecting_renamed _ _ slots = refl
 
-    message_renamed : (name : ℕ) (words : List ℤ) (server : ℕ) → with_message p client s' (names name) words (names server) ≡ renamed_cells names (with_message p client s name words server)
+    message_renamed : (name : ℕ) (words : List ℤ) (server : ℕ) →
+        with_message p client s' (names name) words (names server) ≡ renamed_cells names (with_message p client s name words server)
     message_renamed name words server = search (arith, nat_tests, asks_renamed names one_to_one (Message_of client name) server s.cells)
 
     sending_renamed : (r : Option CommandRefusal) (x : Client) (name : ℕ) (words : List ℤ) →

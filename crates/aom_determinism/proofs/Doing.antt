@@ -64,7 +64,8 @@ module _ (names : ℕ → ℕ) where
       line_on p m (renamed_home names home) height (renamed_tasks names below) ≡ renamed_tasks names (line_on p m home height below)
   line_renamed p m x height below = grind (arith, nat_tests, begun_by_renamed p)
 
-  pub begun_renamed : (p : Image) (o : Object) (height : ℕ) (below : List Task) → begun p (renamed_object names o) height (renamed_tasks names below) ≡ renamed_tasks names (begun p o height below)
+  pub begun_renamed : (p : Image) (o : Object) (height : ℕ) (below : List Task) →
+      begun p (renamed_object names o) height (renamed_tasks names below) ≡ renamed_tasks names (begun p o height below)
   begun_renamed p o height below = grind (arith, nat_tests, destructed_renamed p o height below, cond_applied)
 
   to_trap_renamed : (ts : List Task) → to_trap (renamed_tasks names ts) ≡ renamed_tasks names (to_trap ts)
@@ -80,7 +81,8 @@ module _ (names : ℕ → ℕ) (one_to_one : IsOneToOne names) where
   stored_renamed : (cs : List Cell) (h : Home) (w : ℕ) (v : ℤ) → stored (renamed_cells names cs) (renamed_home names h) w v ≡ renamed_cells names (stored cs h w v)
   stored_renamed cs x w v = grind (arith, nat_tests, set_word_field_renamed names one_to_one)
 
-  rerequested_renamed : (cs : List Cell) (h : Home) (r : Option Request) → rerequested (renamed_cells names cs) (renamed_home names h) r ≡ renamed_cells names (rerequested cs h r)
+  rerequested_renamed : (cs : List Cell) (h : Home) (r : Option Request) →
+      rerequested (renamed_cells names cs) (renamed_home names h) r ≡ renamed_cells names (rerequested cs h r)
   rerequested_renamed cs x r = grind (arith, nat_tests, set_request_renamed names one_to_one)
 
   -- ---- sessions
@@ -88,18 +90,22 @@ module _ (names : ℕ → ℕ) (one_to_one : IsOneToOne names) where
   own_session_kept : (cs : List Cell) (h : Home) → own_session (renamed_cells names cs) (renamed_home names h) ≡ own_session cs h
   own_session_kept cs x = grind (arith, nat_tests, in_session_kept names one_to_one cs)
 
-  resessioned_renamed : (cs : List Cell) (h : Home) (session : Bool) → resessioned (renamed_cells names cs) (renamed_home names h) session ≡ renamed_cells names (resessioned cs h session)
+  resessioned_renamed : (cs : List Cell) (h : Home) (session : Bool) →
+      resessioned (renamed_cells names cs) (renamed_home names h) session ≡ renamed_cells names (resessioned cs h session)
   resessioned_renamed cs x session = grind (arith, nat_tests, set_session_renamed names one_to_one)
 
   -- ---- what an item is dealt with
 
   module _ (p : Image) (items : List Item) (ts : List Task) (s : State) where
-    destroyed_renamed : (o : Option Object) → destroyed p (option_map (renamed_object names) o) items (renamed_tasks names ts) (renamed names s) ≡ renamed names (destroyed p o items ts s)
+    destroyed_renamed : (o : Option Object) →
+        destroyed p (option_map (renamed_object names) o) items (renamed_tasks names ts) (renamed names s) ≡ renamed names (destroyed p o items ts s)
     destroyed_renamed x = grind (arith, nat_tests, tasks_counted names ts, moved_renamed names one_to_one, begun_renamed names p)
 
-  pub dealt_renamed : (p : Image) (items : List Item) (ts : List Task) (s : State) → dealt_with p items (renamed_tasks names ts) (renamed names s) ≡ renamed names (dealt_with p items ts s)
+  pub dealt_renamed : (p : Image) (items : List Item) (ts : List Task) (s : State) →
+      dealt_with p items (renamed_tasks names ts) (renamed names s) ≡ renamed names (dealt_with p items ts s)
   dealt_renamed p [] ts s = refl
-  dealt_renamed p (An_object ∷ items) ts s = rw (held_renamed names one_to_one s.cells (Entry (length items)), destroyed_renamed p items ts s (held s.cells (Entry (length items))))
+  dealt_renamed p (An_object ∷ items) ts s =
+      rw (held_renamed names one_to_one s.cells (Entry (length items)), destroyed_renamed p items ts s (held s.cells (Entry (length items))))
   dealt_renamed p (_ ∷ items) ts s = refl
 
 -- ---- what a method goes on with
@@ -117,7 +123,8 @@ module _ (names : ℕ → ℕ) where
   ended_well_renamed : (d : Dispatch) → ended_well (renamed_dispatch names d) ≡ renamed_dispatch names (ended_well d)
   ended_well_renamed x = grind arith
 
-  accepted_clients_renamed : (d : Dispatch) (clients : List Client) → accepted_clients (renamed_dispatch names d) (renamed_clients names clients) ≡ renamed_clients names (accepted_clients d clients)
+  accepted_clients_renamed : (d : Dispatch) (clients : List Client) →
+      accepted_clients (renamed_dispatch names d) (renamed_clients names clients) ≡ renamed_clients names (accepted_clients d clients)
   accepted_clients_renamed x clients = grind (arith, nat_tests, opened_client_renamed names)
 
   accepted_renamed : IsOneToOne names → (d : Dispatch) (from : Place) (cs : List Cell) →
@@ -189,7 +196,8 @@ module _ (names : ℕ → ℕ) (one_to_one : IsOneToOne names) (p : Image) (c : 
   place_renamed x = grind (arith, nat_tests, tasks_counted names ts, field_renamed names fr.home)
 
   cells_renamed : (u : Update) → cells_after p fr' ts' s' (renamed_update names u) ≡ renamed_cells names (cells_after p fr ts s u)
-  cells_renamed (Carried from to) = rw (place_renamed from, place_renamed to, moved_renamed names one_to_one (spot_place p fr ts s from) (spot_place p fr ts s to) s.cells)
+  cells_renamed (Carried from to) =
+      rw (place_renamed from, place_renamed to, moved_renamed names one_to_one (spot_place p fr ts s from) (spot_place p fr ts s to) s.cells)
   cells_renamed (Made name class a) = rw (tasks_counted names ts)
   cells_renamed (Written w v) = stored_renamed names one_to_one s.cells fr.home w v
   cells_renamed (Requested r) = rerequested_renamed names one_to_one s.cells fr.home r
@@ -245,7 +253,8 @@ module _ (names : ℕ → ℕ) (one_to_one : IsOneToOne names) (p : Image) (c : 
   either_renamed x y z x' y' e f = grind arith
 
   -- a jump by the request of what the method works on
-  branch_renamed : (test : Option Request → Bool) (to : ℕ) → jumps_if fr' (test (own_request s'.cells fr'.home)) to ≡ renamed_effect names (jumps_if fr (test (own_request s.cells fr.home)) to)
+  branch_renamed : (test : Option Request → Bool) (to : ℕ) →
+      jumps_if fr' (test (own_request s'.cells fr'.home)) to ≡ renamed_effect names (jumps_if fr (test (own_request s.cells fr.home)) to)
   branch_renamed test to = grind (arith, nat_tests, own_request_kept names one_to_one s.cells fr.home, either_renamed)
 
   -- a request that is active is cancelled

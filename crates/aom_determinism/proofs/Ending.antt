@@ -108,8 +108,9 @@ module _ (p : Image) (t : Typing) (outside : Environment) (few : outside.limit �
     still_spare = grind (arith, nat_tests)
 
   -- less is left
-  less_left : (n k : ℕ) → ((j : ℕ) → Between n k j) → (lines : List Line) (s u : State) → left outside s ≤ k → left outside u < left outside s → spare outside.limit s < suc n
-      → u.tasks ≡ s.tasks → u.rest.dispatches ≡ s.rest.dispatches → u.rest.ended ≡ s.rest.ended → IsBetween s → Reached lines u → WellTyped p t u → CanEnd p outside lines
+  less_left : (n k : ℕ) → ((j : ℕ) → Between n k j) → (lines : List Line) (s u : State) → left outside s ≤ k → left outside u < left outside s →
+      spare outside.limit s < suc n → u.tasks ≡ s.tasks → u.rest.dispatches ≡ s.rest.dispatches → u.rest.ended ≡ s.rest.ended → IsBetween s → Reached lines u →
+      WellTyped p t u → CanEnd p outside lines
   less_left n k again lines s u most falls spares tasks dispatches ended between r typed =
       again (suc (natives_left outside u)) lines u (omega (arith, falls, most))
       (omega arith) (omega (arith, still_spare s u tasks dispatches ended, spares)) r typed (still_between s u tasks dispatches ended between)
@@ -118,13 +119,15 @@ module _ (p : Image) (t : Typing) (outside : Environment) (few : outside.limit �
       (lines : List Line) (s : State) → left outside s ≤ k → natives_left outside s ≤ j → spare outside.limit s < suc n → WellTyped p t s →
       IsBetween s → (x : Turning) → Kind outside s x → (u : State) → turned p s x ≡ Goes u → Reached lines u → WellTyped p t u → CanEnd p outside lines
   by_kind n k j ends again polling lines s most few_natives spares w between _ cuts u goes r typed = grind (arith, nat_tests, over lines u Limit r, goes_same)
-  by_kind n k j ends again polling lines s most few_natives spares w between _ waits u goes r typed = over lines u Waiting r (ap (λ (v : State). v.rest.ended) (sym (goes_same _ u goes)))
+  by_kind n k j ends again polling lines s most few_natives spares w between _ waits u goes r typed =
+      over lines u Waiting r (ap (λ (v : State). v.rest.ended) (sym (goes_same _ u goes)))
   by_kind n k j ends again polling lines s most few_natives spares w between _ strays u goes r typed = cc
   by_kind n k j ends again polling lines s most few_natives spares w between _ (completes_one x first) u goes r typed =
       let same = sym (goes_same _ u goes) in
       let timers = completed_fewer (pos 0) s.cells w.good.tidy x first in
       let falls = fewer_left outside s u (omega (arith, timers, ap (λ (v : State). timers_in v.cells) same, ap (λ (v : State). events_left outside v) same)) in
-      less_left n k again lines s u most falls spares (ap (λ (v : State). v.tasks) same) (ap (λ (v : State). v.rest.dispatches) same) (ap (λ (v : State). v.rest.ended) same) between r typed
+      less_left n k again lines s u most falls spares (ap (λ (v : State). v.tasks) same) (ap (λ (v : State). v.rest.dispatches) same)
+      (ap (λ (v : State). v.rest.ended) same) between r typed
   by_kind n k j ends again polling lines s most few_natives spares w between _ (hears_one e next) u goes r typed = grind (
     arith,
     nat_tests,
@@ -176,8 +179,8 @@ module _ (p : Image) (t : Typing) (outside : Environment) (few : outside.limit �
       let owed = hears_nothing p outside s in
       let heard = quiet s in
       let next = leads_on p t (turn p outside heard s) (turn_goes_on p t outside wired is_typed heard s w between owed (kept lines s r).fit) in
-      further lines (written_turn p outside s)
-      (by_kind n k j ends (λ i. by_turns n k i ends) (by_turns n (suc k) j ends) (lines ++ written_turn p outside s) s (omega (arith, less)) (omega (arith, few_natives)) spares w between
+      further lines (written_turn p outside s) (by_kind n k j ends (λ i. by_turns n k i ends)
+      (by_turns n (suc k) j ends) (lines ++ written_turn p outside s) s (omega (arith, less)) (omega (arith, few_natives)) spares w between
       (turning outside heard s) (kind_of outside s heard) next.0 next.1 (turns heard r between owed next.1) next.2)
   by_turns n x j ends lines s less few_natives spares r w between = grind arith
 
@@ -190,7 +193,8 @@ module _ (p : Image) (t : Typing) (outside : Environment) (few : outside.limit �
       let next = leads_on p t (step p (choice s) s) (step_keeps p t wired is_typed (choice s) s w free.name) in
       let lower = moves_lower_ranks p t linked is_typed (choice s) s next.0 w busy next.1 in
       let kept = moved_spares p outside.limit few (choice s) s next.0 next.1 in
-      further lines (written p s) (again (lines ++ written p s) next.0 (omega (arith, lower, less)) (omega (arith, kept, spares)) (moves (choice s) r busy free next.1) next.2)
+      further lines (written p s)
+      (again (lines ++ written p s) next.0 (omega (arith, lower, less)) (omega (arith, kept, spares)) (moves (choice s) r busy free next.1) next.2)
 
   by_tasks : (n : ℕ) → Ends n → (ts : List Task) (lines : List Line) (s : State) → s.tasks ≡ ts →
       s.rest.ended ≡ None → spare outside.limit s < suc n → Reached lines s → WellTyped p t s → (IsBusy s → CanEnd p outside lines) → CanEnd p outside lines
@@ -203,7 +207,8 @@ module _ (p : Image) (t : Typing) (outside : Environment) (few : outside.limit �
   by_end n ends None lines s going spares r w busy = by_tasks n ends s.tasks lines s refl going spares r w busy
   by_end n ends (Some ending) lines s ended spares r w busy = over lines s ending r ended
 
-  by_moves : (n k : ℕ) → Ends n → (lines : List Line) (s : State) → rank p s < k → spare outside.limit s < suc n → Reached lines s → WellTyped p t s → CanEnd p outside lines
+  by_moves : (n k : ℕ) → Ends n → (lines : List Line) (s : State) → rank p s < k → spare outside.limit s < suc n → Reached lines s →
+      WellTyped p t s → CanEnd p outside lines
   by_moves n zero ends lines s less spares r w = absurd (omega (arith, less))
   by_moves n (suc k) ends lines s less spares r w =
       by_end n ends s.rest.ended lines s refl spares r w (λ busy. by_move (suc n) k (by_moves n k ends) lines s (omega (arith, less)) spares r w busy)
@@ -213,4 +218,5 @@ module _ (p : Image) (t : Typing) (outside : Environment) (few : outside.limit �
   ends_all (suc n) lines s spares r w = by_moves n (suc (rank p s)) (ends_all n) lines s (omega arith) spares r w
 
 pub runs_can_end : RunsCanEnd
-runs_can_end p t outside few wired linked is_typed lines s r w = ends_all p t outside few wired linked is_typed (suc (spare outside.limit s)) lines s (omega arith) r w
+runs_can_end p t outside few wired linked is_typed lines s r w =
+    ends_all p t outside few wired linked is_typed (suc (spare outside.limit s)) lines s (omega arith) r w

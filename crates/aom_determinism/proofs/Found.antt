@@ -93,7 +93,8 @@ module _ (c : Cell) (cs : List Cell) (y : Candidate) (tidy : Tidy (c ∷ cs)) (r
   ready_here : (r : Request) → c.request ≡ Some r → goes_now c r ≡ true → me r ≡ y → IsReady (c ∷ cs) y
   ready_here r asked ready same = grind (arith, nat_tests, asked, is_first)
 
-  first_of_all : (r : Request) → c.request ≡ Some r → goes_now c r ≡ true → (others : Option Candidate) → first_ready cs ≡ others → Some (before_others (me r) others) ≡ Some y → IsReady (c ∷ cs) y
+  first_of_all : (r : Request) → c.request ≡ Some r → goes_now c r ≡ true → (others : Option Candidate) → first_ready cs ≡ others →
+      Some (before_others (me r) others) ≡ Some y → IsReady (c ∷ cs) y
   first_of_all r asked ready None same e = ready_here r asked ready cc
   first_of_all r asked ready (Some b) same e = go (goes_before b.request r) e
     where
@@ -101,7 +102,8 @@ module _ (c : Cell) (cs : List Cell) (y : Candidate) (tidy : Tidy (c ∷ cs)) (r
       go true e = ready_later (same ∙ e)
       go false e = ready_here r asked ready cc
 
-  ready_or_not : (r : Request) → c.request ≡ Some r → (b : Bool) → goes_now c r ≡ b → cond b (Some (before_others (me r) (first_ready cs))) (first_ready cs) ≡ Some y → IsReady (c ∷ cs) y
+  ready_or_not : (r : Request) → c.request ≡ Some r → (b : Bool) → goes_now c r ≡ b →
+      cond b (Some (before_others (me r) (first_ready cs))) (first_ready cs) ≡ Some y → IsReady (c ∷ cs) y
   ready_or_not r asked x ready e = grind (arith, nat_tests, first_of_all, asked, ready_later)
 
   with_request_of : (r : Option Request) → c.request ≡ r → among_ready c r (first_ready cs) ≡ Some y → IsReady (c ∷ cs) y
@@ -120,7 +122,8 @@ IsAbout s (Obeys client command name) = named s.cells name ≡ None
 IsAbout s _ = Unit {0}
 
 module _ (outside : Environment) (heard : Heard) (s : State) where
-  about_event : (name : ℕ) (next : Option TimedEvent) (after : Turning) → named s.cells name ≡ None → IsAbout s after → IsAbout s (by_event outside name s next after)
+  about_event : (name : ℕ) (next : Option TimedEvent) (after : Turning) → named s.cells name ≡ None → IsAbout s after →
+      IsAbout s (by_event outside name s next after)
   about_event name x after free h = grind (arith, nat_tests, lives outside s)
 
   about_timer : (next : Option Timed) (after : Turning) → first_due s.cells ≡ next → IsAbout s after → IsAbout s (by_timer s next after)

@@ -154,7 +154,8 @@ module _ (names : ℕ → ℕ) where
     dispatch_spared : (d : Dispatch) (seats : List Seat) → AllSit cs seats → SitsFirst cs (seat_of d) seats → IsAtPlace cs (Some d) → renamed_dispatch names d ≡ d
     dispatch_spared x seats sit h at = grind (arith, nat_tests, held_named)
 
-    tasks_spared : (ls : List Layer) (back : Back) → Stack p t cs back ls → IsAtPlace cs (dispatch_of (tasks_of ls)) → renamed_tasks names (tasks_of ls) ≡ tasks_of ls
+    tasks_spared : (ls : List Layer) (back : Back) → Stack p t cs back ls → IsAtPlace cs (dispatch_of (tasks_of ls)) →
+        renamed_tasks names (tasks_of ls) ≡ tasks_of ls
     tasks_spared [] back k at = refl
     tasks_spared (Method fr sh ∷ ls) back k at = rw (home_spared ls fr.home k.2, tasks_spared ls (Returns fr.method fr.home) k.4 at)
     tasks_spared (Mark gv ∷ ls) back k at = rw (tasks_spared ls (Caught gv) k.1 at)
@@ -194,11 +195,14 @@ session_null p t cs (Ending o left ∷ ls) back n c k e = grind (arith, nat_test
 session_null p t cs (Unwinding code es ∷ ls) back n c k e = session_null p t cs ls Leaves n c k.1 e
 session_null p t cs (Dispatching d seats ∷ ls) back n c k e = by_dispatch d (grind (arith, nat_tests, session_declared))
   where
-    by_dispatch : (d : Dispatch) → claim p (declared p cs) ls (Elsewhere (Session n c)) ≡ Null → by_close d n c (claim p (declared p cs) ls (Elsewhere (Session n c))) ≡ Null
-    by_dispatch (Of_server x client Parts) null = ap (cond ((x.object.name == n) && (client == c)) Null) null ∙ cond_same ((x.object.name == n) && (client == c)) Null
+    by_dispatch : (d : Dispatch) → claim p (declared p cs) ls (Elsewhere (Session n c)) ≡ Null →
+        by_close d n c (claim p (declared p cs) ls (Elsewhere (Session n c))) ≡ Null
+    by_dispatch (Of_server x client Parts) null = ap (cond ((x.object.name == n) && (client == c)) Null) null
+        ∙ cond_same ((x.object.name == n) && (client == c)) Null
     by_dispatch _ null = null
 
-unclaimed_owns_nothing : (p : Image) (t : Typing) (cs : List Cell) (ls : List Layer) (o : Other) → Good p t cs ls → claim p (declared p cs) ls (Elsewhere o) ≡ Null → held cs (Elsewhere o) ≡ None
+unclaimed_owns_nothing : (p : Image) (t : Typing) (cs : List Cell) (ls : List Layer) (o : Other) → Good p t cs ls →
+    claim p (declared p cs) ls (Elsewhere o) ≡ Null → held cs (Elsewhere o) ≡ None
 unclaimed_owns_nothing p t cs ls o good null = grind (arith, nat_tests, fits_unowning)
 
 -- ---- a renaming of names that are not in use
@@ -233,8 +237,7 @@ module _ (p : Image) (t : Typing) (s : State) (names : ℕ → ℕ) (well : Well
   accepted_so : (n c : ℕ) (ts : List Task) → s.tasks ≡ ts → accepts n c (dispatch_of ts) ≡ true → names n ≡ n
   accepted_so n c ts tasks h =
       let a = accepting n c (dispatch_of ts) h in
-      let l =
-      server_lives p t s.cells well.layers Now a.seat a.client a.stage well.good.stack
+      let l = server_lives p t s.cells well.layers Now a.seat a.client a.stage well.good.stack
       (subst (λ l. IsAt (Of_server a.seat a.client a.stage) l) (sym tasks ∙ well.tasks) (dispatch_at ts (Of_server a.seat a.client a.stage) a.is)) in
       subst (λ k. names k ≡ k) a.name (named_so a.seat.object.name (λ none. let clash : Some a.seat.object ≡ None = sym l.0 ∙ none in cc))
 
@@ -249,7 +252,8 @@ module _ (p : Image) (t : Typing) (s : State) (names : ℕ → ℕ) (well : Well
   client_so c _ e = refl
 
   spared_tasks : renamed_tasks names s.tasks ≡ s.tasks
-  spared_tasks = ap (renamed_tasks names) well.tasks ∙ tasks_spared names p t s.cells named_so held_so well.layers Now well.good.stack (grind (arith, nat_tests)) ∙ sym well.tasks
+  spared_tasks = ap (renamed_tasks names) well.tasks
+      ∙ tasks_spared names p t s.cells named_so held_so well.layers Now well.good.stack (grind (arith, nat_tests)) ∙ sym well.tasks
 
   pub spared : renamed names s ≡ s
   spared = rw (cells_spared names s.cells well.good.tidy named_so held_so sent_so, spared_tasks, clients_spared names s.clients (λ c. client_so c (client_at s.clients c) refl))

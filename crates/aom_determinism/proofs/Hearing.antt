@@ -27,7 +27,8 @@ module _ (p : Image) (c : Choice) (answer : ℤ) where
   abbrev other : Choice
   other = record c { answer = answer }
 
-  instr_unheard : (fr : Frame) (ts : List Task) (s : State) (i : Option Instr) → hears (home_kind p fr.home) (exchange_at i) ≡ false → step_instr p other fr ts s i ≡ step_instr p c fr ts s i
+  instr_unheard : (fr : Frame) (ts : List Task) (s : State) (i : Option Instr) → hears (home_kind p fr.home) (exchange_at i) ≡ false →
+      step_instr p other fr ts s i ≡ step_instr p c fr ts s i
   instr_unheard fr ts s x h = grind (arith, nat_tests, by_exchange)
 
   task_unheard : (s : State) (ts : List Task) → is_heard p ts ≡ false → step_task p other s ts ≡ step_task p c s ts
@@ -50,7 +51,8 @@ module _ (p : Image) (natives : HasNoNative p) where
   none_heard x = grind (arith, nat_tests, and_right)
 
 -- a class of an image without natives has none
-class_unserved : (p : Image) (c : ClassDecl) → p.header.natives ≡ 0 → ClassFits p.header.version (length p.classes) p.header.natives c → is_native_kind (Some c.kind) ≡ false
+class_unserved : (p : Image) (c : ClassDecl) → p.header.natives ≡ 0 → ClassFits p.header.version (length p.classes) p.header.natives c →
+    is_native_kind (Some c.kind) ≡ false
 class_unserved p c none fits = grind (arith, nat_tests)
 
 pub unnamed_unserved : (p : Image) → WellFormed p → p.header.natives ≡ 0 → HasNoNative p

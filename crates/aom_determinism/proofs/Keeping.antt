@@ -44,14 +44,14 @@ pub still_either : (a a' b : Bool) → (a || b) ≡ true → (a ≡ true → a' 
 still_either x a' b h keeps = grind arith
 
 there_calm : (clients : List Client) (cs cs' : List Cell) (d : Option Dispatch) → Calm cs cs' → AreThere clients cs d → AreThere clients cs' d
-there_calm clients cs cs' d calm there = record { asked = λ n c e. still_either (waits cs n c) (waits cs' n c) (accepts n c d) (there.asked n c e) (calm.connects n c); serves = at d there.serves }
+there_calm clients cs cs' d calm there =
+    record { asked = λ n c e. still_either (waits cs n c) (waits cs' n c) (accepts n c d) (there.asked n c e) (calm.connects n c); serves = at d there.serves }
   where
     at : (d : Option Dispatch) → IsAtPlace cs d → IsAtPlace cs' d
     at x h = grind arith
 
 -- in another state with those clients, where the same dispatch stands below all
-pub there_by :
-    (clients : List Client) (cs : List Cell) (d : Option Dispatch) (clients' : List Client) (cs' : List Cell) (d' : Option Dispatch) →
+pub there_by : (clients : List Client) (cs : List Cell) (d : Option Dispatch) (clients' : List Client) (cs' : List Cell) (d' : Option Dispatch) →
     clients' ≡ clients → Calm cs cs' → d' ≡ d → AreThere clients cs d → AreThere clients' cs' d'
 there_by clients cs d clients' cs' d' same calm below there = grind (arith, nat_tests, there_calm clients cs cs' d calm there)
 
@@ -60,7 +60,8 @@ there_by clients cs d clients' cs' d' same calm below there = grind (arith, nat_
 abbrev pub NoSession : Place → Type 0
 NoSession q = (n c : ℕ) → same_place q (Elsewhere (Session n c)) ≡ false
 
-place_moved : (cs : List Cell) (a b : Place) → NoSession a → NoSession b → (n c : ℕ) → held (moved a b cs) (Elsewhere (Session n c)) ≡ held cs (Elsewhere (Session n c))
+place_moved : (cs : List Cell) (a b : Place) → NoSession a → NoSession b → (n c : ℕ) →
+    held (moved a b cs) (Elsewhere (Session n c)) ≡ held cs (Elsewhere (Session n c))
 place_moved cs a b from to n c = grind (arith, nat_tests, held_elsewhere cs a b (Elsewhere (Session n c)) (to n c))
 
 pub calm_moved : (cs : List Cell) (a b : Place) → NoSession a → NoSession b → Calm cs (moved a b cs)
@@ -91,8 +92,7 @@ module _ (p : Image) (fr : Frame) (ts : List Task) (s : State) where
     calm_itself s.cells,
   )
 
-  place_passed :
-      (depth : ℕ) (xs : List Argument) (first to : ℕ) (cs : List Cell) (n c : ℕ) →
+  place_passed : (depth : ℕ) (xs : List Argument) (first to : ℕ) (cs : List Cell) (n c : ℕ) →
       held (passed_cells p fr ts s depth xs first to cs) (Elsewhere (Session n c)) ≡ held cs (Elsewhere (Session n c))
   place_passed depth [] first to cs n c = refl
   place_passed depth (Takes_word ∷ xs) first to cs n c = place_passed depth xs (suc first) (suc to) cs n c
@@ -101,7 +101,8 @@ module _ (p : Image) (fr : Frame) (ts : List Task) (s : State) where
   pub calm_passed : (depth : ℕ) (xs : List Argument) (first to : ℕ) (cs : List Cell) → Calm cs (passed_cells p fr ts s depth xs first to cs)
   calm_passed depth xs first to cs = calm_steady cs _ (steady_passed p fr ts s depth xs first to cs) (place_passed depth xs first to cs)
 
-  place_result : (g : Gives) (a b : ℕ) (below : List Task) (n c : ℕ) → held (result_cells p fr ts s g a b below) (Elsewhere (Session n c)) ≡ held s.cells (Elsewhere (Session n c))
+  place_result : (g : Gives) (a b : ℕ) (below : List Task) (n c : ℕ) →
+      held (result_cells p fr ts s g a b below) (Elsewhere (Session n c)) ≡ held s.cells (Elsewhere (Session n c))
   place_result x a b below n c = grind (arith, nat_tests, place_moved s.cells)
 
   pub calm_result : (g : Gives) (a b : ℕ) (below : List Task) → Calm s.cells (result_cells p fr ts s g a b below)
@@ -112,16 +113,15 @@ calm_ended p fr cs = calm_steady cs _ (steady_ended p fr cs) (λ n c. (ended_ali
 
 -- ---- what clients have at a server changes, and its connects stay
 
-module _ (f : Service → Service) (keeps : (v : Service) (c : ℕ) → list_any (is_connect_of c) v.queue ≡ true → list_any (is_connect_of c) (f v).queue ≡ true) (cs : List Cell) (m : ℕ) where
+module _ (f : Service → Service) (keeps : (v : Service) (c : ℕ) → list_any (is_connect_of c) v.queue ≡ true → list_any (is_connect_of c) (f v).queue ≡ true)
+    (cs : List Cell) (m : ℕ) where
   connects_reserved : (n c : ℕ) → waits cs n c ≡ true → waits (reserved f m cs) n c ≡ true
   connects_reserved n c h = go (m == n) refl
     where
       there : m ≡ n → (o : Option Object) → named cs m ≡ o → waits (reserved f m cs) n c ≡ true
       there same None e = absurd (grind (arith, nat_tests, service_unnamed))
-      there same (Some o) e =
-          ap (λ k. waits (reserved f m cs) k c) (sym same)
-          ∙ ap (λ v. list_any (is_connect_of c) v.queue) (service_here cs m (f (service_of cs m)) o e)
-          ∙ keeps (service_of cs m) c (ap (λ k. waits cs k c) same ∙ h)
+      there same (Some o) e = ap (λ k. waits (reserved f m cs) k c) (sym same) ∙ ap (λ v. list_any (is_connect_of c) v.queue)
+          (service_here cs m (f (service_of cs m)) o e) ∙ keeps (service_of cs m) c (ap (λ k. waits cs k c) same ∙ h)
 
       go : (b : Bool) → (m == n) ≡ b → waits (reserved f m cs) n c ≡ true
       go true e = there (eqb-true m n e) (named cs m) refl
@@ -143,5 +143,6 @@ module _ (gone : Place → Bool) (cs : List Cell) (tidy : Tidy cs) where
       waits cs n c ≡ true → waits (dropped gone cs) n c ≡ true
   connects_dropped n c empty h = grind (arith, nat_tests, each_name gone cs tidy n, SameAtName gone cs n, dropped gone cs, Went gone cs n, named_name cs n)
 
-  pub places_dropped : ((n c : ℕ) → gone (Elsewhere (Session n c)) ≡ false) → (n c : ℕ) → held (dropped gone cs) (Elsewhere (Session n c)) ≡ held cs (Elsewhere (Session n c))
+  pub places_dropped : ((n c : ℕ) → gone (Elsewhere (Session n c)) ≡ false) → (n c : ℕ) →
+      held (dropped gone cs) (Elsewhere (Session n c)) ≡ held cs (Elsewhere (Session n c))
   places_dropped stays n c = grind (arith, nat_tests, held_dropped gone cs (Elsewhere (Session n c)))

@@ -32,14 +32,16 @@ without_more : (cs : List Cell) (n : ℕ) (r : Option Request) → timer_in r �
 without_more [] n r none = omega arith
 without_more (c ∷ cs) n r none = grind (arith, nat_tests, without_more cs n r none)
 
-one_fewer : (cs : List Cell) (n : ℕ) (r : Option Request) → timer_in r ≡ None → is_some (timer_in (requested cs n)) ≡ true → timers_in (set_request n r cs) < timers_in cs
+one_fewer : (cs : List Cell) (n : ℕ) (r : Option Request) → timer_in r ≡ None → is_some (timer_in (requested cs n)) ≡ true →
+    timers_in (set_request n r cs) < timers_in cs
 one_fewer [] n r none runs = cc
 one_fewer (c ∷ cs) n r none runs = grind (arith, nat_tests, without_more cs n r none, one_fewer cs n r none)
 
 completed_none : (code : ℤ) (r : Option Request) → timer_in (on_request (completed_with code) r) ≡ None
 completed_none code x = grind arith
 
-pub completed_fewer : (code : ℤ) (cs : List Cell) → Tidy cs → (x : Timed) → first_due cs ≡ Some x → timers_in (with_request (completed_with code) x.object cs) < timers_in cs
+pub completed_fewer : (code : ℤ) (cs : List Cell) → Tidy cs → (x : Timed) → first_due cs ≡ Some x →
+    timers_in (with_request (completed_with code) x.object cs) < timers_in cs
 completed_fewer code cs tidy x first = grind (arith, nat_tests, running cs tidy x first, one_fewer cs x.object.name, completed_none code)
 
 pub completed_no_more : (code : ℤ) (cs : List Cell) (o : Object) → timers_in (with_request (completed_with code) o cs) ≤ timers_in cs
@@ -114,7 +116,8 @@ abbrev pub left : Environment → State → ℕ
 left outside s = 2 * (timers_in s.cells + events_left outside s) + one_where (not (is_late outside s))
 
 -- fewer timers or events
-pub fewer_left : (outside : Environment) (s u : State) → timers_in u.cells + events_left outside u < timers_in s.cells + events_left outside s → left outside u < left outside s
+pub fewer_left : (outside : Environment) (s u : State) → timers_in u.cells + events_left outside u < timers_in s.cells + events_left outside s →
+    left outside u < left outside s
 fewer_left outside s u fewer = omega (arith, fewer, one_at_most (not (is_late outside u)))
 
 -- or as many, and time has come where it had not

@@ -53,7 +53,8 @@ pub token_served : (k : Option ClassKind) → is_token_kind k ≡ true → nativ
 token_served k e = grind arith
 
 -- no native serves what waits for a token
-unchanged_redeemed : (p : Image) (t : Typing) (cs : List Cell) (ls : List Layer) → Good p t cs ls → (order : Option ℕ) (code : ℤ) → Unchanged p cs (redeemed_by order code cs)
+unchanged_redeemed : (p : Image) (t : Typing) (cs : List Cell) (ls : List Layer) → Good p t cs ls → (order : Option ℕ) (code : ℤ) →
+    Unchanged p cs (redeemed_by order code cs)
 unchanged_redeemed p t cs ls good None code = unchanged_itself p cs
 unchanged_redeemed p t cs ls good (Some order) code = search (
   arith,
@@ -104,21 +105,24 @@ module _ (p : Image) (t : Typing) (c : Choice) (fr : Frame) (ts : List Task) (s 
   leaves_aside : (b : Bool) (code : ℤ) → IsAside c.name (cond b (Leaves code Same) (updates fr Same))
   leaves_aside x code = grind arith
 
-  cancels : (b : Bool) → in_phase is_active (own_request s.cells fr.home) ≡ b → (m : Option ℕ) → Unchanged p s.cells (applied p fr ts (counted p s) (cancels_if fr b m)).cells
+  cancels : (b : Bool) → in_phase is_active (own_request s.cells fr.home) ≡ b → (m : Option ℕ) →
+      Unchanged p s.cells (applied p fr ts (counted p s) (cancels_if fr b m)).cells
   cancels x e m = grind (arith, nat_tests, asked_same p c.answer s fr.home, cancelling_owed, unchanged_itself p s.cells)
 
   returns : (a : ℕ) → AllTrue (needs p c fr ts (counted p s) (Return a)) →
       Unchanged p s.cells (returned p fr ts (record (counted p s) { cells = ended_cells p fr s.cells }) (gives_of p fr.method) a ts).cells
   returns a met = grind (arith, nat_tests, all_parts, unchanged_along p s.cells, ended_same p c.answer s fr ts, returned_unchanged p fr ts)
 
-  is_message : (a : ℕ) (x : Object) → held s.cells (here fr ts (counted p s) a) ≡ Some x → is_thing p Message (held s.cells (here fr ts (counted p s) a)) ≡ true → x.thing ≡ Message
+  is_message : (a : ℕ) (x : Object) → held s.cells (here fr ts (counted p s) a) ≡ Some x →
+      is_thing p Message (held s.cells (here fr ts (counted p s) a)) ≡ true → x.thing ≡ Message
   is_message a x there thing = stands_message p x.thing (sym (ap (is_thing p Message) there) ∙ thing)
 
   -- the request of an object that hands tokens is owed by no native
   handing : (h : Home) → IsAlive s.cells h → is_token_kind (home_kind p h) ≡ true → (r : Option Request) → Unchanged p s.cells (rerequested s.cells h r)
   handing x living kind r = grind (arith, nat_tests, unchanged_itself p s.cells, unchanged_asked p s.cells, still p c.answer s, token_served)
 
-  hands : (b : Bool) (a : ℕ) → is_token_kind (home_kind p fr.home) ≡ true → Unchanged p s.cells (cells_after p fr ts (counted p s) (hands_unless b c.name a (own_request s.cells fr.home)))
+  hands : (b : Bool) (a : ℕ) → is_token_kind (home_kind p fr.home) ≡ true →
+      Unchanged p s.cells (cells_after p fr ts (counted p s) (hands_unless b c.name a (own_request s.cells fr.home)))
   hands x a kind = grind (
     arith,
     nat_tests,
@@ -149,8 +153,9 @@ module _ (p : Image) (t : Typing) (c : Choice) (fr : Frame) (ts : List Task) (s 
 
   tells : (i : Instr) → AllTrue (needs p c fr ts (counted p s) i) → Tells (exchange i) i
   tells = by_exchange (λ i x. AllTrue (needs p c fr ts (counted p s) i) → Tells x i) (λ a met. connect_told p c.answer s fr ts holds fr.home alive)
-      (λ a b met. issue_told p c.answer s fr ts holds s.rest.clock (next_timer s.cells) a b fr.home alive met.1.1.1.1.0) (λ a b x met. ask_told p c.answer s fr ts holds b x fr.home alive)
-      (λ met. abort_told p c.answer s fr ts holds fr.home alive) (λ met. close_told p c.answer s fr ts holds fr.home alive (not-true (is_owed (own_request s.cells fr.home)) met.1.0)) silently
+      (λ a b met. issue_told p c.answer s fr ts holds s.rest.clock (next_timer s.cells) a b fr.home alive met.1.1.1.1.0)
+      (λ a b x met. ask_told p c.answer s fr ts holds b x fr.home alive) (λ met. abort_told p c.answer s fr ts holds fr.home alive)
+      (λ met. close_told p c.answer s fr ts holds fr.home alive (not-true (is_owed (own_request s.cells fr.home)) met.1.0)) silently
 
 -- ---- the going of a cell
 
@@ -172,7 +177,8 @@ module _ (p : Image) (answer : ℤ) (s : State) (holds : SessionsHold p s) (tidy
   unmet : ((n : ℕ) → meets p s.cells n o.name ≡ false) → Told p answer s None (without (Going k) s.cells)
   unmet e = record { finds = tt; owes = owes_so; meets = λ n m. meets_gone p s.cells (Going k) o tidy there n m ∙ others (λ x. meets p s.cells n x) m (e n) }
 
-  ends_session : (n : ℕ) → native_of (thing_kind p o.thing) ≡ Some n → (b : Bool) → in_session s.cells o.name ≡ b → Told p answer s (wanted_if b (Closes n o.name)) (without (Going k) s.cells)
+  ends_session : (n : ℕ) → native_of (thing_kind p o.thing) ≡ Some n → (b : Bool) → in_session s.cells o.name ≡ b →
+      Told p answer s (wanted_if b (Closes n o.name)) (without (Going k) s.cells)
   ends_session n native false met = unmet (λ j. and_right (serves p s.cells j o.name) _ met)
   ends_session n native true met = record {
     finds = found p answer s holds o lives n native true false (alive_in p answer s holds o lives n native met) met unowed;
@@ -218,7 +224,8 @@ module _ (p : Image) (t : Typing) (s : State) where
   stage_calm x client y seats below good = grind (arith, nat_tests, unchanged_served p s.cells x.object.name, unchanged_itself p s.cells)
 
   end_calm : (d : Dispatch) (seats : List Seat) (below : List Layer) → Good p t s.cells (Dispatching d seats ∷ below) → IsCalm p s (dispatch_ends p d s)
-  end_calm Of_main seats below good = (main_unchanged p s.rest.stopped (held s.cells (Elsewhere Root)) s, main_killed p s.rest.stopped (held s.cells (Elsewhere Root)) s)
+  end_calm Of_main seats below good =
+      (main_unchanged p s.rest.stopped (held s.cells (Elsewhere Root)) s, main_killed p s.rest.stopped (held s.cells (Elsewhere Root)) s)
   end_calm (Of_object x) seats below good = object_calm p s
   end_calm (Object_left x code) seats below good = grind (arith, nat_tests, answer_calm p code s, unchanged_itself p s.cells)
   end_calm (Asks x) seats below good = object_calm p s
@@ -229,7 +236,8 @@ module _ (p : Image) (t : Typing) (s : State) where
 -- ---- any move
 
 -- what a frame works on is the cell of its name
-module _ (p : Image) (t : Typing) (c : Choice) (s u : State) (w : WellTyped p t s) (unused : named s.cells c.name ≡ None) (holds : SessionsHold p s) (e : step p c s ≡ Goes u) where
+module _ (p : Image) (t : Typing) (c : Choice) (s u : State) (w : WellTyped p t s) (unused : named s.cells c.name ≡ None) (holds : SessionsHold p s)
+    (e : step p c s ≡ Goes u) where
   abbrev Tale : Type 0
   Tale = Told p c.answer s (wanted p s) u.cells × (u.killed ≡ s.killed)
 
@@ -243,7 +251,8 @@ module _ (p : Image) (t : Typing) (c : Choice) (s u : State) (w : WellTyped p t 
   of_method : (fr : Frame) (ts : List Task) (i : Instr) → s.tasks ≡ Run fr ∷ ts → instr_at p fr.method fr.place ≡ Some i → Tale
   of_method fr ts i at there = (told, ap (λ (x : State). x.killed) acts.2 ∙ applied_killed p fr ts (counted p s) (effect p c fr ts (counted p s) i))
     where
-      acts : AllTrue (needs p c fr ts (counted p s) i) × Fits p c fr ts (counted p s) i (effect p c fr ts (counted p s) i) × (u ≡ applied p fr ts (counted p s) (effect p c fr ts (counted p s) i))
+      acts : AllTrue (needs p c fr ts (counted p s) i) × Fits p c fr ts (counted p s) i (effect p c fr ts (counted p s) i)
+          × (u ≡ applied p fr ts (counted p s) (effect p c fr ts (counted p s) i))
       acts = acted p c (counted p s) u fr ts i (grind (arith, nat_tests))
 
       alive : IsAlive s.cells fr.home
@@ -251,8 +260,8 @@ module _ (p : Image) (t : Typing) (c : Choice) (s u : State) (w : WellTyped p t 
 
       told : Told p c.answer s (wanted p s) u.cells
       told = subst (λ l. Told p c.answer s (wanted_task s p l) u.cells) (sym at)
-          (subst (λ x. Told p c.answer s (wanted_by s p fr ts fr.home (exchange_at x)) u.cells) (sym there)
-          (subst (λ (x : State). Told p c.answer s (wanted_by s p fr ts fr.home (exchange i)) x.cells) (sym acts.2) (tells p t c fr ts s w.layers w.good holds alive unused i acts.0)))
+          (subst (λ x. Told p c.answer s (wanted_by s p fr ts fr.home (exchange_at x)) u.cells) (sym there) (subst (λ (x : State). Told p c.answer s
+          (wanted_by s p fr ts fr.home (exchange i)) x.cells) (sym acts.2) (tells p t c fr ts s w.layers w.good holds alive unused i acts.0)))
 
   of_going : (ts : List Task) (o : Object) → s.tasks ≡ Destroy ∷ ts → held s.cells (Going (length ts)) ≡ Some o → Tale
   of_going ts o at there = (told, sym (ap (λ (x : State). x.killed) after))

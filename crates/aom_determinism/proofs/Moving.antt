@@ -48,14 +48,14 @@ module _ (p : Image) (fr : Frame) (ts : List Task) (s : State) (there : AreThere
   pub effect_there : (e : Effect) → Fine fr s e → AllThere (applied p fr ts s e)
   effect_there (Goes_on ch) f = by (applied p fr ts s (Goes_on ch)) refl (calm_update p fr ts s ch.update f) refl
   effect_there (Calls target m first) f = by (applied p fr ts s (Calls target m first)) refl (calm_passed p fr ts s _ (arguments_of p m) first 0 s.cells) refl
-  effect_there (Sets_trap target m first) f = by (applied p fr ts s (Sets_trap target m first)) refl (calm_passed p fr ts s _ (arguments_of p m) first 0 s.cells) refl
+  effect_there (Sets_trap target m first) f =
+      by (applied p fr ts s (Sets_trap target m first)) refl (calm_passed p fr ts s _ (arguments_of p m) first 0 s.cells) refl
   effect_there (Cancels m) f = grind (arith, nat_tests, by, calm_steady s.cells, steady_asked s.cells fr.home, on_none, rerequested_alike s.cells fr.home)
   effect_there (Returns g a) f = absurd f
   effect_there (Leaves code u) f = by (applied p fr ts s (Leaves code u)) refl (calm_update p fr ts s u f) (dispatch_to_trap ts)
   effect_there (Destroys x a words) f =
       by (applied p fr ts s (Destroys x a words)) refl (grind (arith, nat_tests, calm_moved)) (dispatch_begun p x _ (Run _ ∷ ts))
-  effect_there (Destroys_last x) f =
-      by (applied p fr ts s (Destroys_last x)) refl (grind (arith, nat_tests, calm_moved)) (dispatch_begun p x _ (Run _ ∷ ts))
+  effect_there (Destroys_last x) f = by (applied p fr ts s (Destroys_last x)) refl (grind (arith, nat_tests, calm_moved)) (dispatch_begun p x _ (Run _ ∷ ts))
   effect_there r f = by (applied p fr ts s r) refl (calm_itself s.cells) refl
 
 -- ---- a method returns
@@ -69,7 +69,8 @@ pub or_none : (a b x : Bool) → x ≡ false → (a || (b && x)) ≡ true → (a
 or_none x b y e h = grind arith
 
 module _ (p : Image) (fr : Frame) (ts : List Task) (s : State) where
-  accepted_there : (d : Dispatch) (from : Place) → AreThere s.clients s.cells (Some d) → AreThere (accepted_clients d s.clients) (accepted_cells d from s.cells) (Some (ended_well d))
+  accepted_there : (d : Dispatch) (from : Place) → AreThere s.clients s.cells (Some d) →
+      AreThere (accepted_clients d s.clients) (accepted_cells d from s.cells) (Some (ended_well d))
   accepted_there (Of_server x c Accepts) from there = record { asked = asked; serves = tt }
     where
       cells : List Cell
@@ -88,8 +89,7 @@ module _ (p : Image) (fr : Frame) (ts : List Task) (s : State) where
           go false other =
               let before = there.asked n d (ap (is_connecting_at n) (sym (client_there c d (at_opening 0 (client_at s.clients c)) s.clients other)) ∙ e) in
               let waited = or_true (waits s.cells n d) (or_none (waits s.cells n d) (x.object.name == n) (c == d) other before) in
-              let then_waits =
-              (calm_reserved (opened c) (λ v k h. h) cells x.object.name).connects n d
+              let then_waits = (calm_reserved (opened c) (λ v k h. h) cells x.object.name).connects n d
               (ap (λ v. list_any (is_connect_of d) v.queue) (service_moved s.cells from (Elsewhere (Session x.object.name c)) n) ∙ waited) in
               ap (λ b. b || false) then_waits
             where
@@ -103,8 +103,10 @@ module _ (p : Image) (fr : Frame) (ts : List Task) (s : State) where
 
   pub returned_there : (g : Gives) (a : ℕ) (below : List Task) → s.tasks ≡ Run fr ∷ ts →
       AreThere s.clients s.cells (dispatch_of below) → AreThere s.clients s.cells (dispatch_of ts) → AllThere (returned p fr ts s g a below)
-  returned_there g a (Run caller ∷ below) tasks there all = there_by s.clients s.cells (dispatch_of below) s.clients _ _ refl (calm_result p fr ts s g a _ below) refl there
-  returned_there g a (Trapped ∷ Run caller ∷ below) tasks there all = there_by s.clients s.cells (dispatch_of below) s.clients _ _ refl (calm_result p fr ts s g a _ below) refl there
+  returned_there g a (Run caller ∷ below) tasks there all =
+      there_by s.clients s.cells (dispatch_of below) s.clients _ _ refl (calm_result p fr ts s g a _ below) refl there
+  returned_there g a (Trapped ∷ Run caller ∷ below) tasks there all =
+      there_by s.clients s.cells (dispatch_of below) s.clients _ _ refl (calm_result p fr ts s g a _ below) refl there
   returned_there g a (Trapped ∷ Dispatched d ∷ below) tasks there all = accepted_there d (here fr ts s a) there
   returned_there g a (Destroy ∷ below) tasks there all = grind (arith, nat_tests)
   returned_there g a (Unwind code ∷ below) tasks there all = there
@@ -114,17 +116,18 @@ module _ (p : Image) (fr : Frame) (ts : List Task) (s : State) where
 -- ---- a leave
 
 module _ (p : Image) (s : State) where
-  pub unwound_there : (code : ℤ) (ts : List Task) (items : List Item) (u : State) → AreThere s.clients s.cells (dispatch_of ts) → unwound p code ts s items ≡ Goes u → AllThere u
+  pub unwound_there : (code : ℤ) (ts : List Task) (items : List Item) (u : State) → AreThere s.clients s.cells (dispatch_of ts) →
+      unwound p code ts s items ≡ Goes u → AllThere u
   unwound_there code ts [] u there e = cc
-  unwound_there code ts (An_object ∷ items) u there e = subst AllThere (goes_where (top_is_whole s.cells (An_object ∷ items)) _ e) (by_object (held s.cells (Entry (length items))))
+  unwound_there code ts (An_object ∷ items) u there e =
+      subst AllThere (goes_where (top_is_whole s.cells (An_object ∷ items)) _ e) (by_object (held s.cells (Entry (length items))))
     where
       goes_where : (b : Bool) (v : State) → cond b (Goes v) (IsStuck NullOrDead) ≡ Goes u → v ≡ u
       goes_where b v e = grind arith
 
       by_object : (o : Option Object) → AllThere (destroyed p o items (Unwind code ∷ ts) s)
       by_object None = there
-      by_object (Some o) =
-          there_by s.clients s.cells (dispatch_of ts) s.clients _ _ refl (calm_moved s.cells (Entry (length items)) (Going _) (λ n c. refl) (λ n c. refl))
-          (dispatch_begun p o (length items) (Unwind code ∷ ts)) there
+      by_object (Some o) = there_by s.clients s.cells (dispatch_of ts) s.clients _ _ refl
+          (calm_moved s.cells (Entry (length items)) (Going _) (λ n c. refl) (λ n c. refl)) (dispatch_begun p o (length items) (Unwind code ∷ ts)) there
   unwound_there code ts (An_operation m w ∷ items) u there e = subst AllThere (goes_same _ u e) there
   unwound_there code ts (A_mark ∷ items) u there e = grind arith

@@ -49,7 +49,8 @@ module _ (names : ℕ → ℕ) (one_to_one : IsOneToOne names) where
   named_renamed [] n = refl
   named_renamed (c ∷ cs) n = grind (arith, nat_tests, same_name c.object.name n, named_renamed cs n, cond_mapped)
 
-  pub moved_renamed : (p q : Place) (cs : List Cell) → moved (renamed_place names p) (renamed_place names q) (renamed_cells names cs) ≡ renamed_cells names (moved p q cs)
+  pub moved_renamed : (p q : Place) (cs : List Cell) →
+      moved (renamed_place names p) (renamed_place names q) (renamed_cells names cs) ≡ renamed_cells names (moved p q cs)
   moved_renamed p q [] = refl
   moved_renamed p q (c ∷ cs) = grind (arith, nat_tests, same_place_kept c.owner p, cond_applied, moved_renamed p q cs)
 
@@ -61,7 +62,8 @@ module _ (names : ℕ → ℕ) (one_to_one : IsOneToOne names) where
   word_field_kept [] n w = refl
   word_field_kept (c ∷ cs) n w = rw (same_name c.object.name n, word_field_kept cs n w)
 
-  pub set_word_field_renamed : (n w : ℕ) (v : ℤ) (cs : List Cell) → set_word_field (names n) w v (renamed_cells names cs) ≡ renamed_cells names (set_word_field n w v cs)
+  pub set_word_field_renamed : (n w : ℕ) (v : ℤ) (cs : List Cell) →
+      set_word_field (names n) w v (renamed_cells names cs) ≡ renamed_cells names (set_word_field n w v cs)
   set_word_field_renamed n w v [] = refl
   set_word_field_renamed n w v (c ∷ cs) = rw (same_name c.object.name n, set_word_field_renamed n w v cs)
 
@@ -69,7 +71,8 @@ module _ (names : ℕ → ℕ) (one_to_one : IsOneToOne names) where
   requested_kept [] n = refl
   requested_kept (c ∷ cs) n = rw (same_name c.object.name n, requested_kept cs n)
 
-  pub set_request_renamed : (n : ℕ) (r : Option Request) (cs : List Cell) → set_request (names n) r (renamed_cells names cs) ≡ renamed_cells names (set_request n r cs)
+  pub set_request_renamed : (n : ℕ) (r : Option Request) (cs : List Cell) →
+      set_request (names n) r (renamed_cells names cs) ≡ renamed_cells names (set_request n r cs)
   set_request_renamed n r [] = refl
   set_request_renamed n r (c ∷ cs) = rw (same_name c.object.name n, set_request_renamed n r cs)
 
@@ -77,7 +80,8 @@ module _ (names : ℕ → ℕ) (one_to_one : IsOneToOne names) where
   in_session_kept [] n = refl
   in_session_kept (c ∷ cs) n = rw (same_name c.object.name n, in_session_kept cs n)
 
-  pub set_session_renamed : (n : ℕ) (session : Bool) (cs : List Cell) → set_session (names n) session (renamed_cells names cs) ≡ renamed_cells names (set_session n session cs)
+  pub set_session_renamed : (n : ℕ) (session : Bool) (cs : List Cell) →
+      set_session (names n) session (renamed_cells names cs) ≡ renamed_cells names (set_session n session cs)
   set_session_renamed n session [] = refl
   set_session_renamed n session (c ∷ cs) = rw (same_name c.object.name n, set_session_renamed n session cs)
 
@@ -131,7 +135,8 @@ pub messages_kept : (names : ℕ → ℕ) (cs : List Cell) → count_messages (r
 messages_kept names [] = refl
 messages_kept names (c ∷ cs) = ap (λ n. cond (is_object c.object.thing) n (suc n)) (messages_kept names cs)
 
-pub redeemed_renamed : (names : ℕ → ℕ) (order : Option ℕ) (code : ℤ) (cs : List Cell) → redeemed_by order code (renamed_cells names cs) ≡ renamed_cells names (redeemed_by order code cs)
+pub redeemed_renamed : (names : ℕ → ℕ) (order : Option ℕ) (code : ℤ) (cs : List Cell) →
+    redeemed_by order code (renamed_cells names cs) ≡ renamed_cells names (redeemed_by order code cs)
 redeemed_renamed names x code cs = grind (arith, nat_tests, each_renamed names)
 
 pub redeemable_kept : (names : ℕ → ℕ) (order : Option ℕ) (cs : List Cell) → is_redeemable order (renamed_cells names cs) ≡ is_redeemable order cs

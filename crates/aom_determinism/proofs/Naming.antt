@@ -17,13 +17,16 @@ module _ (outside : Environment) (a b : ℕ) (s : State) where
   unnamed_event : (e : Option TimedEvent) (after : Turning) → unnamed (by_event outside a s e after) ≡ unnamed (by_event outside b s e after)
   unnamed_event x after = grind (arith, nat_tests, cond_applied)
 
-unnamed_turning : (outside : Environment) (heard : Heard) (a : ℕ) (s : State) → unnamed (turning outside (record heard { name = a }) s) ≡ unnamed (turning outside heard s)
+unnamed_turning : (outside : Environment) (heard : Heard) (a : ℕ) (s : State) →
+    unnamed (turning outside (record heard { name = a }) s) ≡ unnamed (turning outside heard s)
 unnamed_turning outside heard a s = grind (arith, nat_tests, cond_applied, unnamed_event outside a heard.name s)
 
 -- ---- what does not look at it
 
-pub polling_named : (outside : Environment) (heard : Heard) (a : ℕ) (s : State) → is_polling (turning outside (record heard { name = a }) s) ≡ is_polling (turning outside heard s)
+pub polling_named : (outside : Environment) (heard : Heard) (a : ℕ) (s : State) →
+    is_polling (turning outside (record heard { name = a }) s) ≡ is_polling (turning outside heard s)
 polling_named outside heard a s = grind (arith, nat_tests, unnamed_turning outside heard a s)
 
-pub written_named : (p : Image) (outside : Environment) (heard : Heard) (a : ℕ) (s : State) → written_by p s (turning outside (record heard { name = a }) s) ≡ written_by p s (turning outside heard s)
+pub written_named : (p : Image) (outside : Environment) (heard : Heard) (a : ℕ) (s : State) →
+    written_by p s (turning outside (record heard { name = a }) s) ≡ written_by p s (turning outside heard s)
 written_named p outside heard a s = grind (arith, nat_tests, unnamed_turning outside heard a s)

@@ -43,7 +43,8 @@ module _ (names : ℕ → ℕ) where
   worked_kept : (p : Image) (class : Option ℕ) (o : Option Object) → is_worked_on p class (option_map (renamed_object names) o) ≡ is_worked_on p class o
   worked_kept p x o = grind arith
 
-  pub target_object_kept : (p : Image) (class : Option ℕ) (o : Option Object) → needs_target_object p class (option_map (renamed_object names) o) ≡ needs_target_object p class o
+  pub target_object_kept : (p : Image) (class : Option ℕ) (o : Option Object) →
+      needs_target_object p class (option_map (renamed_object names) o) ≡ needs_target_object p class o
   target_object_kept p class o = rw (some_kept o, worked_kept p class o)
 
   pub view_kept : (h : Home) → home_view (renamed_home names h) ≡ home_view h
@@ -79,10 +80,12 @@ module _ (names : ℕ → ℕ) (one_to_one : IsOneToOne names) where
       held (renamed_cells names cs) (Register (length (renamed_tasks names ts)) a) ≡ option_map (renamed_object names) (held cs (Register (length ts) a))
   register_renamed cs ts a = grind (arith, nat_tests, tasks_counted names ts, held_renamed names one_to_one cs)
 
-  pub free_at : (cs : List Cell) (ts : List Task) (a : ℕ) → is_none (held (renamed_cells names cs) (Register (length (renamed_tasks names ts)) a)) ≡ is_none (held cs (Register (length ts) a))
+  pub free_at : (cs : List Cell) (ts : List Task) (a : ℕ) →
+      is_none (held (renamed_cells names cs) (Register (length (renamed_tasks names ts)) a)) ≡ is_none (held cs (Register (length ts) a))
   free_at cs ts a = ap is_none (register_renamed cs ts a) ∙ none_kept names (held cs (Register (length ts) a))
 
-  owns_at : (cs : List Cell) (ts : List Task) (a : ℕ) → is_some (held (renamed_cells names cs) (Register (length (renamed_tasks names ts)) a)) ≡ is_some (held cs (Register (length ts) a))
+  owns_at : (cs : List Cell) (ts : List Task) (a : ℕ) →
+      is_some (held (renamed_cells names cs) (Register (length (renamed_tasks names ts)) a)) ≡ is_some (held cs (Register (length ts) a))
   owns_at cs ts a = ap is_some (register_renamed cs ts a) ∙ some_kept names (held cs (Register (length ts) a))
 
   thing_at : (p : Image) (t : Thing) (cs : List Cell) (ts : List Task) (a : ℕ) →
@@ -94,10 +97,12 @@ module _ (names : ℕ → ℕ) (one_to_one : IsOneToOne names) where
   message_at cs ts a = ap is_no_message (register_renamed cs ts a) ∙ message_kept names (held cs (Register (length ts) a))
 
   -- what a field has
-  pub held_field : (cs : List Cell) (h : Home) (f : ℕ) → held (renamed_cells names cs) (field_place (renamed_home names h) f) ≡ option_map (renamed_object names) (held cs (field_place h f))
+  pub held_field : (cs : List Cell) (h : Home) (f : ℕ) →
+      held (renamed_cells names cs) (field_place (renamed_home names h) f) ≡ option_map (renamed_object names) (held cs (field_place h f))
   held_field cs h f = ap (held (renamed_cells names cs)) (field_renamed names h f) ∙ held_renamed names one_to_one cs (field_place h f)
 
-  field_at : (cs : List Cell) (h : Home) (f : ℕ) → is_none (held (renamed_cells names cs) (field_place (renamed_home names h) f)) ≡ is_none (held cs (field_place h f))
+  field_at : (cs : List Cell) (h : Home) (f : ℕ) →
+      is_none (held (renamed_cells names cs) (field_place (renamed_home names h) f)) ≡ is_none (held cs (field_place h f))
   field_at cs h f = ap is_none (held_field cs h f) ∙ none_kept names (held cs (field_place h f))
 
   pub place_owns : (cs : List Cell) (q : Place) → is_some (held (renamed_cells names cs) (renamed_place names q)) ≡ is_some (held cs q)
@@ -142,7 +147,8 @@ module _ (names : ℕ → ℕ) (one_to_one : IsOneToOne names) (p : Image) (c : 
   filled_kept home zero = refl
   filled_kept home (suc n) = rw (field_at names one_to_one s.cells home n, filled_kept home n)
 
-  pub target_kept : (target : Target) (m : ℕ) (class : Option ℕ) (first count : ℕ) → needs_target p fr' ts' s' target m class first count ≡ needs_target p fr ts s target m class first count
+  pub target_kept : (target : Target) (m : ℕ) (class : Option ℕ) (first count : ℕ) →
+      needs_target p fr' ts' s' target m class first count ≡ needs_target p fr ts s target m class first count
   target_kept x m class first count = grind (
     arith,
     nat_tests,
@@ -170,7 +176,8 @@ module _ (names : ℕ → ℕ) (one_to_one : IsOneToOne names) (p : Image) (c : 
       grind (arith, nat_tests, tasks_counted names ts, moved_renamed names one_to_one, passed_renamed depth xs)
 
   -- over these tasks
-  pub given_renamed : (over : List Task) (m first : ℕ) → given_cells p fr' ts' s' (renamed_tasks names over) m first ≡ renamed_cells names (given_cells p fr ts s over m first)
+  pub given_renamed : (over : List Task) (m first : ℕ) →
+      given_cells p fr' ts' s' (renamed_tasks names over) m first ≡ renamed_cells names (given_cells p fr ts s over m first)
   given_renamed over m first = grind (arith, nat_tests, tasks_counted names over, passed_renamed)
 
   result_kept : (g : Gives) (cs : List Cell) (a : ℕ) → needs_result p fr' ts' s' g (renamed_cells names cs) a ≡ needs_result p fr ts s g cs a

@@ -28,7 +28,8 @@ sooner : (n : ℕ) (one other : Oracle) → SameBefore (suc n) one other → Sam
 sooner n one other same = record { answers = λ k lt. same.answers k (omega (arith, lt)); completes = λ k lt. same.completes k (omega (arith, lt)) }
 
 module _ {p : Image} {outside : Environment} {from : State} where
-  follows_both : (one other : Oracle) {lines : List Line} {s : State} (reached : Reaches p outside from lines s) → SameBefore (stages reached) one other → Follows one reached → Follows other reached
+  follows_both : (one other : Oracle) {lines : List Line} {s : State} (reached : Reaches p outside from lines s) → SameBefore (stages reached) one other →
+      Follows one reached → Follows other reached
   follows_both one other begins same follows = tt
   follows_both one other (moves c reached busy opened goes) same follows = search (arith, nat_tests, follows_both one other reached, sooner)
   follows_both one other (turns heard reached between well goes) same follows = search (arith, nat_tests, follows_both one other reached, sooner)
@@ -37,14 +38,16 @@ module _ {p : Image} {outside : Environment} {from : State} where
   abbrev heard_by : {lines : List Line} {s : State} → Reaches p outside from lines s → Oracle
   heard_by begins = record { answers = λ n. pos 0; completes = λ n. None }
   heard_by (moves c reached busy opened goes) = let before = heard_by reached in record before { answers = said before.answers (stages reached) c.answer }
-  heard_by (turns heard reached between well goes) = let before = heard_by reached in record before { completes = said before.completes (stages reached) heard.completion }
+  heard_by (turns heard reached between well goes) = let before = heard_by reached in
+      record before { completes = said before.completes (stages reached) heard.completion }
 
   follows_it : {lines : List Line} {s : State} (reached : Reaches p outside from lines s) → Follows (heard_by reached) reached
   follows_it begins = tt
   follows_it (moves c reached busy opened goes) =
       let before = heard_by reached in
       let n = stages reached in
-      let same : SameBefore n before (record before { answers = said before.answers n c.answer }) = record { answers = said_before before.answers n c.answer; completes = λ k lt. refl } in
+      let same : SameBefore n before (record before { answers = said before.answers n c.answer }) =
+      record { answers = said_before before.answers n c.answer; completes = λ k lt. refl } in
       (follows_both before (record before { answers = said before.answers n c.answer }) reached same (follows_it reached), λ heard. sym (said_here before.answers n c.answer))
   follows_it (turns heard reached between well goes) =
       let before = heard_by reached in

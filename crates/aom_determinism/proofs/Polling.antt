@@ -25,7 +25,8 @@ module _ (heard : Heard) where
   told_by_timer : (s : State) (x : Option Timed) (after : Turning) → by_timer s x (told heard.completion after) ≡ told heard.completion (by_timer s x after)
   told_by_timer s x after = grind (arith, nat_tests, cond_applied)
 
-  told_turning : (outside : Environment) (s : State) → turning outside heard s ≡ told heard.completion (turning outside (record nothing_heard { name = heard.name }) s)
+  told_turning : (outside : Environment) (s : State) →
+      turning outside heard s ≡ told heard.completion (turning outside (record nothing_heard { name = heard.name }) s)
   told_turning outside s = grind (arith, nat_tests, told_polls, told_by_timer s, cond_applied)
 
   pub turn_unpolled : (p : Image) (outside : Environment) (s : State) → is_polling (turning outside nothing_heard s) ≡ false →
@@ -63,7 +64,8 @@ module _ (p : Image) (natives : HasNoNative p) where
     without none (moves {s = s} c reached busy opened goes) = (without none reached, unheard_moves c s (stages reached))
     without none (turns {s = s} heard reached between well goes) = (without none reached, grind (arith, nat_tests, none_polled))
 
-    pub idle : ((n : ℕ) → oracle.completes n ≡ None) → {from : State} {lines : List Line} {s : State} (reached : Reaches p outside from lines s) → Follows oracle reached
+    pub idle : ((n : ℕ) → oracle.completes n ≡ None) →
+        {from : State} {lines : List Line} {s : State} (reached : Reaches p outside from lines s) → Follows oracle reached
     idle nothing begins = tt
     idle nothing (moves {s = s} c reached busy opened goes) = (idle nothing reached, unheard_moves c s (stages reached))
     idle nothing (turns {s = s} heard reached between well goes) =

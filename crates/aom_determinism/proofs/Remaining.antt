@@ -61,7 +61,8 @@ gone_apart p t s w ts tasks o there n c h = accepted_apart o
 
 -- each is one of that server
 module _ (p : Image) (t : Typing) (s : State) (w : WellTyped p t s) (there : AllThere s) where
-  closing_layers : (ls : List Layer) (ts : List Task) → Stack p t s.cells Now ls → Closing ∷ ts ≡ tasks_of ls → (below : List Layer) × (Stack p t s.cells Now below) × (ts ≡ tasks_of below)
+  closing_layers : (ls : List Layer) (ts : List Task) → Stack p t s.cells Now ls → Closing ∷ ts ≡ tasks_of ls →
+      (below : List Layer) × (Stack p t s.cells Now below) × (ts ≡ tasks_of below)
   closing_layers ls ts k e = closing_layer (λ ls. Stack p t s.cells Now ls) ts ls (sym e) k (λ o left below is k. (below, k.3, sym is))
 
   -- a session of a server that is not dispatched is at hand to go
@@ -143,13 +144,15 @@ module _ (p : Image) (s : State) (all : AllWait s.clients s.cells) where
   answer_there : (answer : ℤ) → AllThere (answered p answer s)
   answer_there answer = grind (arith, nat_tests, object_there, plain_there s.clients s.cells None)
 
-module _ (p : Image) (s : State) (fit : ClientsFit p s.clients s.cells) (tidy : Tidy s.cells) (plain : (o : Object) → held s.cells (Elsewhere In_service) ≡ Some o → is_server p o.thing ≡ false) where
+module _ (p : Image) (s : State) (fit : ClientsFit p s.clients s.cells) (tidy : Tidy s.cells)
+    (plain : (o : Object) → held s.cells (Elsewhere In_service) ≡ Some o → is_server p o.thing ≡ false) where
   -- a client is at something else, where it does not connect
   all_with : (c : ℕ) (to : Client) → ((n d : ℕ) → (c == d) ≡ false → is_connecting_at n (client_at s.clients d) ≡ true → waits s.cells n d ≡ true) →
       ((n : ℕ) → is_connecting_at n to ≡ true → waits s.cells n c ≡ true) → AllWait (with_client c to s.clients) s.cells
   all_with c to others own n d e = grind (arith, nat_tests, eqb-true c d, client_here c to s.clients, client_there c d to s.clients)
 
-  stage_there : (x : Seat) (c : ℕ) (stage : Stage) → EndsDispatch p (Of_server x c stage) Now → AreThere s.clients s.cells (Some (Of_server x c stage)) → AllThere (stage_ends x c stage s)
+  stage_there : (x : Seat) (c : ℕ) (stage : Stage) → EndsDispatch p (Of_server x c stage) Now → AreThere s.clients s.cells (Some (Of_server x c stage)) →
+      AllThere (stage_ends x c stage s)
   stage_there x c Accepts ends there = absurd ends
   stage_there x c Accepted ends there = grind (arith, nat_tests, plain_there, all_wait)
   stage_there x c (Serves o) ends there = grind (arith, nat_tests, plain_there, all_wait)
@@ -178,7 +181,8 @@ module _ (p : Image) (s : State) (fit : ClientsFit p s.clients s.cells) (tidy : 
   ends_there (Of_server x c stage) ends there = stage_there x c stage ends there
 
 -- of a well-typed state
-top_dispatch : (p : Image) (t : Typing) (cs : List Cell) (ls : List Layer) (d : Dispatch) (ts : List Task) → Stack p t cs Now ls → Dispatched d ∷ ts ≡ tasks_of ls → EndsDispatch p d Now
+top_dispatch : (p : Image) (t : Typing) (cs : List Cell) (ls : List Layer) (d : Dispatch) (ts : List Task) → Stack p t cs Now ls →
+    Dispatched d ∷ ts ≡ tasks_of ls → EndsDispatch p d Now
 top_dispatch p t cs ls d ts k e = dispatch_layer (λ ls. Stack p t cs Now ls) d ts ls (sym e) k (λ seats below is k. k.0)
 
 pub dispatch_there : (p : Image) (t : Typing) (s : State) (w : WellTyped p t s) → ClientsFit p s.clients s.cells →

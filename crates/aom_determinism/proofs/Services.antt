@@ -1,4 +1,5 @@
--- Servers, sessions and messages change nothing that is outstanding, and no session with a native: no native serves a message, and the rest of each cell is as it was.
+-- Servers, sessions and messages change nothing that is outstanding, and no session with a native: no native serves a message, and the rest of each cell is as
+-- it was.
 use Rattle.std.proofs.lemmas.Bool.Decides.{nat_tests}
 use Rattle.std.proofs.Common.{Bool, List, None, Option, Some, [], ap, cond, false, refl, subst, sym, true, ℕ, ℤ, ◌&&◌, ◌==◌, ◌∙◌, ◌∷◌, ◌≡◌, arith}
 use Rattle.std.proofs.lemmas.Bool.{and_parts}
@@ -76,7 +77,8 @@ module _ (p : Image) (drops : Cell → Bool) (f : Cell → Service) (cs : List C
   unchanged_sifted = record {
     owes = λ k m. owes_cell p k (sifted drops f cs) m
         ∙ by_cell k m (λ x. serves_in p k x && is_owed (request_in x)) (λ c. refl) (λ c e. sym (ap (λ b. b && is_owed c.request) e)) ∙ sym (owes_cell p k cs m);
-    meets = λ k m. meets_cell p k (sifted drops f cs) m ∙ by_cell k m (λ x. serves_in p k x && session_in x) (λ c. refl) (λ c e. sym (ap (λ b. b && c.session) e)) ∙ sym (meets_cell p k cs m);
+    meets = λ k m. meets_cell p k (sifted drops f cs) m
+        ∙ by_cell k m (λ x. serves_in p k x && session_in x) (λ c. refl) (λ c e. sym (ap (λ b. b && c.session) e)) ∙ sym (meets_cell p k cs m);
   }
 
   -- a cell that stays has its session

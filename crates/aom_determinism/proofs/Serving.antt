@@ -24,7 +24,8 @@ module _ (names : ℕ → ℕ) where
   client_renamed (x ∷ xs) zero = refl
   client_renamed (x ∷ xs) (suc c) = client_renamed xs c
 
-  pub with_client_renamed : (c : ℕ) (x : Client) (clients : List Client) → with_client c (renamed_client names x) (renamed_clients names clients) ≡ renamed_clients names (with_client c x clients)
+  pub with_client_renamed : (c : ℕ) (x : Client) (clients : List Client) →
+      with_client c (renamed_client names x) (renamed_clients names clients) ≡ renamed_clients names (with_client c x clients)
   with_client_renamed zero x [] = refl
   with_client_renamed (suc c) x [] = ap (λ l. Unconnected ∷ l) (with_client_renamed c x [])
   with_client_renamed zero x (y ∷ ys) = refl
@@ -50,12 +51,14 @@ module _ (names : ℕ → ℕ) where
       (renamed_clients names clients) ≡ renamed_clients names (with_client c (at_parting (client_at clients c)) clients)
   parted_client_renamed c clients = changed_client_renamed at_parting parting_renamed c clients
 
-  pub queue_ended_renamed : (es : List Asked) (clients : List Client) → queue_ended (renamed_queue names es) (renamed_clients names clients) ≡ renamed_clients names (queue_ended es clients)
+  pub queue_ended_renamed : (es : List Asked) (clients : List Client) →
+      queue_ended (renamed_queue names es) (renamed_clients names clients) ≡ renamed_clients names (queue_ended es clients)
   queue_ended_renamed [] clients = refl
   queue_ended_renamed (Connect_of c ∷ es) clients = grind (arith, nat_tests, with_client_renamed c Unconnected clients, queue_ended_renamed es)
   queue_ended_renamed (_ ∷ es) clients = queue_ended_renamed es clients
 
-  pub sessions_ended_renamed : (cs : List ℕ) (clients : List Client) → sessions_ended cs (renamed_clients names clients) ≡ renamed_clients names (sessions_ended cs clients)
+  pub sessions_ended_renamed : (cs : List ℕ) (clients : List Client) →
+      sessions_ended cs (renamed_clients names clients) ≡ renamed_clients names (sessions_ended cs clients)
   sessions_ended_renamed [] clients = refl
   sessions_ended_renamed (c ∷ cs) clients = ap (sessions_ended cs) (changed_client_renamed at_gone gone_renamed c clients)
       ∙ sessions_ended_renamed cs (with_client c (at_gone (client_at clients c)) clients)
@@ -66,7 +69,8 @@ module _ (names : ℕ → ℕ) where
   unslotted_renamed c [] = refl
   unslotted_renamed c (x ∷ xs) = grind (arith, nat_tests, unslotted_renamed c xs)
 
-  pub each_unslotted_renamed : (clients : List ℕ) (cs : List Cell) → each_unslotted clients (renamed_cells names cs) ≡ renamed_cells names (each_unslotted clients cs)
+  pub each_unslotted_renamed : (clients : List ℕ) (cs : List Cell) →
+      each_unslotted clients (renamed_cells names cs) ≡ renamed_cells names (each_unslotted clients cs)
   each_unslotted_renamed [] cs = refl
   each_unslotted_renamed (c ∷ clients) cs = ap (each_unslotted clients) (unslotted_renamed c cs) ∙ each_unslotted_renamed clients (all_unslotted c cs)
 
@@ -86,7 +90,8 @@ module _ (names : ℕ → ℕ) (one_to_one : IsOneToOne names) where
   pub token_named : (cs : List Cell) (o : Option Object) → token_of (renamed_cells names cs) (option_map (renamed_object names) o) ≡ token_of cs o
   token_named cs x = grind (arith, nat_tests, service_renamed cs)
 
-  set_service_renamed : (n : ℕ) (v : Service) (cs : List Cell) → set_service (names n) (renamed_service names v) (renamed_cells names cs) ≡ renamed_cells names (set_service n v cs)
+  set_service_renamed : (n : ℕ) (v : Service) (cs : List Cell) →
+      set_service (names n) (renamed_service names v) (renamed_cells names cs) ≡ renamed_cells names (set_service n v cs)
   set_service_renamed n v [] = refl
   set_service_renamed n v (c ∷ cs) = grind (arith, nat_tests, same_name names one_to_one c.object.name n, cond_applied, set_service_renamed n v cs)
 
@@ -95,7 +100,8 @@ module _ (names : ℕ → ℕ) (one_to_one : IsOneToOne names) where
       reserved g (names n) (renamed_cells names cs) ≡ renamed_cells names (reserved f n cs)
   reserved_renamed f g same n cs = grind (arith, nat_tests, service_renamed cs n, set_service_renamed n)
 
-  pub asks_renamed : (e : Asked) (n : ℕ) (cs : List Cell) → reserved (asked_last (renamed_asked names e)) (names n) (renamed_cells names cs) ≡ renamed_cells names (reserved (asked_last e) n cs)
+  pub asks_renamed : (e : Asked) (n : ℕ) (cs : List Cell) →
+      reserved (asked_last (renamed_asked names e)) (names n) (renamed_cells names cs) ≡ renamed_cells names (reserved (asked_last e) n cs)
   asks_renamed e n cs = reserved_renamed (asked_last e) (asked_last (renamed_asked names e)) (grind (arith, nat_tests, map-append)) n cs
 
   pub takes_renamed : (n : ℕ) (cs : List Cell) → reserved taken_first (names n) (renamed_cells names cs) ≡ renamed_cells names (reserved taken_first n cs)
@@ -115,7 +121,8 @@ module _ (names : ℕ → ℕ) (one_to_one : IsOneToOne names) where
 
   -- ---- the first session that is there
 
-  pub first_session_renamed : (cs : List Cell) (n : ℕ) (clients : List ℕ) → first_session (renamed_cells names cs) (names n) clients ≡ option_map (renamed_seat names) (first_session cs n clients)
+  pub first_session_renamed : (cs : List Cell) (n : ℕ) (clients : List ℕ) →
+      first_session (renamed_cells names cs) (names n) clients ≡ option_map (renamed_seat names) (first_session cs n clients)
   first_session_renamed cs n [] = refl
   first_session_renamed cs n (c ∷ clients) =
       grind (arith, nat_tests, held_renamed names one_to_one cs (Elsewhere (Session n c)), first_session_renamed cs n clients)

@@ -17,7 +17,8 @@ pub data Kind (outside : Environment) (s : State) : Turning → Type 0 where
   hears_one : (e : TimedEvent) → next_event outside s ≡ Some e → Kind outside s Hears
   kills_one : (e : TimedEvent) (n : ℕ) → next_event outside s ≡ Some e → Kind outside s (Kills n)
   obeys_one : (e : TimedEvent) (c : ℕ) (command : ClientCommand) (name : ℕ) → next_event outside s ≡ Some e → Kind outside s (Obeys c command name)
-  polls_one : (n : ℕ) (answer : Option Completion) → s.rest.polled ≤ n → n < s.rest.polled + (outside.natives - s.rest.polled) → is_late outside s ≡ false → Kind outside s (Polls n answer)
+  polls_one : (n : ℕ) (answer : Option Completion) → s.rest.polled ≤ n → n < s.rest.polled + (outside.natives - s.rest.polled) → is_late outside s ≡ false →
+      Kind outside s (Polls n answer)
   picks_one : (x : Candidate) → s.rest.dispatches < outside.limit → Kind outside s (Picks x.seat)
   strays : Kind outside s Strays
   passes_on : (time : ℕ) → next_time outside s ≡ Some time → is_late outside s ≡ false → Kind outside s (Passes time)
@@ -31,15 +32,16 @@ module _ (outside : Environment) (s : State) where
   abbrev event_early : Type 0
   event_early = reached (time_of (next_event outside s)) s.rest.clock ≡ false
 
-  picks_kind :
-      (b : Bool) (ready : Option Candidate) (next : Option ℕ) → s.rest.dispatches < outside.limit → next_time outside s ≡ next → is_late outside s ≡ false →
-      Kind outside s (picks b ready next)
+  picks_kind : (b : Bool) (ready : Option Candidate) (next : Option ℕ) → s.rest.dispatches < outside.limit → next_time outside s ≡ next →
+      is_late outside s ≡ false → Kind outside s (picks b ready next)
   picks_kind x ready next below is early = grind (arith, nat_tests, strays, picks_one, waits, passes_on)
 
-  polls_kind : (n : Option ℕ) → next_native outside s ≡ n → (answer : Option Completion) (after : Turning) → is_late outside s ≡ false → Kind outside s after → Kind outside s (polls n answer after)
+  polls_kind : (n : Option ℕ) → next_native outside s ≡ n → (answer : Option Completion) (after : Turning) → is_late outside s ≡ false → Kind outside s after →
+      Kind outside s (polls n answer after)
   polls_kind x is answer after early then = grind (arith, nat_tests, living_within s.killed (outside.natives - s.rest.polled) s.rest.polled, polls_one)
 
-  event_kind : (name : ℕ) (next : Option TimedEvent) → next_event outside s ≡ next → (after : Turning) → (event_early → Kind outside s after) → Kind outside s (by_event outside name s next after)
+  event_kind : (name : ℕ) (next : Option TimedEvent) → next_event outside s ≡ next → (after : Turning) → (event_early → Kind outside s after) →
+      Kind outside s (by_event outside name s next after)
   event_kind name x is after then = grind (arith, nat_tests, reached, hears_one, kills_one, obeys_one)
 
   timer_kind : (next : Option Timed) → first_due s.cells ≡ next → (after : Turning) → (timer_early → Kind outside s after) → Kind outside s (by_timer s next after)
@@ -51,6 +53,6 @@ module _ (outside : Environment) (s : State) where
       go : (b : Bool) → nat_le outside.limit s.rest.dispatches ≡ b → Kind outside s (cond b Cuts (by_timer s (first_due s.cells) (by_event outside heard.name s
           (next_event outside s) (polls (next_native outside s) heard.completion (picks (has_signal s.cells) (first_ready s.cells) (next_time outside s))))))
       go true at = cuts
-      go false at = timer_kind (first_due s.cells) refl _ (λ timer. event_kind heard.name (next_event outside s) refl _ (λ event.
-          polls_kind (next_native outside s) refl heard.completion _ (early_both outside s timer event)
-          (picks_kind (has_signal s.cells) (first_ready s.cells) (next_time outside s) (leb-false outside.limit s.rest.dispatches at) refl (early_both outside s timer event))))
+      go false at = timer_kind (first_due s.cells) refl _ (λ timer. event_kind heard.name (next_event outside s) refl _
+          (λ event. polls_kind (next_native outside s) refl heard.completion _ (early_both outside s timer event) (picks_kind (has_signal s.cells)
+          (first_ready s.cells) (next_time outside s) (leb-false outside.limit s.rest.dispatches at) refl (early_both outside s timer event))))

@@ -43,7 +43,8 @@ picked_class p s u x goes = grind (arith, nat_tests, server_there p x.object.thi
 pub picked_pays : (p : Image) (s u : State) (x : Seat) → turned p s (Picks x) ≡ Goes u → is_some (payer u.tasks) ≡ true
 picked_pays p s u x goes = ap is_some (grind (arith, nat_tests, handles, accepts, attends, parts, begun_payer)) ∙ picked_class p s u x goes
 
-pub picked_spares : (p : Image) (limit : ℕ) (s u : State) (x : Seat) → s.rest.dispatches < limit → s.tasks ≡ [] → turned p s (Picks x) ≡ Goes u → spare limit u < spare limit s
+pub picked_spares : (p : Image) (limit : ℕ) (s u : State) (x : Seat) → s.rest.dispatches < limit → s.tasks ≡ [] → turned p s (Picks x) ≡ Goes u →
+    spare limit u < spare limit s
 picked_spares p limit s u x below idle goes = grind (arith, nat_tests, picked_pays p s u x goes, picked_rest p s u x goes)
 
 pub dispatches_are_spent : DispatchesAreSpent

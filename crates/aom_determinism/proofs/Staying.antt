@@ -41,13 +41,15 @@ use Rattle.aom_determinism.specs.There.{AllThere, AreThere, dispatch_of}
 
 -- ---- each move
 
-module _ (p : Image) (t : Typing) (wired : IsWired p) (c : Choice) (s : State) (w : WellTyped p t s) (free : named s.cells c.name ≡ None) (kept : IsKept p s) (there : AllThere s) where
+module _ (p : Image) (t : Typing) (wired : IsWired p) (c : Choice) (s : State) (w : WellTyped p t s) (free : named s.cells c.name ≡ None) (kept : IsKept p s)
+    (there : AllThere s) where
   module _ (fr : Frame) (ts : List Task) (tasks : s.tasks ≡ Run fr ∷ ts) where
     below : AreThere s.clients s.cells (dispatch_of ts)
     below = subst (λ l. AreThere s.clients s.cells (dispatch_of l)) tasks there
 
     -- a message is completed
-    reply_there : (a b : ℕ) → AllTrue (needs p c fr ts (counted p s) (instrs.Reply a b)) → AllThere (applied p fr ts (counted p s) (effect p c fr ts (counted p s) (instrs.Reply a b)))
+    reply_there : (a b : ℕ) → AllTrue (needs p c fr ts (counted p s) (instrs.Reply a b)) →
+        AllThere (applied p fr ts (counted p s) (effect p c fr ts (counted p s) (instrs.Reply a b)))
     reply_there a b met = there_by s.clients s.cells (dispatch_of ts) s.clients _ _ refl calm refl below
       where
         plain : (o : Object) → held s.cells (here fr ts s a) ≡ Some o → is_server p o.thing ≡ false
@@ -79,13 +81,16 @@ module _ (p : Image) (t : Typing) (wired : IsWired p) (c : Choice) (s : State) (
 
     run_there : (i : Option Instr) (u : State) → step_instr p c fr ts (counted p s) i ≡ Goes u → AllThere u
     run_there None u e = cc
-    run_there (Some i) u e = subst AllThere (guarded_goes (needs p c fr ts (counted p s) i) _ u e) (act_there i (guarded_met (needs p c fr ts (counted p s) i) _ u e))
+    run_there (Some i) u e =
+        subst AllThere (guarded_goes (needs p c fr ts (counted p s) i) _ u e) (act_there i (guarded_met (needs p c fr ts (counted p s) i) _ u e))
 
-  gone_there : (ts : List Task) (u : State) → s.tasks ≡ Destroy ∷ ts → (o : Option Object) → held s.cells (Going (length ts)) ≡ o → gone o ts (counted p s) ≡ Goes u → AllThere u
+  gone_there : (ts : List Task) (u : State) → s.tasks ≡ Destroy ∷ ts → (o : Option Object) → held s.cells (Going (length ts)) ≡ o →
+      gone o ts (counted p s) ≡ Goes u → AllThere u
   gone_there ts u tasks None at e = cc
   gone_there ts u tasks (Some o) at e =
       let before = rw tasks at there in
-      let after = there_vanished p s.clients s.cells w.good.tidy kept.fit (waiting_well p t wired s w) (length ts) o at (dispatch_of ts) (gone_apart p t s w ts tasks o at) before in
+      let after = there_vanished p s.clients s.cells w.good.tidy kept.fit (waiting_well p t wired s w) (length ts) o at (dispatch_of ts)
+      (gone_apart p t s w ts tasks o at) before in
       let then = vanished o ts (counted p s) in
       subst AllThere (guarded_goes (needs_gone (without_queue o.name s.cells) o) (vanished o ts (counted p s)) u e) (rw (dispatch_resumed ts) after)
 
@@ -118,13 +123,15 @@ module _ (p : Image) (t : Typing) (wired : IsWired p) (s : State) (w : WellTyped
 
   turned_there : (k : Turning) → IsFound p t wired s w idle kept k → (u : State) → turned p s k ≡ Goes u → AllThere u
   turned_there (Completes o) f u e = subst AllThere (goes_same _ u e) (by_idle s.clients _ s.tasks idle (requested_there timed_out o))
-  turned_there (Kills n) f u e = subst AllThere (goes_same _ u e) (by_idle s.clients _ s.tasks idle (same_waits s.clients s.cells (all_bereaved p n s.cells) (same_bereaved p n s.cells) waiting))
+  turned_there (Kills n) f u e = subst AllThere (goes_same _ u e)
+      (by_idle s.clients _ s.tasks idle (same_waits s.clients s.cells (all_bereaved p n s.cells) (same_bereaved p n s.cells) waiting))
   turned_there (Polls n answer) f u e = go u (polled_so p s u n answer e)
     where
       go : (u : State) → Polled n s u → AllThere u
       go u d = elim d as (λ v d. AllThere v) [
         | nothing ↦ by_idle s.clients s.cells s.tasks idle waiting
-        | answers o code ↦ by_idle s.clients (with_request (completed_with (recorded code)) o s.cells) s.tasks idle (requested_there (completed_with (recorded code)) o)
+        | answers o code ↦ by_idle s.clients (with_request (completed_with (recorded code)) o s.cells) s.tasks idle
+            (requested_there (completed_with (recorded code)) o)
       ]
   turned_there (Obeys client command name) f u e =
       subst AllThere (goes_same _ u e) (by_idle _ _ _ ((commanded_kept p client (heard_one s) command name).1 ∙ idle)

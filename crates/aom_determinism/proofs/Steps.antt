@@ -36,7 +36,8 @@ module _ (names : ℕ → ℕ) (one_to_one : IsOneToOne names) where
 
   -- ---- a cell goes
 
-  vanished_renamed : (o : Object) (ts : List Task) (s : State) → vanished (renamed_object names o) (renamed_tasks names ts) (renamed names s) ≡ renamed names (vanished o ts s)
+  vanished_renamed : (o : Object) (ts : List Task) (s : State) →
+      vanished (renamed_object names o) (renamed_tasks names ts) (renamed names s) ≡ renamed names (vanished o ts s)
   vanished_renamed o ts s = grind (
     arith,
     nat_tests,
@@ -49,7 +50,8 @@ module _ (names : ℕ → ℕ) (one_to_one : IsOneToOne names) where
     service_renamed names one_to_one s.cells o.name,
   )
 
-  gone_renamed : (o : Option Object) (ts : List Task) (s : State) → gone (option_map (renamed_object names) o) (renamed_tasks names ts) (renamed names s) ≡ renamed_outcome names (gone o ts s)
+  gone_renamed : (o : Option Object) (ts : List Task) (s : State) →
+      gone (option_map (renamed_object names) o) (renamed_tasks names ts) (renamed names s) ≡ renamed_outcome names (gone o ts s)
   gone_renamed x ts s = grind (arith, nat_tests, without_queue_renamed, emptied_kept, requested_kept, vanished_renamed, guarded_renamed names)
 
   -- ---- the sessions of a server
@@ -80,8 +82,10 @@ module _ (names : ℕ → ℕ) (one_to_one : IsOneToOne names) where
   unwound_renamed p code ts s (An_operation m w ∷ items) = refl
   unwound_renamed p code ts s (A_mark ∷ items) = arrived_renamed p code ts items s
 
-  main_ends_renamed : (p : Image) (b : Bool) (o : Option Object) (s : State) → main_ends p b (option_map (renamed_object names) o) (renamed names s) ≡ renamed names (main_ends p b o s)
-  main_ends_renamed p true (Some o) s = rw (moved_renamed names one_to_one (Elsewhere Root) (Going 1) s.cells, begun_renamed names p o (length s.items) (Dispatched Of_root ∷ []))
+  main_ends_renamed : (p : Image) (b : Bool) (o : Option Object) (s : State) →
+      main_ends p b (option_map (renamed_object names) o) (renamed names s) ≡ renamed names (main_ends p b o s)
+  main_ends_renamed p true (Some o) s =
+      rw (moved_renamed names one_to_one (Elsewhere Root) (Going 1) s.cells, begun_renamed names p o (length s.items) (Dispatched Of_root ∷ []))
   main_ends_renamed p _ _ s = refl
 
   object_ends_renamed : (p : Image) (s : State) → object_ends p (renamed names s) ≡ renamed names (object_ends p s)
@@ -90,11 +94,13 @@ module _ (names : ℕ → ℕ) (one_to_one : IsOneToOne names) where
   answered_renamed : (p : Image) (answer : ℤ) (s : State) → answered p answer (renamed names s) ≡ renamed names (answered p answer s)
   answered_renamed p answer s = grind (arith, nat_tests, object_ends_renamed p s, cond_applied)
 
-  asking_renamed : (p : Image) (m : Option ℕ) (x : Seat) (code : ℤ) (s : State) → asking p m (renamed_seat names x) code (renamed names s) ≡ renamed names (asking p m x code s)
+  asking_renamed : (p : Image) (m : Option ℕ) (x : Seat) (code : ℤ) (s : State) →
+      asking p m (renamed_seat names x) code (renamed names s) ≡ renamed names (asking p m x code s)
   asking_renamed p x y code s = grind (arith, nat_tests, answered_renamed p code s)
 
   -- the end of a stage
-  stage_ends_renamed : (x : Seat) (c : ℕ) (stage : Stage) (s : State) → stage_ends (renamed_seat names x) c (renamed_stage names stage) (renamed names s) ≡ renamed names (stage_ends x c stage s)
+  stage_ends_renamed : (x : Seat) (c : ℕ) (stage : Stage) (s : State) →
+      stage_ends (renamed_seat names x) c (renamed_stage names stage) (renamed names s) ≡ renamed names (stage_ends x c stage s)
   stage_ends_renamed x c y s = grind (
     arith,
     nat_tests,
@@ -116,7 +122,8 @@ module _ (names : ℕ → ℕ) (one_to_one : IsOneToOne names) where
   ends_renamed p (Of_server x c stage) s = stage_ends_renamed x c stage s
   ends_renamed p _ s = refl
 
-  task_renamed : (p : Image) (c : Choice) (s : State) (ts : List Task) → step_task p (renamed_choice names c) (renamed names s) (renamed_tasks names ts) ≡ renamed_outcome names (step_task p c s ts)
+  task_renamed : (p : Image) (c : Choice) (s : State) (ts : List Task) →
+      step_task p (renamed_choice names c) (renamed names s) (renamed_tasks names ts) ≡ renamed_outcome names (step_task p c s ts)
   task_renamed p c s [] = refl
   task_renamed p c s (Run fr ∷ ts) = instr_renamed p c fr ts s (instr_at p fr.method fr.place)
   task_renamed p c s (Trapped ∷ ts) = refl
@@ -160,7 +167,8 @@ module _ (names : ℕ → ℕ) (one_to_one : IsOneToOne names) where
   pub opens_so : (p : Image) (refused : List ℕ) (c : Choice) (s : State) → IsOpen p refused c s → IsOpen p refused (renamed_choice names c) (renamed names s)
   opens_so p refused c s h = record { name = free_so s c.name h.name; refusal = h.refusal ∙ sym (refused_so p refused s); answer = h.answer }
 
-  hears_so : (p : Image) (outside : Environment) (heard : Heard) (s : State) → HearsWell p outside heard s → HearsWell p outside (renamed_heard names heard) (renamed names s)
+  hears_so : (p : Image) (outside : Environment) (heard : Heard) (s : State) → HearsWell p outside heard s →
+      HearsWell p outside (renamed_heard names heard) (renamed names s)
   hears_so p outside heard s well = record { completion = answers_so names one_to_one p outside heard s well.completion; name = free_so s heard.name well.name }
 
 pub names_mean_nothing : NamesMeanNothing

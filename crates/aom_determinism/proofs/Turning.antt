@@ -1,4 +1,5 @@
--- A turn under other names: orders, priorities, times and numbers decide, so the same timer is due first, the same native is polled or killed, the same object is picked, and the lines are the same.
+-- A turn under other names: orders, priorities, times and numbers decide, so the same timer is due first, the same native is polled or killed, the same object
+-- is picked, and the lines are the same.
 use Rattle.std.proofs.lemmas.Bool.Decides.{nat_tests}
 use Rattle.std.proofs.Common.{arith, Bool, List, None, Option, Some, [], ap, refl, ℕ, ℤ, ◌∙◌, ◌∷◌, ◌≡◌, sym}
 use Rattle.std.specs.Prelude.{option_map}
@@ -59,7 +60,8 @@ module _ (names : ℕ → ℕ) where
 
   -- ---- what the turn does
 
-  picks_renamed : (signal : Bool) (ready : Option Candidate) (next : Option ℕ) → picks signal (option_map renamed_candidate ready) next ≡ renamed_turning (picks signal ready next)
+  picks_renamed : (signal : Bool) (ready : Option Candidate) (next : Option ℕ) →
+      picks signal (option_map renamed_candidate ready) next ≡ renamed_turning (picks signal ready next)
   picks_renamed x ready next = grind (arith, nat_tests)
 
   -- of a state where all natives are polled
@@ -69,24 +71,28 @@ module _ (names : ℕ → ℕ) where
   picking_renamed : (outside : Environment) (s : State) → picking outside (renamed names s) ≡ renamed_turning (picking outside s)
   picking_renamed outside s = grind (arith, nat_tests, signal_kept s.cells, ready_renamed s.cells, due_renamed, picks_renamed)
 
-  by_timer_renamed : (s : State) (x : Option Timed) (after : Turning) → by_timer s (option_map renamed_timed x) (renamed_turning after) ≡ renamed_turning (by_timer s x after)
+  by_timer_renamed : (s : State) (x : Option Timed) (after : Turning) →
+      by_timer s (option_map renamed_timed x) (renamed_turning after) ≡ renamed_turning (by_timer s x after)
   by_timer_renamed s x after = grind (arith, nat_tests, cond_applied)
 
-  pub turning_renamed : (outside : Environment) (heard : Heard) (s : State) → turning outside (renamed_heard names heard) (renamed names s) ≡ renamed_turning (turning outside heard s)
+  pub turning_renamed : (outside : Environment) (heard : Heard) (s : State) →
+      turning outside (renamed_heard names heard) (renamed names s) ≡ renamed_turning (turning outside heard s)
   turning_renamed outside heard s = grind (arith, nat_tests, picking_renamed, due_renamed, by_timer_renamed, cond_applied)
 
   polling_renamed : (t : Turning) → is_polling (renamed_turning t) ≡ is_polling t
   polling_renamed x = grind arith
 
   -- a native is polled under other names too
-  pub polling_kept : (outside : Environment) (s : State) → is_polling (turning outside nothing_heard (renamed names s)) ≡ is_polling (turning outside nothing_heard s)
+  pub polling_kept : (outside : Environment) (s : State) →
+      is_polling (turning outside nothing_heard (renamed names s)) ≡ is_polling (turning outside nothing_heard s)
   polling_kept outside s = sym (polling_named outside nothing_heard (names 0) (renamed names s))
       ∙ ap is_polling (turning_renamed outside nothing_heard s) ∙ polling_renamed (turning outside nothing_heard s)
 
 module _ (names : ℕ → ℕ) (one_to_one : IsOneToOne names) where
   -- ---- where it leads
 
-  request_renamed : (f : Request → Request) (o : Object) (cs : List Cell) → with_request f (renamed_object names o) (renamed_cells names cs) ≡ renamed_cells names (with_request f o cs)
+  request_renamed : (f : Request → Request) (o : Object) (cs : List Cell) →
+      with_request f (renamed_object names o) (renamed_cells names cs) ≡ renamed_cells names (with_request f o cs)
   request_renamed f o cs = grind (arith, nat_tests, requested_kept names one_to_one cs o.name, set_request_renamed names one_to_one o.name)
 
   -- ---- the dispatch of a server
@@ -100,7 +106,8 @@ module _ (names : ℕ → ℕ) (one_to_one : IsOneToOne names) where
   attending_renamed : (method : Option ℕ) (x : Seat) (c : ℕ) (o : Object) (m : ℕ) (s : State) →
       attending method (renamed_seat names x) c (renamed_object names o) (names m) (renamed names s) ≡ renamed_outcome names (attending method x c o m s)
   attending_renamed None x c o m s = refl
-  attending_renamed (Some method) x c o m s = rw (words_kept s.cells m, moved_renamed names one_to_one (Elsewhere (Queued x.object.name m)) (Elsewhere In_service) s.cells)
+  attending_renamed (Some method) x c o m s =
+      rw (words_kept s.cells m, moved_renamed names one_to_one (Elsewhere (Queued x.object.name m)) (Elsewhere In_service) s.cells)
 
   attended_renamed : (p : Image) (x : Seat) (c : ℕ) (o : Option Object) (m : ℕ) (s : State) →
       attended p (renamed_seat names x) c (option_map (renamed_object names) o) (names m) (renamed names s) ≡ renamed_outcome names (attended p x c o m s)
@@ -112,7 +119,8 @@ module _ (names : ℕ → ℕ) (one_to_one : IsOneToOne names) where
       grind (arith, nat_tests, moved_renamed names one_to_one (Elsewhere (Session x.object.name c)) (Going 1) s.cells, begun_renamed names p)
 
   -- the session of a client
-  session_renamed : (n c : ℕ) (cs : List Cell) → held (renamed_cells names cs) (Elsewhere (Session (names n) c)) ≡ option_map (renamed_object names) (held cs (Elsewhere (Session n c)))
+  session_renamed : (n c : ℕ) (cs : List Cell) →
+      held (renamed_cells names cs) (Elsewhere (Session (names n) c)) ≡ option_map (renamed_object names) (held cs (Elsewhere (Session n c)))
   session_renamed n c cs = held_renamed names one_to_one cs (Elsewhere (Session n c))
 
   serves_renamed : (p : Image) (x : Seat) (es : List Asked) (s : State) →
@@ -136,7 +144,8 @@ module _ (names : ℕ → ℕ) (one_to_one : IsOneToOne names) where
   turned_renamed : (p : Image) (s : State) (t : Turning) → turned p (renamed names s) (renamed_turning names t) ≡ renamed_outcome names (turned p s t)
   turned_renamed p s x = grind (arith, nat_tests, request_renamed, each_renamed, cell_at_renamed, answered_renamed, picked_renamed, commanded_renamed)
 
-  pub turns_so : (p : Image) (outside : Environment) (heard : Heard) (s : State) → turn p outside (renamed_heard names heard) (renamed names s) ≡ renamed_outcome names (turn p outside heard s)
+  pub turns_so : (p : Image) (outside : Environment) (heard : Heard) (s : State) →
+      turn p outside (renamed_heard names heard) (renamed names s) ≡ renamed_outcome names (turn p outside heard s)
   turns_so p outside heard s = ap (turned p (renamed names s)) (turning_renamed names outside heard s) ∙ turned_renamed p s (turning outside heard s)
 
   -- what it may hear

@@ -42,7 +42,8 @@ bereaved_owed b r = grind (arith, completed_with_owed terminated refl r)
 
 owes_bereaved : (p : Image) (n : ℕ) (cs : List Cell) (k m : ℕ) → owes p (all_bereaved p n cs) k m ≡ (not (n == k) && owes p cs k m)
 owes_bereaved p n [] k m = sym (and_right (not (n == k)) false refl)
-owes_bereaved p n (c ∷ cs) k m = grind (arith, owes_bereaved p n cs k m, bereaved_owed (is_served_by p n c.object.thing) c.request, bereft p n k c.object.thing (is_owed c.request))
+owes_bereaved p n (c ∷ cs) k m =
+    grind (arith, owes_bereaved p n cs k m, bereaved_owed (is_served_by p n c.object.thing) c.request, bereft p n k c.object.thing (is_owed c.request))
 
 meets_bereaved : (p : Image) (n : ℕ) (cs : List Cell) (k m : ℕ) → meets p (all_bereaved p n cs) k m ≡ (not (n == k) && meets p cs k m)
 meets_bereaved p n [] k m = sym (and_right (not (n == k)) false refl)
@@ -53,11 +54,13 @@ meets_bereaved p n (c ∷ cs) k m = grind (arith, meets_bereaved p n cs k m, ber
 -- a request at a native has no timer
 module _ (p : Image) (t : Typing) (s : State) (w : WellTyped p t s) where
   due_same : (x : Timed) → IsDue s.cells x → Unchanged p s.cells (with_request timed_out x.object s.cells)
-  due_same x due = unchanged_asked p s.cells x.object (on_request timed_out (requested s.cells x.object.name)) (λ k. still p (pos 0) s x.object due.1.lives (grind arith) k _ _)
+  due_same x due = unchanged_asked p s.cells x.object (on_request timed_out (requested s.cells x.object.name))
+      (λ k. still p (pos 0) s x.object due.1.lives (grind arith) k _ _)
 
   -- ---- an object is dispatched
 
-  ready_same : (y : Candidate) → IsCell s.cells y.seat.object (Some y.request) → is_ready y.request ≡ true → Unchanged p s.cells (with_request taken_up y.seat.object s.cells)
+  ready_same : (y : Candidate) → IsCell s.cells y.seat.object (Some y.request) → is_ready y.request ≡ true →
+      Unchanged p s.cells (with_request taken_up y.seat.object s.cells)
   ready_same y cell ready =
       let own = requested s.cells y.seat.object.name in
       let completed = not-true (int_eq y.request.status pending) (and_parts (is_active y.request.phase) (not (int_eq y.request.status pending)) ready).1 in
@@ -69,7 +72,8 @@ module _ (p : Image) (t : Typing) (s : State) (w : WellTyped p t s) where
   server_unserved x server = grind (arith, nat_tests)
 
   -- what is no server is ready, since nothing waits in its queue
-  picked_same : (y : Candidate) → ClientsFit p s.clients s.cells → IsCell s.cells y.seat.object (Some y.request) → GoesNow s.cells y → Unchanged p s.cells (with_request taken_up y.seat.object s.cells)
+  picked_same : (y : Candidate) → ClientsFit p s.clients s.cells → IsCell s.cells y.seat.object (Some y.request) → GoesNow s.cells y →
+      Unchanged p s.cells (with_request taken_up y.seat.object s.cells)
   picked_same y fit cell now = go (is_server p y.seat.object.thing) refl
     where
       go : (b : Bool) → is_server p y.seat.object.thing ≡ b → Unchanged p s.cells (with_request taken_up y.seat.object s.cells)
@@ -77,25 +81,27 @@ module _ (p : Image) (t : Typing) (s : State) (w : WellTyped p t s) where
       go false plain = ready_same y cell (grind (arith, nat_tests))
 
   -- an object is dispatched, or a server with the first of its queue
-  pick_same :
-      (y : Candidate) (u : State) → ClientsFit p s.clients s.cells → IsCell s.cells y.seat.object (Some y.request) → GoesNow s.cells y → Picked p s y.seat u →
-      Unchanged p s.cells u.cells × (u.killed ≡ s.killed)
+  pick_same : (y : Candidate) (u : State) → ClientsFit p s.clients s.cells → IsCell s.cells y.seat.object (Some y.request) → GoesNow s.cells y →
+      Picked p s y.seat u → Unchanged p s.cells u.cells × (u.killed ≡ s.killed)
   pick_same y u fit cell now d = elim d as (λ v d. Unchanged p s.cells v.cells × (v.killed ≡ s.killed)) [
     | handles m at ↦ (picked_same y fit cell now, refl)
     | accepts client m at ↦ (unchanged_served p s.cells y.seat.object.name _, refl)
     | attends client message m o there at ↦ (
-      unchanged_along p s.cells (taken_from y.seat.object.name s).cells _ (unchanged_served p s.cells y.seat.object.name _) (grind (arith, nat_tests, unchanged_moved)),
+      unchanged_along p s.cells (taken_from y.seat.object.name s).cells _ (unchanged_served p s.cells y.seat.object.name _)
+          (grind (arith, nat_tests, unchanged_moved)),
       refl,
     )
     | by_parting client o there ↦ (
-      unchanged_along p s.cells (taken_from y.seat.object.name s).cells _ (unchanged_served p s.cells y.seat.object.name _) (grind (arith, nat_tests, unchanged_moved)),
+      unchanged_along p s.cells (taken_from y.seat.object.name s).cells _ (unchanged_served p s.cells y.seat.object.name _)
+          (grind (arith, nat_tests, unchanged_moved)),
       refl,
     )
   ]
 
   -- ---- a request is completed
 
-  module _ (n : ℕ) (i : ℕ) (c : Cell) (at : cell_at s.cells i ≡ Some c) (owed : is_outstanding_at p n c ≡ true) (code : ℤ) (settled : int_eq code pending ≡ false) where
+  module _ (n : ℕ) (i : ℕ) (c : Cell) (at : cell_at s.cells i ≡ Some c) (owed : is_outstanding_at p n c ≡ true) (code : ℤ)
+      (settled : int_eq code pending ≡ false) where
     cell : IsCell s.cells c.object c.request
     cell = stands_at s.cells w.good.tidy i c at
 
@@ -109,9 +115,11 @@ module _ (p : Image) (t : Typing) (s : State) (w : WellTyped p t s) where
     served k = ap (λ o. serves_object p k o) cell.lives ∙ served_there p n k c.object.thing parts.0
 
     owes_before : owes p s.cells n c.object.name ≡ true
-    owes_before = and_from (serves p s.cells n c.object.name) (is_owed (requested s.cells c.object.name)) (ap (λ o. serves_object p n o) cell.lives ∙ parts.0) outstanding
+    owes_before = and_from (serves p s.cells n c.object.name) (is_owed (requested s.cells c.object.name))
+        (ap (λ o. serves_object p n o) cell.lives ∙ parts.0) outstanding
 
-    owes_completed : (k m : ℕ) → owes p (with_request (completed_with code) c.object s.cells) k m ≡ (not ((n == k) && has_name (cell_at s.cells i) m) && owes p s.cells k m)
+    owes_completed : (k m : ℕ) →
+        owes p (with_request (completed_with code) c.object s.cells) k m ≡ (not ((n == k) && has_name (cell_at s.cells i) m) && owes p s.cells k m)
     owes_completed k m = grind (arith, nat_tests, owes_asked p s.cells c.object, taken_off, served k, outstanding, and_right, completed_with_owed code settled)
 
 -- ---- any turn
@@ -124,12 +132,10 @@ pub record Tale (p : Image) (s u : State) (k : Turning) : Type 0 where
   pub killed : u.killed ≡ killed_turned k s.killed
 
 module _ (p : Image) (t : Typing) (s u : State) (w : WellTyped p t s) where
-  asked_then :
-      (i : ℕ) (c : Cell) → cell_at s.cells i ≡ Some c → (n : ℕ) (code : ℤ) → is_outstanding_at p n c ≡ true → answered_by p n (Some c) code s ≡ Goes u →
-      Tale p s u (Polls n (Some (record { cell = i; code = code })))
+  asked_then : (i : ℕ) (c : Cell) → cell_at s.cells i ≡ Some c → (n : ℕ) (code : ℤ) → is_outstanding_at p n c ≡ true →
+      answered_by p n (Some c) code s ≡ Goes u → Tale p s u (Polls n (Some (record { cell = i; code = code })))
   asked_then i c at n code owed e = subst (λ (v : State). Tale p s v (Polls n (Some (record { cell = i; code = code }))))
-      (guarded_goes ((is_outstanding_at p n c, CompletedTwice) ∷ []) _ u e)
-      (record {
+      (guarded_goes ((is_outstanding_at p n c, CompletedTwice) ∷ []) _ u e) (record {
         completes = (c, at, owes_before p t s w n i c at owed (recorded code) (recorded_so code));
         owes = owes_completed p t s w n i c at owed (recorded code) (recorded_so code);
         meets = meets_asked p s.cells c.object _;

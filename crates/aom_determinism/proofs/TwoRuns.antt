@@ -48,7 +48,8 @@ module _ (p : Image) (t : Typing) (outside : Environment) (wired : IsWired p) (t
   -- so many stages of a run
   abbrev After : ℕ → List Line → State → Type 0
   After zero lines s = (lines ≡ []) × (s ≡ boot_state p)
-  After (suc n) lines s = (before : List Line) × (v : State) × (new : List Line) × After n before v × Reaches p outside (boot_state p) before v × Stage n v s new × (lines ≡ before ++ new)
+  After (suc n) lines s = (before : List Line) × (v : State) × (new : List Line) × After n before v × Reaches p outside (boot_state p) before v
+      × Stage n v s new × (lines ≡ before ++ new)
 
   staged : {lines : List Line} {s : State} (reached : Reaches p outside (boot_state p) lines s) → Follows oracle reached → After (stages reached) lines s
   staged begins follows = (refl, refl)
@@ -62,7 +63,8 @@ module _ (p : Image) (t : Typing) (outside : Environment) (wired : IsWired p) (t
 
   there : (lines : List Line) (s : State) → Reaches p outside (boot_state p) lines s → AllThere s
   there _ _ begins = all_stays_there.boot p
-  there _ _ (moves {lines = lines} {s = s} {u = u} c before busy choice e) = let w = well lines s before in all_stays_there.moves p t wired typed c s u w.0 choice.name w.1 (there lines s before) e
+  there _ _ (moves {lines = lines} {s = s} {u = u} c before busy choice e) = let w = well lines s before in
+      all_stays_there.moves p t wired typed c s u w.0 choice.name w.1 (there lines s before) e
   there _ _ (turns {lines = lines} {s = s} {u = u} heard before between hears e) =
       let w = well lines s before in
       all_stays_there.turns p t outside wired typed heard s u w.0 between hears w.1 (there lines s before) e
@@ -74,21 +76,23 @@ module _ (p : Image) (t : Typing) (outside : Environment) (wired : IsWired p) (t
   goes_alike o o' s u e e' h = subst (λ x. AlikeOutcomes (Goes s) x) e' (subst (λ x. AlikeOutcomes x o') e h)
 
   -- and what is heard in one is heard in the other
-  hears_alike :
-      (n : ℕ) (v w s u : State) (new new' : List Line) → AreAlike v w → (one : Moved n v s new) (other : Moved n w u new') → is_heard p v.tasks ≡ true →
-      one.choice.answer ≡ other.choice.answer
+  hears_alike : (n : ℕ) (v w s u : State) (new new' : List Line) → AreAlike v w → (one : Moved n v s new) (other : Moved n w u new') →
+      is_heard p v.tasks ≡ true → one.choice.answer ≡ other.choice.answer
   hears_alike n v w s u new new' alike one other heard = grind (arith, nat_tests, heard, heard_kept p alike.names v.tasks)
 
-  stage_alike : (n : ℕ) (v w s u : State) (new new' : List Line) → WellKept p t w → AllThere w → AreAlike v w → Stage n v s new → Stage n w u new' → (new ≡ new') × AreAlike s u
+  stage_alike : (n : ℕ) (v w s u : State) (new new' : List Line) → WellKept p t w → AllThere w → AreAlike v w → Stage n v s new → Stage n w u new' →
+      (new ≡ new') × AreAlike s u
   stage_alike n v w s u new new' k there alike (inl one) (inl other) = (
     one.lines ∙ writes_alike p v w alike ∙ sym other.lines,
-    goes_alike _ _ s u one.goes other.goes (move_alike p t outside.refused one.choice other.choice v w k.0 k.1 there alike one.open_so other.open_so (hears_alike n v w s u new new' alike one other)),
+    goes_alike _ _ s u one.goes other.goes (move_alike p t outside.refused one.choice other.choice v w k.0 k.1 there alike one.open_so other.open_so
+        (hears_alike n v w s u new new' alike one other)),
   )
   stage_alike n v w s u new new' k there alike (inl one) (inr other) = absurd (grind arith)
   stage_alike n v w s u new new' k there alike (inr one) (inl other) = absurd (grind arith)
   stage_alike n v w s u new new' k there alike (inr one) (inr other) = (
     one.lines ∙ turn_writes_alike p outside v w alike ∙ sym other.lines,
-    goes_alike _ _ s u one.goes other.goes (turn_alike p t outside one.heard other.heard v w k.0 k.1 there alike one.free other.free (grind (arith, nat_tests, polling_kept))),
+    goes_alike _ _ s u one.goes other.goes
+        (turn_alike p t outside one.heard other.heard v w k.0 k.1 there alike one.free other.free (grind (arith, nat_tests, polling_kept))),
   )
 
   -- nothing in the boot state has a name
@@ -133,7 +137,8 @@ module _ (p : Image) (t : Typing) (outside : Environment) (wired : IsWired p) (t
   same_ended s u alike = ap (λ x. x.rest.ended) alike.same
 
   -- no run goes on from where another has ended
-  never_past : (n m : ℕ) (lines others : List Line) (s u : State) (ending : Ending) → Run_of p outside lines s ending → n < m → After n lines s → After m others u → ⊥
+  never_past : (n m : ℕ) (lines others : List Line) (s u : State) (ending : Ending) → Run_of p outside lines s ending → n < m →
+      After n lines s → After m others u → ⊥
   never_past n m lines others s u ending run lt a b =
       let h = earlier (suc n) m others u (omega arith) b in
       let before = together n lines h.after.0 s h.after.1 a h.after.3 in
@@ -146,7 +151,8 @@ module _ (p : Image) (t : Typing) (outside : Environment) (wired : IsWired p) (t
   abbrev Reached : List Line → State → Type 0
   Reached lines s = Reaches p outside (boot_state p) lines s
 
-  agree : (lines others : List Line) (s u : State) (one : Reached lines s) (other : Reached others u) → Follows oracle one → Follows oracle other → Begins lines others ⊎ Begins others lines
+  agree : (lines others : List Line) (s u : State) (one : Reached lines s) (other : Reached others u) → Follows oracle one → Follows oracle other →
+      Begins lines others ⊎ Begins others lines
   agree lines others s u one other hears follows = grind (arith, nat_tests, staged, hears, begins_so, lines, cases_lt)
 
   whole : (lines others : List Line) (s u : State) (ending : Ending) (one : Run_of p outside lines s ending) (other : Reached others u) →

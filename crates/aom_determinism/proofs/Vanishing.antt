@@ -32,7 +32,8 @@ module _ (p : Image) (clients : List Client) (cs : List Cell) (tidy : Tidy cs) (
 
   -- ---- a server goes
 
-  module _ (waiting : (n m : ℕ) (o : Object) → held cs (Elsewhere (Queued n m)) ≡ Some o → is_server p o.thing ≡ false) (k : ℕ) (o : Object) (at : held cs (Going k) ≡ Some o) where
+  module _ (waiting : (n m : ℕ) (o : Object) → held cs (Elsewhere (Queued n m)) ≡ Some o → is_server p o.thing ≡ false) (k : ℕ) (o : Object)
+      (at : held cs (Going k) ≡ Some o) where
     -- what waits in its queue goes
     abbrev left : List Cell
     left = dropped (is_queue_of o.name) cs
@@ -49,7 +50,8 @@ module _ (p : Image) (clients : List Client) (cs : List Cell) (tidy : Tidy cs) (
     gone_so = ap (without (Going k)) (queue_dropped o.name cs) ∙ place_dropped (Going k) left
 
     other_connects : (n c : ℕ) → (o.name == n) ≡ false → waits cs n c ≡ true → waits (without (Going k) (without_queue o.name cs)) n c ≡ true
-    other_connects n c other h = ap (λ l. waits l n c) gone_so ∙ connects_dropped (λ r. same_place r (Going k)) left (tidy_dropped (is_queue_of o.name) cs tidy) n c go (queue_connects n c h)
+    other_connects n c other h = ap (λ l. waits l n c) gone_so
+        ∙ connects_dropped (λ r. same_place r (Going k)) left (tidy_dropped (is_queue_of o.name) cs tidy) n c go (queue_connects n c h)
       where
         go : (q : Place) (x : Object) → same_place q (Going k) ≡ true → held left q ≡ Some x → x.name ≡ n → (service_of left n).queue ≡ []
         go q x goes there same = let it : Some o ≡ Some x =
@@ -93,9 +95,8 @@ module _ (p : Image) (clients : List Client) (cs : List Cell) (tidy : Tidy cs) (
             go true same =
                 let none : waits cs n c ≡ false = ap (λ k. waits cs k c) (sym (eqb-true o.name n same)) ∙ before.1 in
                 absurd (true≢false (sym same ∙ apart n c (or_second (waits cs n c) (accepts n c d) (there.asked n c before.0) none)))
-            go false other =
-                still_either (waits cs n c) (waits (each_unslotted (service_of cs o.name).sessions cells) n c) (accepts n c d) (there.asked n c before.0)
-                (λ h. calm.connects n c (other_connects n c other h))
+            go false other = still_either (waits cs n c) (waits (each_unslotted (service_of cs o.name).sessions cells) n c) (accepts n c d)
+                (there.asked n c before.0) (λ h. calm.connects n c (other_connects n c other h))
 
         at_place : (d : Option Dispatch) → IsAtPlace cs d → IsAtPlace (each_unslotted (service_of cs o.name).sessions cells) d
         at_place (Some (Of_server x c (Serves y))) h = calm.places x.object.name c ∙ places_gone x.object.name c ∙ h

@@ -25,7 +25,8 @@ abbrev words : Statement → List (List ℕ)
 words s = s.words
 
 -- the words of what is found among statements are found among their words
-of_words : (key : Keyword) (ss : List Statement) (number : ℕ) → words_of (slice_get (filter (begins key) ss) number) ≡ slice_get (filter (begins_with key) (all_words ss)) number
+of_words : (key : Keyword) (ss : List Statement) (number : ℕ) →
+    words_of (slice_get (filter (begins key) ss) number) ≡ slice_get (filter (begins_with key) (all_words ss)) number
 of_words key ss number = sym (slice_get-map words (filter (begins key) ss) number) ∙ ap (λ ws. slice_get ws number) (filter_map (begins_with key) words ss)
 
 pub found_image : (text : List ℕ) (i : Image) (d : Denotes text i) → words_of (image_statement text) ≡ Some (header_words d.source.header)
@@ -51,8 +52,9 @@ found_class text i d number c there =
     }
 
 -- what is found for a place of a method
-found_instruction : (text : List ℕ) (i : Image) (d : Denotes text i) (number place : ℕ) (said : MethodText) (t : InstructionText) → slice_get (methods_of d.source.declarations) number ≡ Some said
-    → slice_get said.code place ≡ Some t → words_of (instruction_statement text number place) ≡ Some (instruction_words t)
+found_instruction : (text : List ℕ) (i : Image) (d : Denotes text i) (number place : ℕ) (said : MethodText) (t : InstructionText) →
+    slice_get (methods_of d.source.declarations) number ≡ Some said → slice_get said.code place ≡ Some t →
+    words_of (instruction_statement text number place) ≡ Some (instruction_words t)
 found_instruction text i d number place said t method there =
     let next : number + 1 ≡ suc number = omega arith in
     sym (slice_get-map words (part (begins k.Method) (statements text) (number + 1)) place)
@@ -71,7 +73,8 @@ found_method text i d number m there =
       there = there_by k.Method text i d method_words (methods_of d.source.declarations) number said.other refl (method_passes d.source.declarations) said.there;
       means = said.holds;
       code = λ place instr here. (
-          let held = pair_at (InstructionMeans (names_of d.source) i.header.version (labels_of said.other.code)) said.other.code m.code place instr said.holds.code here in
+          let held = pair_at (InstructionMeans (names_of d.source) i.header.version (labels_of said.other.code)) said.other.code m.code place
+          instr said.holds.code here in
           record { said = held.other; there = found_instruction text i d number place said.other held.other said.there held.there; means = held.holds });
     }
 

@@ -55,16 +55,18 @@ module _ (key : Keyword) (foreign : Foreign key) where
   no_instruction t = not_by t.label t.mnemonic t.operands
 
   -- a method's body, before other statements, has none of those that begin so
-  pub body_passes : (code : List InstructionText) (rest : List (List (List ℕ))) → filter (begins_with key) ((map instruction_words code ++ end_words ∷ []) ++ rest) ≡ filter (begins_with key) rest
+  pub body_passes : (code : List InstructionText) (rest : List (List (List ℕ))) →
+      filter (begins_with key) ((map instruction_words code ++ end_words ∷ []) ++ rest) ≡ filter (begins_with key) rest
   body_passes [] rest = filter_no (begins_with key) end_words rest foreign.ending
-  body_passes (t ∷ ts) rest = filter_no (begins_with key) (instruction_words t) ((map instruction_words ts ++ end_words ∷ []) ++ rest) (no_instruction t) ∙ body_passes ts rest
+  body_passes (t ∷ ts) rest =
+      filter_no (begins_with key) (instruction_words t) ((map instruction_words ts ++ end_words ∷ []) ++ rest) (no_instruction t) ∙ body_passes ts rest
 
   -- so it is the beginning of the first part, and of no other
   pub body_first : (code : List InstructionText) (rest : List (List (List ℕ))) → part
       (begins_with key) ((map instruction_words code ++ end_words ∷ []) ++ rest) 0 ≡ map instruction_words code ++ (end_words ∷ part (begins_with key) rest 0)
   body_first [] rest = part_first (begins_with key) end_words rest foreign.ending
-  body_first (t ∷ ts) rest =
-      part_first (begins_with key) (instruction_words t) ((map instruction_words ts ++ end_words ∷ []) ++ rest) (no_instruction t) ∙ ap (λ ws. instruction_words t ∷ ws) (body_first ts rest)
+  body_first (t ∷ ts) rest = part_first (begins_with key) (instruction_words t) ((map instruction_words ts ++ end_words ∷ []) ++ rest) (no_instruction t)
+      ∙ ap (λ ws. instruction_words t ∷ ws) (body_first ts rest)
 
   pub body_later : (code : List InstructionText) (rest : List (List (List ℕ))) (n : ℕ) →
       part (begins_with key) ((map instruction_words code ++ end_words ∷ []) ++ rest) (suc n) ≡ part (begins_with key) rest (suc n)
@@ -103,16 +105,16 @@ before_others (c ∷ cs) rest zero t there = ap (λ x. Some (instruction_words x
 before_others (c ∷ cs) rest (suc place) t there = before_others cs rest place t there
 
 -- behind the statement of a method stand those of its instructions, in their order
-pub code_found : (ds : List Declaration) (number place : ℕ) (said : MethodText) (t : InstructionText) → slice_get (methods_of ds) number ≡ Some said → slice_get said.code place ≡ Some t
-    → slice_get (part (begins_with k.Method) (declared_statements ds) (suc number)) place ≡ Some (instruction_words t)
+pub code_found : (ds : List Declaration) (number place : ℕ) (said : MethodText) (t : InstructionText) → slice_get (methods_of ds) number ≡ Some said →
+    slice_get said.code place ≡ Some t → slice_get (part (begins_with k.Method) (declared_statements ds) (suc number)) place ≡ Some (instruction_words t)
 code_found [] number place said t method there = absurd cc
-code_found (source.class c ∷ ds) number place said t method there =
-    ap (λ ws. slice_get ws place) (part_no (begins_with k.Method) (class_words c) (declared_statements ds) number refl) ∙ code_found ds number place said t method there
+code_found (source.class c ∷ ds) number place said t method there = ap (λ ws. slice_get ws place)
+    (part_no (begins_with k.Method) (class_words c) (declared_statements ds) number refl) ∙ code_found ds number place said t method there
 code_found (source.method s ∷ ds) zero place said t method there =
     let same = same_Some s said method in
     ap (λ ws. slice_get ws place) (part_yes (begins_with k.Method) (method_words s) ((map instruction_words s.code ++ end_words ∷ []) ++ declared_statements ds)
-    0 refl ∙ body_first k.Method method_foreign s.code (declared_statements ds))
-    ∙ before_others s.code (end_words ∷ part (begins_with k.Method) (declared_statements ds) 0) place t (ap (λ (x : MethodText). slice_get x.code place) same ∙ there)
+    0 refl ∙ body_first k.Method method_foreign s.code (declared_statements ds)) ∙ before_others s.code
+    (end_words ∷ part (begins_with k.Method) (declared_statements ds) 0) place t (ap (λ (x : MethodText). slice_get x.code place) same ∙ there)
 code_found (source.method s ∷ ds) (suc number) place said t method there =
     ap (λ ws. slice_get ws place) (part_yes (begins_with k.Method) (method_words s) ((map instruction_words s.code ++ end_words ∷ []) ++ declared_statements ds)
     (suc number) refl ∙ body_later k.Method method_foreign s.code (declared_statements ds) number) ∙ code_found ds number place said t method there
@@ -125,8 +127,10 @@ pub record PairAt {A B : Type 0} (R : A → B → Type 0) (xs : List A) (place :
   pub there : slice_get xs place ≡ Some other
   pub holds : R other y
 
-pub pair_at : {A B : Type 0} (R : A → B → Type 0) (xs : List A) (ys : List B) (place : ℕ) (y : B) → Pairwise R xs ys → slice_get ys place ≡ Some y → PairAt R xs place y
+pub pair_at : {A B : Type 0} (R : A → B → Type 0) (xs : List A) (ys : List B) (place : ℕ) (y : B) → Pairwise R xs ys →
+    slice_get ys place ≡ Some y → PairAt R xs place y
 pair_at R [] [] place y each there = absurd cc
 pair_at R (a ∷ xs) (b ∷ ys) zero y each there = record { other = a; there = refl; holds = subst (R a) (same_Some b y there) each.0 }
-pair_at R (a ∷ xs) (b ∷ ys) (suc place) y each there = let rest = pair_at R xs ys place y each.1 there in record { other = rest.other; there = rest.there; holds = rest.holds }
+pair_at R (a ∷ xs) (b ∷ ys) (suc place) y each there = let rest = pair_at R xs ys place y each.1 there in
+    record { other = rest.other; there = rest.there; holds = rest.holds }
 pair_at R _ _ place y each there = absurd each

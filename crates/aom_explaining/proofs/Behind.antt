@@ -13,22 +13,22 @@ use Rattle.aom_explaining.specs.Lined.Lining.{without as unfaulted, told as faul
 use Rattle.aom_explaining.proofs.Saying.{said_or_told}
 
 -- what was not told yet is an answer without a fault, and with one each way to tell it is, and so is this one
-pub answered : (answers : Sent → ExitStatus → Type 0) (explains : Fault → List ℕ → Type 0) (found : Result ExitStatus Fault) (errors : Sent) (status : ExitStatus) → Untold answers found →
-    AnsweredOrExplained explains found errors status → Explaining answers explains errors status
+pub answered : (answers : Sent → ExitStatus → Type 0) (explains : Fault → List ℕ → Type 0) (found : Result ExitStatus Fault) (errors : Sent)
+    (status : ExitStatus) → Untold answers found → AnsweredOrExplained explains found errors status → Explaining answers explains errors status
 answered answers explains (Ok found) errors status untold told = without told.1 (subst (answers errors) (sym told.0) (untold errors told.1))
 answered answers explains (Err fault) errors status untold more = behind fault more (untold more.line status more.told)
 
 -- so it is with a fault that is told in another line
-pub lined : (answers : Sent → ExitStatus → Type 0) (line : Fault → List ℕ) (found : Result ExitStatus Fault) (errors : Sent) (status : ExitStatus) → Untold answers found →
-    AnsweredOrLined line found errors status → Lining answers line errors status
+pub lined : (answers : Sent → ExitStatus → Type 0) (line : Fault → List ℕ) (found : Result ExitStatus Fault) (errors : Sent) (status : ExitStatus) →
+    Untold answers found → AnsweredOrLined line found errors status → Lining answers line errors status
 lined answers line (Ok found) errors status untold told = unfaulted told.1 (subst (answers errors) (sym told.0) (untold errors told.1))
 lined answers line (Err fault) errors status untold (is, told) = faulted fault (λ plain. untold plain status) is told
 
 -- the explanation begins where the line has ended
-pub told_first : {X E : Type 0} (made : Result X E) (items : X → List ℕ) (tells : Sent → Type 0) (explains : List ℕ → Type 0) (before middle now : Option (List ℕ)) (told_fails fails : Bool) →
-    tells (record { before = before; now = middle; failed = told_fails }) →
-    IfOk made (λ v. explains (items v)) → IfOk made (λ v. Says (items v) (record { before = middle; now = now; failed = fails })) →
-    IfErr made (λ e. Tells Memory (record { before = middle; now = now; failed = fails })) → ToldAndExplained tells explains (record { before = before; now = now; failed = fails })
+pub told_first : {X E : Type 0} (made : Result X E) (items : X → List ℕ) (tells : Sent → Type 0) (explains : List ℕ → Type 0)
+    (before middle now : Option (List ℕ)) (told_fails fails : Bool) → tells (record { before = before; now = middle; failed = told_fails }) →
+    IfOk made (λ v. explains (items v)) → IfOk made (λ v. Says (items v) (record { before = middle; now = now; failed = fails })) → IfErr made (λ e. Tells
+    Memory (record { before = middle; now = now; failed = fails })) → ToldAndExplained tells explains (record { before = before; now = now; failed = fails })
 told_first made items tells explains before middle now told_fails fails told right says wanting = record {
   line = record { before = before; now = middle; failed = told_fails };
   begins = refl;

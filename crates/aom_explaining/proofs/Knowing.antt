@@ -47,18 +47,19 @@ module _ (p : Image) (m place : ℕ) (sh : Shape) (why : Why) where
   -- with so few entries the instruction decides
   decides : (o : Option Instr) → length sh.entries < 1024 → instr_at p m place ≡ o → not (is_need p m place sh why o) ≡ ways_differ p m place sh why
   unfolding ways_differ
-  decides o few is =
-      ap (λ u. not (is_need p m place sh why u)) (sym is) ∙ sym (ap (λ b. b && not (is_need p m place sh why (instr_at p m place))) (lt-ltb (length sh.entries) 1024 few))
+  decides o few is = ap (λ u. not (is_need p m place sh why u)) (sym is)
+      ∙ sym (ap (λ b. b && not (is_need p m place sh why (instr_at p m place))) (lt-ltb (length sh.entries) 1024 few))
 
   pub none_needs : length sh.entries < 1024 → instr_at p m place ≡ None → true ≡ ways_differ p m place sh why
   none_needs few none = decides None few none
 
   -- the rule answers as its clause says
-  pub rule_differs : length sh.entries < 1024 → (answer : Result Changed Why) → IsSome (instr_at p m place) → IfSome (instr_at p m place) (λ i. told sh.entries answer ≡ rule p m place sh i)
-      → not (tells_why (told sh.entries answer) why) ≡ ways_differ p m place sh why
+  pub rule_differs : length sh.entries < 1024 → (answer : Result Changed Why) → IsSome (instr_at p m place) → IfSome (instr_at p m place)
+      (λ i. told sh.entries answer ≡ rule p m place sh i) → not (tells_why (told sh.entries answer) why) ≡ ways_differ p m place sh why
   rule_differs few answer some is = answered (instr_at p m place) some is ∙ decides (instr_at p m place) few refl
     where
-      answered : (o : Option Instr) → IsSome o → IfSome o (λ i. told sh.entries answer ≡ rule p m place sh i) → not (tells_why (told sh.entries answer) why) ≡ not (is_need p m place sh why o)
+      answered : (o : Option Instr) → IsSome o → IfSome o (λ i. told sh.entries answer ≡ rule p m place sh i) →
+          not (tells_why (told sh.entries answer) why) ≡ not (is_need p m place sh why o)
       answered None some is = absurd (false≢true some)
       answered (Some i) some is = ap (λ r. not (tells_why r why)) is
 
@@ -102,7 +103,8 @@ same_why a b e = same_Some a b (sym (numbered a) ∙ ap (slice_get whys) e ∙ n
 module _ (p : Image) (m place : ℕ) (why : Why) (out : List ℕ) where
   module _ (s : Shapes) (other : ℕ) (reason : Why) (stop : StopsAt p m s other reason) where
     -- work ends there, and the state of the place is told
-    pub told_there : (sh : Shape) (new : List ℕ) → other ≡ place → reason ≡ why → Some sh ≡ at None s place → new ≡ out ++ state_text p m place sh why → KnownThere p m place why out new
+    pub told_there : (sh : Shape) (new : List ℕ) → other ≡ place → reason ≡ why → Some sh ≡ at None s place → new ≡ out ++ state_text p m place sh why →
+        KnownThere p m place why out new
     told_there sh new here so is put =
         let moved = subst (λ k. StopsAt p m s k why) here (subst (λ w. StopsAt p m s other w) so stop) in
         known s moved (put ∙ ap (λ x. out ++ state_text p m place x why) (same_Some sh moved.shape (is ∙ moved.there)))

@@ -14,5 +14,4 @@ same_places file {i} {j} {cs} {ds} {ms} {ns} image classes methods =
     ap (λ x. places_of file x cs ms) image ∙ ap₂ (λ xs ys. places_of file j xs ys) classes methods
 
 pub same_names : {cs ds ms ns : List (List ℕ)} {p q : Places} → cs ≡ ds → ms ≡ ns → p ≡ q → names_of cs ms p ≡ names_of ds ns q
-same_names {cs} {ds} {ms} {ns} {p} {q} classes methods places =
-    ap (λ x. names_of cs ms x) places ∙ ap₂ (λ xs ys. names_of xs ys q) classes methods
+same_names {cs} {ds} {ms} {ns} {p} {q} classes methods places = ap (λ x. names_of cs ms x) places ∙ ap₂ (λ xs ys. names_of xs ys q) classes methods

@@ -6,8 +6,8 @@ use Rattle.aom_commands.specs.declared.faults.Fault.TheVariants.{Memory}
 use Rattle.aom_explaining.specs.Explaining.{IsExplained}
 use Rattle.aom_explaining.specs.Explaining.IsExplained.{explained, wants_memory}
 
-pub said_or_told : {X E : Type 0} (made : Result X E) (items : X → List ℕ) (explains : List ℕ → Type 0) (errors : Sent) → IfOk made (λ v. explains (items v)) → IfOk made (λ v. Says (items v) errors)
-    → IfErr made (λ e. Tells Memory errors) → IsExplained explains errors
+pub said_or_told : {X E : Type 0} (made : Result X E) (items : X → List ℕ) (explains : List ℕ → Type 0) (errors : Sent) → IfOk made (λ v. explains (items v)) →
+    IfOk made (λ v. Says (items v) errors) → IfErr made (λ e. Tells Memory errors) → IsExplained explains errors
 said_or_told (Ok v) items explains errors right says tells = explained (items v) right says
 said_or_told (Err e) items explains errors right says tells = wants_memory tells
 

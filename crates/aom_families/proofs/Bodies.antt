@@ -68,7 +68,8 @@ module _ (p : Image) (fit : AllStandIn p) (m : ℕ) (e : Method) (named : method
       declares y None f is = cc
       declares y (Some d) f is = (d, f, is)
 
-      go : (b : Bool) → (x == m) ≡ b → (b || leads_in p n (over_of p x) m) ≡ true → ((y : ℕ) → leads_in p n (Some y) m ≡ true → (d : Method) × IsAlike p m y d e) → (d : Method) × IsAlike p m x d e
+      go : (b : Bool) → (x == m) ≡ b → (b || leads_in p n (over_of p x) m) ≡ true →
+          ((y : ℕ) → leads_in p n (Some y) m ≡ true → (d : Method) × IsAlike p m y d e) → (d : Method) × IsAlike p m x d e
       go true same h later = (e, subst (λ i. IsAlike p m i e e) (sym (eqb-true x m same)) (itself_alike p m e named))
       go false other h later = some_given (λ o. leads_in p n o m ≡ true) (over_of p x) h (λ none. absurd (none_leads n none)) (λ y is rest.
           let below = later y rest in
@@ -103,9 +104,11 @@ module _ (p : Image) (fit : AllStandIn p) (m : ℕ) (e : Method) (named : method
       none_found zero h = cc
       none_found (suc n) h = cc
 
-      go : (o : Option ℕ) → overrider_of p c m ≡ o → or_else o (found_in p n (parent_of p c) m) ≡ Some k → ((d : ℕ) → found_in p n (Some d) m ≡ Some k → RunsAlike p m d k e) → RunsAlike p m c k e
+      go : (o : Option ℕ) → overrider_of p c m ≡ o → or_else o (found_in p n (parent_of p c) m) ≡ Some k →
+          ((d : ℕ) → found_in p n (Some d) m ≡ Some k → RunsAlike p m d k e) → RunsAlike p m c k e
       go (Some j) f h later = class_alike c k (f ∙ h)
-      go None f h later = some_given (λ o. found_in p n o m ≡ Some k) (parent_of p c) h (λ none. absurd (none_found n none)) (λ d is rest. raised c d k is (later d rest))
+      go None f h later = some_given (λ o. found_in p n o m ≡ Some k) (parent_of p c) h (λ none. absurd (none_found n none))
+          (λ d is rest. raised c d k is (later d rest))
 
   body_alike : (c k : ℕ) → body_of p m (Some c) ≡ k → (k ≡ m) ⊎ RunsAlike p m c k e
   unfolding body_of

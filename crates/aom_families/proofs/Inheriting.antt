@@ -55,7 +55,8 @@ continued p fit c e is =
 
 -- ---- what goes from a parent to its child
 
-fields_up : (p : Image) → AllContinue p → (c e : ℕ) → parent_of p c ≡ Some e → (f : ℕ) (t : Thing) → slice_get (fields_of p e) f ≡ Some t → slice_get (fields_of p c) f ≡ Some t
+fields_up : (p : Image) → AllContinue p → (c e : ℕ) → parent_of p c ≡ Some e → (f : ℕ) (t : Thing) → slice_get (fields_of p e) f ≡ Some t →
+    slice_get (fields_of p c) f ≡ Some t
 unfolding fields_in
 fields_up p fit c e is f t h =
     let w = continued p fit c e is in
@@ -90,5 +91,6 @@ families_inherit = record {
   kinds = λ p fit c d family. along p (λ c. kind_at p c ≡ kind_at p d) d (λ c e is same. kinds_up p fit c e is ∙ same) refl c family;
   words = words_down;
   fields = λ p fit c d family f t g. along p (λ c. slice_get (fields_of p c) f ≡ Some t) d (λ c e is got. fields_up p fit c e is f t got) g c family;
-  roles = λ p c m r e. let w = role_inherits p c m r e in record { method = w.method; there = w.there; class = w.class; of = w.of; role = w.role; family = w.family };
+  roles = λ p c m r e. let w = role_inherits p c m r e in
+      record { method = w.method; there = w.there; class = w.class; of = w.of; role = w.role; family = w.family };
 }

@@ -14,8 +14,8 @@ use Rattle.std.specs.Prelude.{length}
 -- what overrides a method is there
 pub overrides_there : (p : Image) (k m : ℕ) → overrides p k m ≡ true → (d : Method) × (method_at p k ≡ Some d) × (leads_to p d.over m ≡ true)
 unfolding over_in
-overrides_there p k m h =
-    some_given (λ o. leads_to p (over_in o) m ≡ true) (method_at p k) h (λ none. let clash = none_leads p (length p.methods) m in cc) (λ d at leads. (d, at, leads))
+overrides_there p k m h = some_given (λ o. leads_to p (over_in o) m ≡ true) (method_at p k) h (λ none. let clash = none_leads p (length p.methods) m in cc)
+    (λ d at leads. (d, at, leads))
 
 module _ (p : Image) (m : ℕ) where
   class_overrides : (c k : ℕ) → overrider_of p c m ≡ Some k → overrides p k m ≡ true
@@ -30,7 +30,8 @@ module _ (p : Image) (m : ℕ) where
   found_overrides zero (Some c) k h = class_overrides c k h
   found_overrides (suc n) (Some c) k h = go (overrider_of p c m) refl h (λ above. found_overrides n (parent_of p c) k above)
     where
-      go : (o : Option ℕ) → overrider_of p c m ≡ o → or_else o (found_in p n (parent_of p c) m) ≡ Some k → (found_in p n (parent_of p c) m ≡ Some k → overrides p k m ≡ true) → overrides p k m ≡ true
+      go : (o : Option ℕ) → overrider_of p c m ≡ o → or_else o (found_in p n (parent_of p c) m) ≡ Some k →
+          (found_in p n (parent_of p c) m ≡ Some k → overrides p k m ≡ true) → overrides p k m ≡ true
       go (Some j) f h later = class_overrides c k (f ∙ h)
       go None f h later = later h
 

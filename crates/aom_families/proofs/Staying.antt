@@ -37,7 +37,8 @@ module _ (p : Image) (plain : OverridesNothing p) where
       go (Some k) e =
           let w = found (replaces p c m) p.methods k e in
           let none : w.0.over ≡ None = all_there (λ d. d.over ≡ None) p.methods k w.0 plain w.1 in
-          let clash : (is_class c w.0.class && false) ≡ true = sym (ap (λ b. is_class c w.0.class && b) (ap (λ o. leads_to p o m) none ∙ no_lead (length p.methods))) ∙ w.2 in
+          let clash : (is_class c w.0.class && false) ≡ true =
+          sym (ap (λ b. is_class c w.0.class && b) (ap (λ o. leads_to p o m) none ∙ no_lead (length p.methods))) ∙ w.2 in
           absurd (never (is_class c w.0.class) clash)
 
   none_above : (n m : ℕ) → found_in p n None m ≡ None

@@ -34,12 +34,12 @@ counts_more small large wide (suc n) = go (small n) (large n) (wide n) (counts_m
         cond a (suc (count_below small n)) (count_below small n) ≤ cond b (suc (count_below large n)) (count_below large n)
     go a b h le = grind arith
 
-counts_one_more : (small large : ℕ → Bool) → ((x : ℕ) → small x ≡ true → large x ≡ true) → (k : ℕ) → small k ≡ false → large k ≡ true → (n : ℕ) → k < n → count_below small n < count_below large n
+counts_one_more : (small large : ℕ → Bool) → ((x : ℕ) → small x ≡ true → large x ≡ true) → (k : ℕ) → small k ≡ false → large k ≡ true → (n : ℕ) → k < n →
+    count_below small n < count_below large n
 unfolding count_below
 counts_one_more small large wide k out within zero lt = absurd (omega arith)
 counts_one_more small large wide k out within (suc n) lt =
-    ⊎_elim (λ lower. go (small n) (large n) (wide n) (counts_one_more small large wide k out within n lower))
-    (λ here.
+    ⊎_elim (λ lower. go (small n) (large n) (wide n) (counts_one_more small large wide k out within n lower)) (λ here.
     let same : n ≡ k = omega arith in
     let more = counts_more small large wide n in
     last (small n) (large n) (ap small same ∙ out) (ap large same ∙ within) more) (cases_lt k n)
@@ -95,7 +95,8 @@ module _ (p : Image) where
   light_thing : (m d x : ℕ) → Mentions p m d → descends p x d ≡ true → weight p x ≤ suc (2 * m)
   light_thing m d x w family =
       let ends = w x family in
-      at_most (own_weight p x) (sessions_weight p (sessions_at p x)) (suc (2 * m)) (let le = light m x ends.own in omega (arith, le)) (light_sessions m (sessions_at p x) ends.sessions)
+      at_most (own_weight p x) (sessions_weight p (sessions_at p x)) (suc (2 * m)) (let le = light m x ends.own in omega (arith, le))
+      (light_sessions m (sessions_at p x) ends.sessions)
 
   module _ (fit : AllContinue p) (calls : AllCallsOrdered p) (needs : AllNeedsMet p) where
     needs_of : (c : ℕ) (d : ClassDecl) → class_at p c ≡ Some d → NeedsMet p c d
@@ -121,10 +122,12 @@ module _ (p : Image) where
         no_more : (w : Continued p c e) → length w.child.fields ≤ length w.parent.fields
         no_more w =
             let at : IfSome (Some e) (λ e. IfSome (class_at p e) (λ f. length f.fields < length w.child.fields → IsSome (own_role p c Destruct))) =
-            subst (λ o. IfSome o (λ e. IfSome (class_at p e) (λ f. length f.fields < length w.child.fields → IsSome (own_role p c Destruct)))) w.named (needs_of c w.child w.at).more in
+            subst (λ o. IfSome o (λ e. IfSome (class_at p e) (λ f. length f.fields < length w.child.fields → IsSome (own_role p c Destruct)))) w.named
+            (needs_of c w.child w.at).more in
             let some : length w.parent.fields < length w.child.fields → IsSome (own_role p c Destruct) =
             subst (λ o. IfSome o (λ f. length f.fields < length w.child.fields → IsSome (own_role p c Destruct))) w.above at in
-            ⊎_elim (λ lt. let clash : IsSome {T = ℕ} None = subst (λ (o : Option ℕ). IsSome o) none (some lt) in cc) (λ le. le) (cases_lt (length w.parent.fields) (length w.child.fields))
+            ⊎_elim (λ lt. let clash : IsSome {T = ℕ} None = subst (λ (o : Option ℕ). IsSome o) none (some lt) in cc) (λ le. le)
+            (cases_lt (length w.parent.fields) (length w.child.fields))
 
     -- a class has the fields of the one whose destructor it has
     kept_fields : (n c y : ℕ) → keeper_in p n (Some c) Destruct ≡ Some y → fields_of p c ≡ fields_of p y
@@ -184,7 +187,8 @@ module _ (p : Image) where
       (not_itself (weight p x)) (lt-ltb (weight p x) (weight p c) lt) (length p.classes) within
 
   few : (c : ℕ) → c < length p.classes → generation p c < length p.classes
-  few c within = let one = counts_one_more (λ y. nat_lt (weight p y) (weight p c)) (λ y. true) (λ y h. refl) c (not_itself (weight p c)) refl (length p.classes) within in
+  few c within = let one =
+      counts_one_more (λ y. nat_lt (weight p y) (weight p c)) (λ y. true) (λ y h. refl) c (not_itself (weight p c)) refl (length p.classes) within in
       let all = counts_within (λ y. true) (length p.classes) in
       omega (arith, one, all)
 

@@ -15,8 +15,8 @@ dearest_append : (prices : List ℕ) (best : Option Edge) (xs ys : List Instr) �
 dearest_append prices best [] ys = refl
 dearest_append prices best (x ∷ xs) ys = dearest_append prices (dearer prices best (edge_of x)) xs ys
 
-pub dearest_more : (prices : List ℕ) (code : List Instr) (place : ℕ) (i : Instr) (best new : Option Edge) → place < length code → i ≡ slice_index_or code place i
-    → best ≡ dearest prices None (take place code) → new ≡ dearer prices best (edge_of i) → new ≡ dearest prices None (take (place + 1) code)
+pub dearest_more : (prices : List ℕ) (code : List Instr) (place : ℕ) (i : Instr) (best new : Option Edge) → place < length code → i ≡ slice_index_or code place
+    i → best ≡ dearest prices None (take place code) → new ≡ dearer prices best (edge_of i) → new ≡ dearest prices None (take (place + 1) code)
 dearest_more prices code place i best new within is so_far found =
     let more : take (place + 1) code ≡ take place code ++ i ∷ [] = take_more code place i within ∙ ap (λ y. take place code ++ y ∷ []) (sym is) in
     found ∙ ap (λ b. dearer prices b (edge_of i)) so_far ∙ sym (ap (λ t. dearest prices None t) more ∙ dearest_append prices None (take place code) (i ∷ []))
@@ -26,7 +26,8 @@ dearest_more prices code place i best new within is so_far found =
 one_fewer : (count counter : ℕ) → counter < count → count - counter ≡ suc (count - (counter + 1))
 one_fewer count counter within = omega (arith, within)
 
-step : (p : Image) (prices : List ℕ) (rest n m : ℕ) (o : Option Edge) → rest ≡ suc n → dearest_of p prices m ≡ o → way_text p prices rest m ≡ step_text (way_text p prices n) m o
+step : (p : Image) (prices : List ℕ) (rest n m : ℕ) (o : Option Edge) → rest ≡ suc n → dearest_of p prices m ≡ o →
+    way_text p prices rest m ≡ step_text (way_text p prices n) m o
 step p prices rest n m o is found = ap (λ k. way_text p prices k m) is ∙ ap (λ d. step_text (way_text p prices n) m d) found
 
 -- it begins at main
@@ -37,7 +38,8 @@ begins p prices count main text first is =
     ap (λ t. text ++ t) (ap (λ n. way_text p prices n main) all ∙ sym (ap (λ o. way_of p prices o) first))
 
 -- and is all there is when no more is counted
-pub over : (p : Image) (prices : List ℕ) (count counter m : ℕ) (text whole : List ℕ) → (counter < count → ⊥) → text ++ way_text p prices (count - counter) m ≡ whole → text ≡ whole
+pub over : (p : Image) (prices : List ℕ) (count counter m : ℕ) (text whole : List ℕ) → (counter < count → ⊥) →
+    text ++ way_text p prices (count - counter) m ≡ whole → text ≡ whole
 over p prices count counter m text whole past so_far =
     let none : count - counter ≡ 0 = omega (arith, past) in
     sym (append-nil text) ∙ ap (λ t. text ++ t) (sym (ap (λ n. way_text p prices n m) none)) ∙ so_far
@@ -53,5 +55,5 @@ goes_on p prices count counter m e text new whole within found written so_far =
 -- the way ends
 pub ends : (p : Image) (prices : List ℕ) (count counter m : ℕ) (text whole : List ℕ) → counter < count → None ≡ dearest_of p prices m
     → text ++ way_text p prices (count - counter) m ≡ whole → text ≡ whole
-ends p prices count counter m text whole within found so_far =
-    sym (append-nil text) ∙ ap (λ t. text ++ t) (sym (step p prices (count - counter) (count - (counter + 1)) m None (one_fewer count counter within) (sym found))) ∙ so_far
+ends p prices count counter m text whole within found so_far = sym (append-nil text)
+    ∙ ap (λ t. text ++ t) (sym (step p prices (count - counter) (count - (counter + 1)) m None (one_fewer count counter within) (sym found))) ∙ so_far

@@ -22,13 +22,12 @@ each_one f xs x =
     each_append f 0 xs (x ∷ []) ∙ ap (λ n. each f 0 xs ++ each f n (x ∷ [])) here ∙ ap (λ t. each f 0 xs ++ t) (append-nil (f (length xs) x))
 
 -- what is written so far, when one more is written
-pub each_more : {X : Type 0} (f : ℕ → X → List ℕ) (front text new : List ℕ) (xs : List X) (place number : ℕ) (x : X)
-    → number ≡ place → place < length xs → x ≡ slice_index_or xs place x → text ≡ front ++ each f 0 (take place xs) → new ≡ text ++ f number x
-    → new ≡ front ++ each f 0 (take (place + 1) xs)
+pub each_more : {X : Type 0} (f : ℕ → X → List ℕ) (front text new : List ℕ) (xs : List X) (place number : ℕ) (x : X) → number ≡ place → place < length xs →
+    x ≡ slice_index_or xs place x → text ≡ front ++ each f 0 (take place xs) → new ≡ text ++ f number x → new ≡ front ++ each f 0 (take (place + 1) xs)
 each_more f front text new xs place number x same within is so_far written =
     let more : take (place + 1) xs ≡ take place xs ++ x ∷ [] = take_more xs place x within ∙ ap (λ y. take place xs ++ y ∷ []) (sym is) in
     let here : length (take place xs) ≡ place = length-take-le place xs (omega (arith, within)) in
     let whole : each f 0 (take (place + 1) xs) ≡ each f 0 (take place xs) ++ f place x =
-    ap (λ t. each f 0 t) more ∙ each_one f (take place xs) x ∙ ap (λ n. each f 0 (take place xs) ++ f n x) here
-    in
-    written ∙ ap (λ n. text ++ f n x) same ∙ ap (λ t. t ++ f place x) so_far ∙ append_assoc front (each f 0 (take place xs)) (f place x) ∙ ap (λ t. front ++ t) (sym whole)
+    ap (λ t. each f 0 t) more ∙ each_one f (take place xs) x ∙ ap (λ n. each f 0 (take place xs) ++ f n x) here in
+    written ∙ ap (λ n. text ++ f n x) same ∙ ap (λ t. t ++ f place x) so_far ∙ append_assoc front (each f 0 (take place xs)) (f place x)
+    ∙ ap (λ t. front ++ t) (sym whole)

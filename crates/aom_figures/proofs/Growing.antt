@@ -16,13 +16,14 @@ class_here p k class within is = slice_get_read p.classes (length p.classes) k c
 
 line_here : (names : Names) (p : Image) (prices : List ℕ) (k : ℕ) (class : ClassDecl) → k < length p.classes → class ≡ slice_index_or p.classes k class
     → declared_text names (Class k) (kind_by p prices k class.kind) (budget_of class) ≡ payer_lines names p prices (Class k)
-line_here names p prices k class within is = sym (ap (λ o. declared_text names (Class k) (class_by p prices k o) (class_declares o)) (class_here p k class within is))
+line_here names p prices k class within is =
+    sym (ap (λ o. declared_text names (Class k) (class_by p prices k o) (class_declares o)) (class_here p k class within is))
 
 -- the lines so far, with that of one more class
-pub class_more : (names : Names) (p : Image) (prices : List ℕ) (k i : ℕ) (class : ClassDecl) (front text new : List ℕ) → k ≡ i → k < length p.classes → class ≡ slice_index_or p.classes k class
-    → text ≡ front ++ by_number (λ j. payer_lines names p prices (Class j)) k → new ≡ text ++ declared_text names (Class i) (kind_by p prices i class.kind) (budget_of class)
-    → new ≡ front ++ by_number (λ j. payer_lines names p prices (Class j)) (k + 1)
-class_more names p prices k i class front text new same within is so_far written =
-    written ∙ ap (λ j. text ++ declared_text names (Class j) (kind_by p prices j class.kind) (budget_of class)) (sym same) ∙ ap (λ t. text ++ t) (line_here names p prices k class within is)
-    ∙ ap (λ t. t ++ payer_lines names p prices (Class k)) so_far ∙ append_assoc front (by_number (λ j. payer_lines names p prices (Class j)) k) (payer_lines names p prices (Class k))
-    ∙ ap (λ n. front ++ by_number (λ j. payer_lines names p prices (Class j)) n) (sym (add-one k))
+pub class_more : (names : Names) (p : Image) (prices : List ℕ) (k i : ℕ) (class : ClassDecl) (front text new : List ℕ) → k ≡ i → k < length p.classes →
+    class ≡ slice_index_or p.classes k class → text ≡ front ++ by_number (λ j. payer_lines names p prices (Class j)) k → new ≡ text ++ declared_text names
+    (Class i) (kind_by p prices i class.kind) (budget_of class) → new ≡ front ++ by_number (λ j. payer_lines names p prices (Class j)) (k + 1)
+class_more names p prices k i class front text new same within is so_far written = written ∙ ap (λ j. text ++ declared_text names
+    (Class j) (kind_by p prices j class.kind) (budget_of class)) (sym same) ∙ ap (λ t. text ++ t) (line_here names p prices k class within is)
+    ∙ ap (λ t. t ++ payer_lines names p prices (Class k)) so_far ∙ append_assoc front (by_number (λ j. payer_lines names p prices (Class j)) k)
+    (payer_lines names p prices (Class k)) ∙ ap (λ n. front ++ by_number (λ j. payer_lines names p prices (Class j)) n) (sym (add-one k))

@@ -53,7 +53,8 @@ pub length_within : (s : Stack) → IsWithin s → length s.items ≤ 1280
 length_within s within = omega (arith, length_of_items s.items, within.entries, within.depth, within.marks)
 
 -- a stack's list in its box is as long as its counts say
-boxed_length : (xs zs : ArrayVec Item) (depth : ℕ) (now : Stack) → zs ≡ xs → record { items = reverse xs.items; depth = depth } ≡ now → length zs.items ≡ entries_in now.items + marks_in now.items
+boxed_length : (xs zs : ArrayVec Item) (depth : ℕ) (now : Stack) → zs ≡ xs → record { items = reverse xs.items; depth = depth } ≡ now →
+    length zs.items ≡ entries_in now.items + marks_in now.items
 boxed_length xs zs depth now same view =
     ap (λ v. length v.items) same ∙ sym (length-reverse xs.items) ∙ ap (λ s. length s.items) view ∙ length_of_items now.items
 

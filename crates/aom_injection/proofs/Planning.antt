@@ -33,18 +33,22 @@ grown_full done more rest all new most (Some left) some grows far =
     (grows.0, (grows.1.0 ++ rest, sym far ∙ sym (append_assoc done more rest) ∙ ap (λ xs. xs ++ rest) grows.1.1 ∙ append_assoc new (left ∷ grows.1.0) rest))
 
 -- the pairs of the request at hand, and those of the others
-pub pairs_step : (last number end : ℕ) → number < end → flat_map (pairs_with last) (below number end) ≡ pairs_with last number ++ flat_map (pairs_with last) (below (number + 1) end)
+pub pairs_step : (last number end : ℕ) → number < end →
+    flat_map (pairs_with last) (below number end) ≡ pairs_with last number ++ flat_map (pairs_with last) (below (number + 1) end)
 pairs_step last number end within = ap (flat_map (pairs_with last)) (below_step number end within)
 
-pub pairs_end : (done all : List Injection) (last number end most : ℕ) → end ≤ number → length done ≤ most → done ++ flat_map (pairs_with last) (below number end) ≡ all → Grows [] all most done None
-pairs_end done all last number end most past few far = (sym (append-nil done) ∙ ap (λ xs. done ++ flat_map (pairs_with last) xs) (sym (below_none number end past)) ∙ far, few)
+pub pairs_end : (done all : List Injection) (last number end most : ℕ) → end ≤ number → length done ≤ most →
+    done ++ flat_map (pairs_with last) (below number end) ≡ all → Grows [] all most done None
+pairs_end done all last number end most past few far =
+    (sym (append-nil done) ∙ ap (λ xs. done ++ flat_map (pairs_with last) xs) (sym (below_none number end past)) ∙ far, few)
 
 front : {A : Type 0} (xs ys : List A) → (take (length xs) (xs ++ ys) ≡ xs) × (drop (length xs) (xs ++ ys) ≡ ys)
 front [] ys = (refl, refl)
 front (x ∷ xs) ys = let rest = front xs ys in (ap (λ zs. x ∷ zs) rest.0, rest.1)
 
 -- what was added is the first so many, and what is left begins with that one
-pub grown_is : (all new : List Injection) (most : ℕ) (left : Option Injection) → Grows [] all most new left → (new ≡ take most all) × (left ≡ first_of (drop most all))
+pub grown_is : (all new : List Injection) (most : ℕ) (left : Option Injection) → Grows [] all most new left →
+    (new ≡ take most all) × (left ≡ first_of (drop most all))
 grown_is all new most None grows =
     let few : length all ≤ most = subst (λ xs. length xs ≤ most) grows.0 grows.1 in
     (grows.0 ∙ sym (take_all most all few), ap first_of (sym (drop_all most all few)))
@@ -83,12 +87,13 @@ some_can : (most : Option ℕ) (pairs : List Injection) → All CanInject pairs 
 some_can None pairs all = All-nil CanInject
 some_can (Some most) pairs all = All-take CanInject most pairs all
 
-pub planned_can : (tries : Tries) (natives : ℕ) (timed : List TimedEvent) (requests : ℕ) (times : List ℕ) → AreTimes times → All CanInject (planned tries natives timed requests times)
+pub planned_can : (tries : Tries) (natives : ℕ) (timed : List TimedEvent) (requests : ℕ) (times : List ℕ) → AreTimes times →
+    All CanInject (planned tries natives timed requests times)
 planned_can tries natives timed requests times are =
     let refusals = map Refusal (part_of tries.part requests) in
     let victims = victims_of tries natives timed in
     let pairs = pairs_of tries.part requests in
     All-append CanInject (refusals ++ deaths_of times victims) (some_pairs tries.pairs pairs)
     (All-append CanInject refusals (deaths_of times victims) (All-map CanInject Refusal (part_of tries.part requests) (always (part_of tries.part requests)))
-    (deaths_can times victims are (All-append IsVictim (natives_among tries.kills natives) (clients_among tries.deaths timed) (natives_can tries.kills natives) (clients_can tries.deaths timed))))
-    (some_can tries.pairs pairs (pairs_can tries.part requests))
+    (deaths_can times victims are (All-append IsVictim (natives_among tries.kills natives) (clients_among tries.deaths timed) (natives_can tries.kills natives)
+    (clients_can tries.deaths timed)))) (some_can tries.pairs pairs (pairs_can tries.part requests))

@@ -58,8 +58,8 @@ mnemonic_again : (m : Mnemonic) (o : Operands) → mnemonic (make m o) ≡ m
 mnemonic_again m.Delete o = refl
 mnemonic_again _ o = refl
 
-operands_again : (m : Mnemonic) (o : Operands)
-    → operands (make m o) ≡ operands_of (small_again (row m).kinds.a o.a) (small_again (row m).kinds.b o.b) (small_again (row m).kinds.c o.c) (large_again (row m).kinds.d o.d)
+operands_again : (m : Mnemonic) (o : Operands) → operands (make m o)
+    ≡ operands_of (small_again (row m).kinds.a o.a) (small_again (row m).kinds.b o.b) (small_again (row m).kinds.c o.c) (large_again (row m).kinds.d o.d)
 operands_again m.Delete o = refl
 operands_again _ o = refl
 
@@ -69,7 +69,8 @@ same p q r s = cc
 pub making_parts_again : MakingPartsAgain
 making_parts_again l m o fits = (
   mnemonic_again m o,
-  operands_again m o ∙ same (small_same (row m).kinds.a o.a fits.a) (small_same (row m).kinds.b o.b fits.b) (small_same (row m).kinds.c o.c fits.c) (large_same l (row m).kinds.d o.d fits.d),
+  operands_again m o ∙ same (small_same (row m).kinds.a o.a fits.a) (small_same (row m).kinds.b o.b fits.b) (small_same (row m).kinds.c o.c fits.c)
+      (large_same l (row m).kinds.d o.d fits.d),
 )
 
 pub parts_make_again : PartsMakeAgain

@@ -45,8 +45,8 @@ put_same : {X : Type 0} (xs : List X) (i : ℕ) (x d : X) → i < length xs → 
 put_same xs i x d lt = slice_get-get_or (set xs i x) i d (rw (length-set xs i x) lt) ∙ ap (λ y. Some y) (get_or-set_same xs i x d lt)
 
 put_other : {X : Type 0} (xs : List X) (i k : ℕ) (x y : X) → (k ≡ i → ⊥) → slice_get xs k ≡ Some y → slice_get (set xs i x) k ≡ Some y
-put_other xs i k x y other at =
-    slice_get-get_or (set xs i x) k y (rw (length-set xs i x) (slice_get_within xs k y at)) ∙ ap (λ z. Some z) (get_or-set_other xs i k x y other ∙ get_or_from_slice_get xs k y y at)
+put_other xs i k x y other at = slice_get-get_or (set xs i x) k y (rw (length-set xs i x) (slice_get_within xs k y at))
+    ∙ ap (λ z. Some z) (get_or-set_other xs i k x y other ∙ get_or_from_slice_get xs k y y at)
 
 some_same : {X : Type 0} (x y : X) → Some x ≡ Some y → x ≡ y
 some_same x y e = cc
@@ -64,8 +64,7 @@ kept xs i class k b o is lt none at = go (nat_eq class k) refl
         let here : k ≡ i = sym (is ∙ eqb-true class k same) in
         let empty : o ≡ None = some_same o None (sym at ∙ ap (λ j. slice_get xs j) here ∙ none) in
         ap (λ j. slice_get (set xs i (Some b)) j) here ∙ put_same xs i (Some b) None lt ∙ sym (ap₂ (λ p t. Some (or_else p (cond t (Some b) None))) empty same)
-    go false other =
-        put_other xs i k (Some b) o (λ here. eqb_differs class k other (sym is ∙ sym here)) at ∙ stays o b (nat_eq class k) other
+    go false other = put_other xs i k (Some b) o (λ here. eqb_differs class k other (sym is ∙ sym here)) at ∙ stays o b (nat_eq class k) other
 
 -- nothing is kept where there is one, or where the class is past the last
 pub unkept : (xs : List (Option ℕ)) (class k b : ℕ) (o : Option ℕ) → ((class ≡ k) → (x : ℕ) × (o ≡ Some x)) → slice_get xs k ≡ Some o
@@ -73,7 +72,8 @@ pub unkept : (xs : List (Option ℕ)) (class k b : ℕ) (o : Option ℕ) → ((c
 unkept xs class k b o full at = go (nat_eq class k) refl
   where
     go : (t : Bool) → nat_eq class k ≡ t → slice_get xs k ≡ Some (or_else o (cond (nat_eq class k) (Some b) None))
-    go true same = let (x, is) = full (eqb-true class k same) in at ∙ ap (λ p. Some p) is ∙ there x b (nat_eq class k) ∙ ap (λ p. Some (or_else p (cond (nat_eq class k) (Some b) None))) (sym is)
+    go true same = let (x, is) = full (eqb-true class k same) in at ∙ ap (λ p. Some p) is ∙ there x b (nat_eq class k)
+        ∙ ap (λ p. Some (or_else p (cond (nat_eq class k) (Some b) None))) (sym is)
     go false other = at ∙ stays o b (nat_eq class k) other
 
 -- an element that was read, which is nothing or something

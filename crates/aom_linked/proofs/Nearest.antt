@@ -34,7 +34,8 @@ fewer p c n le = go (parent_of p c) refl
     go (Some e) is = let lt = parent_below p c e is in omega arith
 
 no_more : (p : Image) (n c m : ℕ) → c ≤ 0 → or_else (overrider_of p c m) (found_in p n (parent_of p c) m) ≡ overrider_of p c m
-no_more p n c m le = ap (λ o. or_else (overrider_of p c m) (found_in p n o m)) (no_parent p c le) ∙ ap (or_else (overrider_of p c m)) (none_found p n m) ∙ alone (overrider_of p c m)
+no_more p n c m le = ap (λ o. or_else (overrider_of p c m) (found_in p n o m)) (no_parent p c le) ∙ ap (or_else (overrider_of p c m)) (none_found p n m)
+    ∙ alone (overrider_of p c m)
 
 enough : (p : Image) (n k : ℕ) (o : Option ℕ) (m : ℕ) → IfSome o (λ c. c ≤ n) → IfSome o (λ c. c ≤ k) → found_in p n o m ≡ found_in p k o m
 unfolding found_in

@@ -20,19 +20,19 @@ other_class classes c None h le = refl
 other_class classes c (Some k) h le = grind arith
 
 -- no method is of a class that is not there
-pub no_player : (version : Version) (classes methods c : ℕ) (r : Role) (xs : List Method) → All (MethodFits version classes methods) xs → classes ≤ c → position (plays c r) xs ≡ None
+pub no_player : (version : Version) (classes methods c : ℕ) (r : Role) (xs : List Method) → All (MethodFits version classes methods) xs → classes ≤ c →
+    position (plays c r) xs ≡ None
 unfolding plays
 no_player version classes methods c r [] h le = refl
-no_player version classes methods c r (x ∷ xs) h le =
-    elim (position (plays c r) (x ∷ xs)) as (λ o. position (plays c r) (x ∷ xs) ≡ o → o ≡ None) [
-      | None ↦ λ e. refl
-      | Some i ↦ λ e.
-          let at = position-Some (plays c r) (x ∷ xs) i x e in
-          let fits = All-get_or (MethodFits version classes methods) (x ∷ xs) i x at.0 h in
-          let other = other_class classes c (get_or (x ∷ xs) i x).class fits.class le in
-          let there = (both (is_class c (get_or (x ∷ xs) i x).class) _ at.1).0 in
-          absurd (cc)
-    ] refl
+no_player version classes methods c r (x ∷ xs) h le = elim (position (plays c r) (x ∷ xs)) as (λ o. position (plays c r) (x ∷ xs) ≡ o → o ≡ None) [
+  | None ↦ λ e. refl
+  | Some i ↦ λ e.
+      let at = position-Some (plays c r) (x ∷ xs) i x e in
+      let fits = All-get_or (MethodFits version classes methods) (x ∷ xs) i x at.0 h in
+      let other = other_class classes c (get_or (x ∷ xs) i x).class fits.class le in
+      let there = (both (is_class c (get_or (x ∷ xs) i x).class) _ at.1).0 in
+      absurd (cc)
+] refl
 
 -- what is read from a row of the table
 pub row_found : (p : Image) (table rows : List (List (Option ℕ))) (c i k : ℕ) (r : Role) (row : List (Option ℕ)) (x : Option ℕ) →

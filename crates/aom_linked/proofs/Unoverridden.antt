@@ -1,5 +1,6 @@
 -- A method that nothing overrides is run by each call of it.
-use Rattle.std.proofs.Common.{Bool, List, Option, Some, None, [], ap, ap₂, arith, cond, false, length, refl, sym, true, suc, zero, ℕ, ◌∷◌, ◌&&◌, ◌||◌, ◌==◌, ◌∙◌, ◌<◌, ◌≡◌, ◌≢◌}
+use Rattle.std.proofs.Common.{Bool, List, Option, Some, None, [], ap, ap₂, arith, cond, false, length, refl, sym, true, suc, zero, ℕ, ◌∷◌, ◌&&◌, ◌||◌, ◌==◌}
+use Rattle.std.proofs.Common.{◌∙◌, ◌<◌, ◌≡◌, ◌≢◌}
 use Rattle.std.specs.Prelude.{nat_lt, position, slice_index_or, slice_get}
 use Rattle.std.proofs.lemmas.Bool.{le-ltb, ne_eqb}
 use Rattle.std.proofs.lemmas.List.Sums.{position_or_len_is}
@@ -25,7 +26,8 @@ pub none_passes : {X : Type 0} (test : X → Bool) (xs : List X) → ((k : ℕ) 
 none_passes test [] fails = refl
 none_passes test (y ∷ ys) fails =
     let xs = y ∷ ys in
-    let all = position_or_len_is test xs (length xs) y (omega arith) (λ k lt. fails k (slice_index_or xs k y) (slice_get-get_or xs k y lt)) (λ lt. absurd (omega arith)) in
+    let all = position_or_len_is test xs (length xs) y (omega arith) (λ k lt. fails k (slice_index_or xs k y) (slice_get-get_or xs k y lt))
+    (λ lt. absurd (omega arith)) in
     ap (λ l. cond (nat_lt l (length xs)) (Some l) None) all ∙ ap (λ t. cond t (Some (length xs)) None) (le-ltb (length xs) (length xs) (omega arith))
 
 and_false : (a : Bool) → (a && false) ≡ false
@@ -34,9 +36,8 @@ and_false false = refl
 
 own_of_none : (p : Image) (m : ℕ) → ((k : ℕ) → over_of p k ≢ Some m) → (c : ℕ) → overrider_of p c m ≡ None
 unfolding overrider_of replaces over_in method_at
-own_of_none p m none c =
-    none_passes (λ d. is_class c d.class && leads_to p d.over m) p.methods
-    (λ k d at. ap (λ b. is_class c d.class && b) (leads_nowhere p m none (length p.methods) d.over (λ same. none k (ap over_in at ∙ same))) ∙ and_false (is_class c d.class))
+own_of_none p m none c = none_passes (λ d. is_class c d.class && leads_to p d.over m) p.methods (λ k d at. ap (λ b. is_class c d.class && b)
+    (leads_nowhere p m none (length p.methods) d.over (λ same. none k (ap over_in at ∙ same))) ∙ and_false (is_class c d.class))
 
 found_nowhere : (p : Image) (m : ℕ) → ((k : ℕ) → over_of p k ≢ Some m) → (n : ℕ) (o : Option ℕ) → found_in p n o m ≡ None
 unfolding found_in

@@ -14,11 +14,9 @@ pub four_behind : {X E : Type 0} (byte : ℕ) (first : List ℕ) (ws xs ys zs : 
     → t1 ≡ text ++ first → t2 ≡ t1 ++ behind byte ws → t3 ≡ t2 ++ behind byte xs → t4 ≡ t3 ++ behind byte ys → OnOk r (new ≡ t4 ++ behind byte zs)
     → OnOk r (new ≡ text ++ parted_by byte (first ∷ (ws ++ (xs ++ (ys ++ zs)))))
 four_behind byte first ws xs ys zs text t1 t2 t3 t4 new (Err e) i1 i2 i3 i4 i5 = tt
-four_behind byte first ws xs ys zs text t1 t2 t3 t4 new (Ok x) i1 i2 i3 i4 i5 =
-    i5 ∙ ap (λ t. t ++ behind byte zs) i4 ∙ more_behind byte t3 ys zs
-    ∙ ap (λ t. t ++ behind byte (ys ++ zs)) i3 ∙ more_behind byte t2 xs (ys ++ zs)
-    ∙ ap (λ t. t ++ behind byte (xs ++ (ys ++ zs))) i2 ∙ more_behind byte t1 ws (xs ++ (ys ++ zs))
-    ∙ ap (λ t. t ++ behind byte (ws ++ (xs ++ (ys ++ zs)))) i1 ∙ append_assoc text first (behind byte (ws ++ (xs ++ (ys ++ zs))))
+four_behind byte first ws xs ys zs text t1 t2 t3 t4 new (Ok x) i1 i2 i3 i4 i5 = i5 ∙ ap (λ t. t ++ behind byte zs) i4 ∙ more_behind byte t3 ys zs
+    ∙ ap (λ t. t ++ behind byte (ys ++ zs)) i3 ∙ more_behind byte t2 xs (ys ++ zs) ∙ ap (λ t. t ++ behind byte (xs ++ (ys ++ zs))) i2 ∙ more_behind byte t1 ws
+    (xs ++ (ys ++ zs)) ∙ ap (λ t. t ++ behind byte (ws ++ (xs ++ (ys ++ zs)))) i1 ∙ append_assoc text first (behind byte (ws ++ (xs ++ (ys ++ zs))))
 
 -- a part, and others behind it
 one_behind : (byte : ℕ) (s t w : List ℕ) (ws : List (List ℕ)) → t ≡ s ++ byte ∷ w → t ++ behind byte ws ≡ s ++ behind byte (w ∷ ws)
@@ -37,9 +35,9 @@ promise_behind byte a b c d e f g ws text t1 t2 t3 t4 t5 new (Ok x) i1 i2 i3 i4 
     ∙ parts_behind byte t1 t2 (c ∷ d ∷ []) (e ∷ f ∷ g ∷ ws) i2 ∙ parts_behind byte text t1 (a ∷ b ∷ []) (c ∷ d ∷ e ∷ f ∷ g ∷ ws) i1
 
 -- parts with that byte between them, four lists of parts behind them, and the end of the line
-pub line_behind : {X E : Type 0} (byte : ℕ) (end first : List ℕ) (vs ws xs ys zs : List (List ℕ)) (text t1 t2 t3 t4 t5 new : List ℕ) (r : Result X E)
-    → t1 ≡ text ++ parted_by byte (first ∷ vs) → t2 ≡ t1 ++ behind byte ws → t3 ≡ t2 ++ behind byte xs → t4 ≡ t3 ++ behind byte ys → t5 ≡ t4 ++ behind byte zs → OnOk r (new ≡ t5 ++ end)
-    → OnOk r (new ≡ text ++ (parted_by byte (first ∷ (vs ++ (ws ++ (xs ++ (ys ++ zs))))) ++ end))
+pub line_behind : {X E : Type 0} (byte : ℕ) (end first : List ℕ) (vs ws xs ys zs : List (List ℕ)) (text t1 t2 t3 t4 t5 new : List ℕ) (r : Result X E) →
+    t1 ≡ text ++ parted_by byte (first ∷ vs) → t2 ≡ t1 ++ behind byte ws → t3 ≡ t2 ++ behind byte xs → t4 ≡ t3 ++ behind byte ys → t5 ≡ t4 ++ behind byte zs →
+    OnOk r (new ≡ t5 ++ end) → OnOk r (new ≡ text ++ (parted_by byte (first ∷ (vs ++ (ws ++ (xs ++ (ys ++ zs))))) ++ end))
 line_behind byte end first vs ws xs ys zs text t1 t2 t3 t4 t5 new (Err x) i1 i2 i3 i4 i5 i6 = tt
 line_behind byte end first vs ws xs ys zs text t1 t2 t3 t4 t5 new (Ok x) i1 i2 i3 i4 i5 i6 =
     let parts = ws ++ (xs ++ (ys ++ zs)) in
@@ -49,9 +47,8 @@ line_behind byte end first vs ws xs ys zs text t1 t2 t3 t4 t5 new (Ok x) i1 i2 i
     i6 ∙ ap (λ t. t ++ end) all ∙ append_assoc text (first ++ behind byte (vs ++ parts)) end
 
 -- a line, further lines, and one more
-pub lines_behind : {X E : Type 0} (first last : List (List ℕ)) (lines : List (List (List ℕ))) (text t1 t2 new : List ℕ) (r : Result X E)
-    → t1 ≡ text ++ line_of first → t2 ≡ t1 ++ lines_text lines → OnOk r (new ≡ t2 ++ line_of last)
-    → OnOk r (new ≡ text ++ lines_text (first ∷ (lines ++ last ∷ [])))
+pub lines_behind : {X E : Type 0} (first last : List (List ℕ)) (lines : List (List (List ℕ))) (text t1 t2 new : List ℕ) (r : Result X E) → t1 ≡ text
+    ++ line_of first → t2 ≡ t1 ++ lines_text lines → OnOk r (new ≡ t2 ++ line_of last) → OnOk r (new ≡ text ++ lines_text (first ∷ (lines ++ last ∷ [])))
 lines_behind first last lines text t1 t2 new (Err x) i1 i2 i3 = tt
 lines_behind first last lines text t1 t2 new (Ok x) i1 i2 i3 =
     let more : lines_text lines ++ line_of last ≡ lines_text (lines ++ last ∷ []) = grind (arith, common_steps) in

@@ -26,12 +26,12 @@ written_more write f front text new xs place x within is so_far written =
     let more : take (place + 1) xs ≡ take place xs ++ x ∷ [] = take_more xs place x within ∙ ap (λ y. take place xs ++ y ∷ []) (sym is) in
     let here : length (take place xs) ≡ place = length-take-le place xs (omega (arith, within)) in
     let one : placed f 0 (take (place + 1) xs) ≡ placed f 0 (take place xs) ++ f place x ∷ [] =
-    ap (λ t. placed f 0 t) more ∙ placed-more f (take place xs) x ∙ ap (λ n. placed f 0 (take place xs) ++ f n x ∷ []) here
-    in
+    ap (λ t. placed f 0 t) more ∙ placed-more f (take place xs) x ∙ ap (λ n. placed f 0 (take place xs) ++ f n x ∷ []) here in
     let whole : flat_map write (placed f 0 (take (place + 1) xs)) ≡ flat_map write (placed f 0 (take place xs)) ++ write (f place x) =
-    ap (λ t. flat_map write t) one ∙ flat_map-append write (placed f 0 (take place xs)) (f place x ∷ []) ∙ ap (λ t. flat_map write (placed f 0 (take place xs)) ++ t) (append-nil (write (f place x)))
-    in
-    written ∙ ap (λ t. t ++ write (f place x)) so_far ∙ append_assoc front (flat_map write (placed f 0 (take place xs))) (write (f place x)) ∙ ap (λ t. front ++ t) (sym whole)
+    ap (λ t. flat_map write t) one ∙ flat_map-append write (placed f 0 (take place xs)) (f place x ∷ [])
+    ∙ ap (λ t. flat_map write (placed f 0 (take place xs)) ++ t) (append-nil (write (f place x))) in
+    written ∙ ap (λ t. t ++ write (f place x)) so_far ∙ append_assoc front (flat_map write (placed f 0 (take place xs))) (write (f place x))
+    ∙ ap (λ t. front ++ t) (sym whole)
 
 -- lines of groups of statements are the lines of the statements in a row
 pub lines_flat : (groups : List (List (List (List ℕ)))) → flat_map lines_text groups ≡ lines_text (flat_map (λ statements. statements) groups)

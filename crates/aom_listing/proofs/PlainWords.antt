@@ -1,5 +1,6 @@
 -- The words of a listing: each has a byte, and only bytes that part neither words nor statements.
-use Rattle.std.proofs.Common.{◌≡◌, ◌∙◌, refl, sym, ℕ, zero, suc, ℤ, pos, negsuc, ◌<◌, ◌/◌, ◌%◌, ◌==◌, ◌&&◌, ◌||◌, Bool, true, false, List, [], ◌∷◌, ◌++◌, map, arith}
+use Rattle.std.proofs.Common.{◌≡◌, ◌∙◌, refl, sym, ℕ, zero, suc, ℤ, pos, negsuc, ◌<◌, ◌/◌, ◌%◌, ◌==◌, ◌&&◌, ◌||◌, Bool, true, false, List, [], ◌∷◌, ◌++◌, map}
+use Rattle.std.proofs.Common.{arith}
 use Rattle.std.specs.Prelude.{nat_le, if◌then◌else◌}
 use Rattle.std.specs.Fmt.{decimal, signed_decimal, digits, digits_onto, digit_glyph}
 use Rattle.std.specs.List.{list_all}
@@ -79,8 +80,7 @@ signed_is_word (negsuc n) = name_is_word 45 (suc n) refl
 
 behind_bytes : (byte : ℕ) → is_word_byte byte ≡ true → (ps : List (List ℕ)) → AreWords ps → list_all is_word_byte (behind byte ps) ≡ true
 behind_bytes byte is [] are = refl
-behind_bytes byte is (p ∷ ps) are =
-    and_from _ _ is (list_all-append is_word_byte p (behind byte ps) ∙ and_from _ _ are.0.bytes (behind_bytes byte is ps are.1))
+behind_bytes byte is (p ∷ ps) are = and_from _ _ is (list_all-append is_word_byte p (behind byte ps) ∙ and_from _ _ are.0.bytes (behind_bytes byte is ps are.1))
 
 some_append : (xs ys : List ℕ) → has_bytes xs ≡ true → has_bytes (xs ++ ys) ≡ true
 some_append (x ∷ xs) ys some = refl

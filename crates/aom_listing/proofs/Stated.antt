@@ -89,19 +89,16 @@ large_are_words (large.Class n) = (name_is_word 99 n refl, tt)
 large_are_words (large.Method n) = (name_is_word 109 n refl, tt)
 
 operands_are_words : (order : OperandOrder) (o : Operands) → AreWords (in_text order o)
-operands_are_words LargeLast o =
-    words_append (small_words o.a) _ (small_are_words o.a)
+operands_are_words LargeLast o = words_append (small_words o.a) _ (small_are_words o.a)
     (words_append (small_words o.b) _ (small_are_words o.b) (words_append (small_words o.c) _ (small_are_words o.c) (large_are_words o.d)))
-operands_are_words LargeSecond o =
-    words_append (small_words o.a) _ (small_are_words o.a)
+operands_are_words LargeSecond o = words_append (small_words o.a) _ (small_are_words o.a)
     (words_append (large_words o.d) _ (large_are_words o.d) (words_append (small_words o.b) _ (small_are_words o.b) (small_are_words o.c)))
 
 instr_is_stated : (i : Instr) → IsStated (words_statement i)
 instr_is_stated i = record { some = refl; words = (mnemonic_is_word (mnemonic i), operands_are_words (row (mnemonic i)).kinds.order (operands i)) }
 
 label_is_word : (place : ℕ) → IsWord (label_name place ++ 58 ∷ [])
-label_is_word place =
-    record { some = refl; bytes = list_all-append is_word_byte (decimal place) (58 ∷ []) ∙ and_from _ _ (decimal_is_word place).bytes refl }
+label_is_word place = record { some = refl; bytes = list_all-append is_word_byte (decimal place) (58 ∷ []) ∙ and_from _ _ (decimal_is_word place).bytes refl }
 
 labelled : (b : Bool) (place : ℕ) (ws : List (List ℕ)) → IsStated ws → IsStated (label_words b place ++ ws)
 labelled true place ws is = record { some = refl; words = (label_is_word place, is.words) }
@@ -163,7 +160,8 @@ fields_are_words c = (keyword_is_word k.Words, (decimal_is_word c.words, (keywor
 class_is_stated : (place : ℕ) (c : ClassDecl) → IsStated (class_words place c)
 class_is_stated place c =
     let fields = words_append (field_words c) _ (fields_are_words c) (budget_are_words (is_dispatched c.kind) c.budget) in
-    let rest = words_append (kind_words c.kind) _ (kind_are_words c.kind) (words_append (class_after k.From c.parent) _ (class_after_are_words k.From c.parent) fields) in
+    let rest = words_append (kind_words c.kind) _ (kind_are_words c.kind)
+    (words_append (class_after k.From c.parent) _ (class_after_are_words k.From c.parent) fields) in
     record { some = refl; words = (keyword_is_word k.Class, (name_is_word 99 place refl, rest)) }
 
 classes_are_stated : (place : ℕ) (cs : List ClassDecl) → AreStated (placed class_words place cs)
@@ -177,7 +175,8 @@ where_are_words true key = (keyword_is_word key, tt)
 where_are_words false key = tt
 
 flags_are_words : (flags : ℕ) → AreWords (flag_words flags)
-flags_are_words flags = words_append (word_where (has flags 1) k.Leaves) (word_where (has flags 2) k.Quiet) (where_are_words (has flags 1) k.Leaves) (where_are_words (has flags 2) k.Quiet)
+flags_are_words flags = words_append (word_where (has flags 1) k.Leaves) (word_where (has flags 2) k.Quiet) (where_are_words (has flags 1) k.Leaves)
+    (where_are_words (has flags 2) k.Quiet)
 
 states_is_word : (set : ℕ) → set < 64 → IsWord (states_word set)
 states_is_word set small = record {
@@ -198,7 +197,8 @@ gives_are_words (result.Left c) = (keyword_is_word k.Left, (name_is_word 99 c re
 
 promise_are_words : (method : Method) → method.before.0 < 64 → method.after.0 < 64 → AreWords (promise_words method)
 promise_are_words method before after =
-    let arguments : IsWord (list_word (map argument_word method.arguments)) = list_is_word (map argument_word method.arguments) (map_words argument_word argument_is_word method.arguments) in (
+    let arguments : IsWord (list_word (map argument_word method.arguments)) =
+    list_is_word (map argument_word method.arguments) (map_words argument_word argument_is_word method.arguments) in (
       keyword_is_word k.In,
       (
         states_is_word method.before.0 before,

@@ -1,5 +1,6 @@
 -- The table of jump targets, by the instructions that were gone over.
-use Rattle.std.proofs.Common.{◌≡◌, ◌∙◌, sym, ap, ℕ, ◌+◌, ◌<◌, ◌||◌, Bool, false, Option, Some, None, refl, List, [], ◌∷◌, ◌++◌, length, take, replicate, slice_index_or}
+use Rattle.std.proofs.Common.{◌≡◌, ◌∙◌, sym, ap, ℕ, ◌+◌, ◌<◌, ◌||◌, Bool, false, Option, Some, None, refl, List, [], ◌∷◌, ◌++◌, length, take, replicate}
+use Rattle.std.proofs.Common.{slice_index_or}
 use Rattle.std.proofs.Math.Bool.{or-false}
 use Rattle.std.proofs.lemmas.List.{get_or-replicate, take_more}
 use Rattle.std.proofs.lemmas.List.Folds.{list_any-append}
@@ -38,4 +39,5 @@ pub told_more : (old new : List Bool) (code : List Instr) (index : ℕ) (i : Ins
     → Tells old (take index code) → Tells new (take (index + 1) code)
 told_more old new code index i within is marks told place small =
     let more : take (index + 1) code ≡ take index code ++ i ∷ [] = take_more code index i within ∙ ap (λ j. take index code ++ j ∷ []) (sym is) in
-    marks place small ∙ ap (λ b. b || is_at place (jump_of i)) (told place small) ∙ sym (target_more (take index code) i place) ∙ ap (λ t. is_target t place) (sym more)
+    marks place small ∙ ap (λ b. b || is_at place (jump_of i)) (told place small) ∙ sym (target_more (take index code) i place)
+    ∙ ap (λ t. is_target t place) (sym more)

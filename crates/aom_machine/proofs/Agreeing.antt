@@ -39,7 +39,8 @@ number_says : (p : Image) (k : Kind) (n : ℕ) (w : Option ℤ) (o : Option Obje
 number_says p x n w o says shows = grind arith
 
 -- a method under other tasks waits
-waits_under : (p : Image) (t : Typing) (cs : List Cell) (above : List Task) (fr : Frame) (below : List Task) → AllWait p t cs (above ++ Run fr ∷ below) → Waits p t cs (length below) fr
+waits_under : (p : Image) (t : Typing) (cs : List Cell) (above : List Task) (fr : Frame) (below : List Task) → AllWait p t cs (above ++ Run fr ∷ below) →
+    Waits p t cs (length below) fr
 waits_under p t cs [] fr below w = w.0
 waits_under p t cs (Run g ∷ above) fr below w = waits_under p t cs above fr below w.1
 waits_under p t cs (_ ∷ above) fr below w = waits_under p t cs above fr below w
@@ -60,7 +61,8 @@ declared_says : (p : Image) (h : Sight) (thing : Option Thing) (x : Filling) (n 
 declared_says p h y x n z same fits = grind arith
 
 -- and what is known of it says so
-filled_says : (p : Image) (h : Sight) (t : Thing) (x : Filling) (n : ℕ) (o : Option Object) → n ≡ number o → Fits p h o (filled (Some t) x) → NumberSays p (filled (Some t) x) n o
+filled_says : (p : Image) (h : Sight) (t : Thing) (x : Filling) (n : ℕ) (o : Option Object) → n ≡ number o → Fits p h o (filled (Some t) x) →
+    NumberSays p (filled (Some t) x) n o
 filled_says p h t x n y same fits = grind arith
 
 empty_fits : (p : Image) (h : Sight) (thing : Option Thing) (o : Option Object) → Fits p h o Null → Fits p h o (filled thing Empty)
@@ -76,12 +78,14 @@ module _ (p : Image) (t : Typing) (cs : List Cell) (n : ℕ) (o : Option Object)
   abbrev RootDeclared : Type 0
   RootDeclared = NumberSays p (filled (field_thing p Program 0) Perhaps) n o
 
-  field_says : (x : Object) (f : ℕ) → named cs x.name ≡ Some x → (ls : List Layer) (back : Back) → Stack p t cs back ls → F (claim p (declared p cs) ls (Field x.name f)) → Declared x f
-  field_says x f lives [] back st fits = declared_says p (seen cs) (field_thing p (thing_holder x.thing) f) Perhaps n o same (subst (λ y. F (declared_field p y f)) lives fits)
+  field_says : (x : Object) (f : ℕ) → named cs x.name ≡ Some x → (ls : List Layer) (back : Back) → Stack p t cs back ls →
+      F (claim p (declared p cs) ls (Field x.name f)) → Declared x f
+  field_says x f lives [] back st fits =
+      declared_says p (seen cs) (field_thing p (thing_holder x.thing) f) Perhaps n o same (subst (λ y. F (declared_field p y f)) lives fits)
   field_says x f lives (Method fr sh ∷ ls) back st fits = go fr.home st.1.holder st.2 (field_says x f lives ls (Returns fr.method fr.home) st.4) fits
     where
-      go : (home : Home) → Houses p (home_holder home) (holder_of p fr.method) → IsHoused p cs ls home → (F (claim p (declared p cs) ls (Field x.name f)) → Declared x f)
-          → F (home_claim p (holder_of p fr.method) home sh x.name f (claim p (declared p cs) ls (Field x.name f))) → Declared x f
+      go : (home : Home) → Houses p (home_holder home) (holder_of p fr.method) → IsHoused p cs ls home → (F (claim p (declared p cs) ls (Field x.name f)) →
+          Declared x f) → F (home_claim p (holder_of p fr.method) home sh x.name f (claim p (declared p cs) ls (Field x.name f))) → Declared x f
       go Static houses housed below fits = below fits
       go AtRoot houses housed below fits = below fits
       go (Inside y from) houses housed below fits = inside (y.name == x.name) refl (field_thing p (holder_of p fr.method) f) refl fits
@@ -91,8 +95,8 @@ module _ (p : Image) (t : Typing) (cs : List Cell) (n : ℕ) (o : Option Object)
           inside true e None is fits = below fits
           inside true e (Some z) is fits =
               let alike : y ≡ x = same_Some y x (sym housed.lives ∙ ap (λ k. named cs k) (eqb-true y.name x.name e) ∙ lives) in
-              declared_says p (seen cs) (field_thing p (thing_holder x.thing) f) (field sh f) n o same
-              (subst (λ (z : Object). F (filled (field_thing p (thing_holder z.thing) f) (field sh f))) alike (subst (λ k. F (filled k (field sh f))) (sym (houses.fields f z is)) fits))
+              declared_says p (seen cs) (field_thing p (thing_holder x.thing) f) (field sh f) n o same (subst (λ (z : Object). F
+              (filled (field_thing p (thing_holder z.thing) f) (field sh f))) alike (subst (λ k. F (filled k (field sh f))) (sym (houses.fields f z is)) fits))
           inside false e own is fits = below fits
   field_says x f lives (Mark gv ∷ ls) back st fits = field_says x f lives ls (Caught gv) st.1 fits
   field_says x f lives (Unwinding code es ∷ ls) back st fits = field_says x f lives ls Leaves st.1 fits
@@ -123,7 +127,8 @@ module _ (p : Image) (d : Place → Kind) (k : ℕ) where
   abbrev ClaimedOwn : List Layer → Type 0
   ClaimedOwn ls = over (items_of ls) k ≡ Some Object_form → IsOwn (claim p d ls (Entry k))
 
-  pushed_own : (es : List CleanupEntry) (ls : List Layer) → ClaimedOwn ls → over (objects es (items_of ls)) k ≡ Some Object_form → IsOwn (entry_claim es (items_of ls) k (claim p d ls (Entry k)))
+  pushed_own : (es : List CleanupEntry) (ls : List Layer) → ClaimedOwn ls → over (objects es (items_of ls)) k ≡ Some Object_form →
+      IsOwn (entry_claim es (items_of ls) k (claim p d ls (Entry k)))
   pushed_own [] ls below e = below e
   pushed_own (x ∷ es) ls below e = grind (arith, nat_tests, pushed_own es ls below)
 
@@ -160,7 +165,8 @@ module _ (m : Machine) (s : State) (st : StandsFor m s) where
       → Represents (value m.parts (Register (length below) i)) (word fr i) (held s.cells (Register (length below) i))
   shown above fr below top i = grind (arith, nat_tests, word_under above fr below i)
 
-  registers_agree : (above : List Task) (fr : Frame) (below : List Task) → s.tasks ≡ above ++ Run fr ∷ below → RegistersAgree p st.typing m.parts s above fr (length below)
+  registers_agree : (above : List Task) (fr : Frame) (below : List Task) → s.tasks ≡ above ++ Run fr ∷ below →
+      RegistersAgree p st.typing m.parts s above fr (length below)
   registers_agree [] fr below top =
       let h = runs_typed p st.typing s fr below st.typed top in
       record { shape = h.shape; typed = h.typed; registers = λ i. number_says p _ _ _ _ (h.says i) (shown [] fr below top i) }
@@ -177,7 +183,8 @@ module _ (m : Machine) (s : State) (st : StandsFor m s) where
       no_word_there AtRoot f = refl
       no_word_there (Inside o from) f = refl
 
-      by_frame : (g : Frame) (sh : Shape) (ls : List Layer) → shape_at st.typing g.method g.place ≡ Some sh → Good p st.typing s.cells (Method g sh ∷ ls) → FieldsAgree p st.typing m.parts s g
+      by_frame : (g : Frame) (sh : Shape) (ls : List Layer) → shape_at st.typing g.method g.place ≡ Some sh → Good p st.typing s.cells (Method g sh ∷ ls) →
+          FieldsAgree p st.typing m.parts s g
       by_frame g sh ls there good = record {
         shape = sh;
         typed = there;
@@ -198,7 +205,8 @@ module _ (m : Machine) (s : State) (st : StandsFor m s) where
     registers = registers_agree;
     own_fields = own_fields_agree;
     fields = grind (arith, nat_tests, field_says, plain);
-    root = root_says p st.typing s.cells (value m.parts (Elsewhere Root)) (held s.cells (Elsewhere Root)) (plain (Elsewhere Root) refl) st.typed.layers (st.typed.good.fits (Elsewhere Root));
+    root = root_says p st.typing s.cells (value m.parts (Elsewhere Root)) (held s.cells (Elsewhere Root)) (plain (Elsewhere Root) refl) st.typed.layers
+        (st.typed.good.fits (Elsewhere Root));
     entries = λ k object.
         let own = entries_own p (declared p s.cells) k st.typed.layers (ap (λ fs. over fs k) (sym st.typed.items) ∙ over_forms s.items k object) in
         let x = owns_one p (seen s.cells) _ _ own (st.typed.good.fits (Entry k)) in

@@ -49,11 +49,13 @@ messages_of (_ ∷ es) = messages_of es
 -- each waits there, and none twice
 abbrev AreThere : List Cell → ℕ → List Asked → Type 0
 AreThere cs n [] = Unit {0}
-AreThere cs n (Message_of c m ∷ es) = ((x : Object) × (held cs (Elsewhere (Waits_at n m)) ≡ Some x) × (is_object x.thing ≡ false)) × (list_any (is_message m) es ≡ false) × AreThere cs n es
+AreThere cs n (Message_of c m ∷ es) = ((x : Object) × (held cs (Elsewhere (Waits_at n m)) ≡ Some x) × (is_object x.thing ≡ false))
+    × (list_any (is_message m) es ≡ false) × AreThere cs n es
 AreThere cs n (_ ∷ es) = AreThere cs n es
 
 -- where one goes that is none of them, they still are
-still_there : (cs : List Cell) (n m : ℕ) (es : List Asked) → list_any (is_message m) es ≡ false → AreThere cs n es → AreThere (without (Elsewhere (Waits_at n m)) cs) n es
+still_there : (cs : List Cell) (n m : ℕ) (es : List Asked) → list_any (is_message m) es ≡ false → AreThere cs n es →
+    AreThere (without (Elsewhere (Waits_at n m)) cs) n es
 still_there cs n m [] none there = tt
 still_there cs n m (Connect_of c ∷ es) none there = still_there cs n m es none there
 still_there cs n m (Close_of c ∷ es) none there = still_there cs n m es none there
@@ -121,7 +123,8 @@ module _ (p : Image) (m : Parts) (s : State) (st : StandsFor (record { image = p
   waits_message : (n k : ℕ) (x : Object) → held s.cells (Elsewhere (Waits_at n k)) ≡ Some x → is_object x.thing ≡ false
   waits_message n k x there = ap is_object (waiting_message p st.typing st.sound.wired s st.typed n k x there)
 
-  are_there : (n : ℕ) (es : List Asked) → QueueFits s.clients n es → ((k : ℕ) → list_any (is_message k) es ≡ true → list_any (is_message k) (service_of s.cells n).queue ≡ true) → AreThere s.cells n es
+  are_there : (n : ℕ) (es : List Asked) → QueueFits s.clients n es →
+      ((k : ℕ) → list_any (is_message k) es ≡ true → list_any (is_message k) (service_of s.cells n).queue ≡ true) → AreThere s.cells n es
   are_there n [] fits each = tt
   are_there n (Connect_of c ∷ es) fits each = are_there n es fits.1 each
   are_there n (Close_of c ∷ es) fits each = are_there n es fits.1 each

@@ -79,11 +79,22 @@ module _ (s : Store) (place : ℕ) where
   told_register (suc n) f room i =
       grind (arith, nat_tests, at_set, told_wide n f, told_register n f, cases_lt i n, eqb-true n i, lt-ltb i (suc n), lt-ltb i n, le-ltb i n, le-ltb i (suc n))
 
-  pub told_frame : (many : ℕ) (f : Machine_frame) (fr : Frame) (ws : List (Option ℤ)) → SameFrame f fr → SameFrame (told_first s place many f) (record fr { words = ws })
-  told_frame zero f fr ws same = record { method = same.method; place = same.place; this = same.this; view = same.view; housed = same.housed; wide = same.wide; counters = same.counters; loops = same.loops }
+  pub told_frame : (many : ℕ) (f : Machine_frame) (fr : Frame) (ws : List (Option ℤ)) → SameFrame f fr →
+      SameFrame (told_first s place many f) (record fr { words = ws })
+  told_frame zero f fr ws same =
+      record { method = same.method; place = same.place; this = same.this; view = same.view; housed = same.housed; wide = same.wide; counters = same.counters; loops = same.loops }
   told_frame (suc n) f fr ws same =
       let g = told_frame n f fr ws same in
-      record { method = g.method; place = g.place; this = g.this; view = g.view; housed = g.housed; wide = length-set (told_first s place n f).registers n (number_of n) ∙ g.wide; counters = g.counters; loops = g.loops }
+      record {
+        method = g.method;
+        place = g.place;
+        this = g.this;
+        view = g.view;
+        housed = g.housed;
+        wide = length-set (told_first s place n f).registers n (number_of n) ∙ g.wide;
+        counters = g.counters;
+        loops = g.loops;
+      }
 
   -- each word is read again as it was
   module _ (cs : List Cell) (name : ℕ) (f : Machine_frame) (wide : length f.registers ≡ 16)

@@ -66,7 +66,8 @@ module _ (p : Image) (o : Object) (height : ℕ) (d : Dispatch) where
   ends = Dispatched d ∷ []
 
   -- what holds of it with its destructor and without, and with its sessions
-  by_begun : (P : List Task → Type 0) → P (Closing ∷ Destroy ∷ ends) → ((m : Option ℕ) → destructor_of p o.thing ≡ m → P (begun_by p m o height ends)) → P (begun p o height ends)
+  by_begun : (P : List Task → Type 0) → P (Closing ∷ Destroy ∷ ends) → ((m : Option ℕ) → destructor_of p o.thing ≡ m → P (begun_by p m o height ends)) →
+      P (begun p o height ends)
   by_begun P closing other = go (is_server p o.thing)
     where
       go : (b : Bool) → P (cond b (Closing ∷ Destroy ∷ ends) (begun_by p (destructor_of p o.thing) o height ends))
@@ -92,8 +93,8 @@ module _ (p : Image) (o : Object) (height : ℕ) (d : Dispatch) where
 
   begun_room : (depth : ℕ → ℕ) (heights : HasHeights p) (cs : List Cell) (items : List Item) (r : Counters) (dead : List ℕ) (clients : List Client) → items ≡ [] →
       HasRoom p depth (at 0 heights.heights) (record { cells = cs; tasks = begun p o height ends; items = items; rest = r; killed = dead; clients = clients })
-  begun_room depth heights cs items r dead clients bare =
-      subst (λ is. HasRoom p depth (at 0 heights.heights) (record { cells = cs; tasks = begun p o height ends; items = is; rest = r; killed = dead; clients = clients })) (sym bare)
+  begun_room depth heights cs items r dead clients bare = subst (λ is. HasRoom p depth (at 0 heights.heights)
+      (record { cells = cs; tasks = begun p o height ends; items = is; rest = r; killed = dead; clients = clients })) (sym bare)
       (record { under = begun_under depth; runs = begun_runs depth cs; fit = begun_fit heights; entries = omega arith })
 
 -- ---- what begins
@@ -148,7 +149,8 @@ module _ (p : Image) (m : Machine_parts) (s : State) (st : StandsFor (record { i
 
   module _ (e : QueueEntry) (es : List QueueEntry) (at : queue ≡ e ∷ es) where
     fit_now : ClientsFit p s.clients cs
-    fit_now = fit_taken p s.clients s.cells x.object lives asked (asked_by m.clients.places e) (map (asked_by m.clients.places) es) (queue_so (e ∷ es) at) st.kept.fit
+    fit_now = fit_taken p s.clients s.cells x.object lives asked (asked_by m.clients.places e) (map (asked_by m.clients.places) es)
+        (queue_so (e ∷ es) at) st.kept.fit
 
     queue_now : (service_of cs n).queue ≡ map (asked_by m.clients.places) es
     queue_now = grind (arith, nat_tests, service_here s.cells, queue_so (e ∷ es) at)
@@ -236,9 +238,13 @@ module _ (p : Image) (m : Machine_parts) (s : State) (st : StandsFor (record { i
         (Inside o home) (Of_server x c (Serves o)) s.items (checked_taken n s).rest s.killed s.clients (none_pushed p m s st idle) in
         method_stands c method (Serves o) (Inside o home) (message_words cs (message_name j)) (record (checked_taken n s) { cells = attended.cells })
         (attending method (record { number = o.name; class = class' }) subject c j taken) refl attended_goes
-        (record { under = r.under; runs = r.runs; fit = r.fit; entries = r.entries })
-        (record { fit = fit_moved p s.clients cs (Elsewhere (Queued n (message_name j))) (Elsewhere In_service) (empty_now (Elsewhere In_service) refl) (λ i k. refl) (λ b. first_sent p s.clients s.cells x.object lives c (message_name j) (map (asked_by m.clients.places) es) (queue_so (Message j ∷ es) at_first) st.kept.fit) (fit_now (Message j) es at_first); stage = tt; tokens = moved_apart (Elsewhere (Queued n (message_name j))) (Elsewhere In_service) })
-        (attend_agrees p m s st idle x lives serves class is active noted j es at_first below o class' is' there method attends words)
+        (record { under = r.under; runs = r.runs; fit = r.fit; entries = r.entries }) (record {
+          fit = fit_moved p s.clients cs (Elsewhere (Queued n (message_name j))) (Elsewhere In_service) (empty_now (Elsewhere In_service) refl)
+              (λ i k. refl) (λ b. first_sent p s.clients s.cells x.object lives c (message_name j) (map (asked_by m.clients.places) es)
+              (queue_so (Message j ∷ es) at_first) st.kept.fit) (fit_now (Message j) es at_first);
+          stage = tt;
+          tokens = moved_apart (Elsewhere (Queued n (message_name j))) (Elsewhere In_service);
+        }) (attend_agrees p m s st idle x lives serves class is active noted j es at_first below o class' is' there method attends words)
 
   -- ---- a close
 
@@ -265,7 +271,8 @@ module _ (p : Image) (m : Machine_parts) (s : State) (st : StandsFor (record { i
       typed = subst (λ o. Keeps p st.typing o) parted_goes keeps;
       calm = begun_calm p o (length s.items) d st.sound.wired;
       traps = begun_traps p o (length s.items) d;
-      room = begun_room p o (length s.items) d (at 0 st.sound.depths.depths) st.sound.heights parted_cells s.items (checked_taken n s).rest s.killed s.clients (none_pushed p m s st idle);
+      room = begun_room p o (length s.items) d (at 0 st.sound.depths.depths) st.sound.heights parted_cells s.items (checked_taken n s).rest s.killed s.clients
+          (none_pushed p m s st idle);
       waits = begun_waits p o (length s.items) d st.typing parted_cells;
       kept = record {
         fit = fit_moved p s.clients cs (Elsewhere (Session n c)) (Going 1) (empty_now (Going 1) refl) (λ i k. refl) (λ b. cc) (fit_now (Close c) es at_first);
@@ -279,7 +286,15 @@ module _ (p : Image) (m : Machine_parts) (s : State) (st : StandsFor (record { i
         );
         tokens = moved_apart (Elsewhere (Session n c)) (Going 1);
       };
-      within = record { within = omega (arith, pays parted parted_goes, affords, ap (λ y. price_of p st.sound.prices y) (begun_payer p o (length s.items) (Dispatched d ∷ [])), ap (λ y. declared_of p y) (begun_payer p o (length s.items) (Dispatched d ∷ []))) };
+      within = record {
+        within = omega (
+          arith,
+          pays parted parted_goes,
+          affords,
+          ap (λ y. price_of p st.sound.prices y) (begun_payer p o (length s.items) (Dispatched d ∷ [])),
+          ap (λ y. declared_of p y) (begun_payer p o (length s.items) (Dispatched d ∷ [])),
+        );
+      };
       agrees = part_agrees p m s st idle x lives serves class is active noted c es at_first o there client;
     }
       where
@@ -292,7 +307,8 @@ module _ (p : Image) (m : Machine_parts) (s : State) (st : StandsFor (record { i
   abbrev pub Went : Machine_parts → Type 0
   Went new = (u : State) × (picked p x s ≡ Goes u) × StandsFor (record { image = p; parts = new }) u
 
-  went : (e : QueueEntry) (es : List QueueEntry) → queue ≡ e ∷ es → (new : Machine_parts) → Begins p subject (kept.taken_entry m.clients e).client (kept.taken_entry m.clients e).entry taken new → Went new
+  went : (e : QueueEntry) (es : List QueueEntry) → queue ≡ e ∷ es → (new : Machine_parts) →
+      Begins p subject (kept.taken_entry m.clients e).client (kept.taken_entry m.clients e).entry taken new → Went new
   went (Connect c) es at new b = (accepted c es at b.0 b.1, accepted_goes c es at b.0 b.1, grind (arith, nat_tests, accept_stands c es at b.0 b.1))
   went (Message j) es at new b =
       let y = attend_there p m s st idle x lives serves keeps j es at in
@@ -311,7 +327,8 @@ module _ (p : Image) (m : Machine_parts) (s : State) (st : StandsFor (record { i
       (u, parted_goes c es at y.0 y.1, grind (arith, nat_tests, part_stands c es at y.0 y.1))
 
   -- its line
-  entry_line : (time : ℕ) (e : QueueEntry) → Serve time class (serve_asked (kept.taken_entry m.clients e).entry) (kept.taken_entry m.clients e).client ≡ serve_of time class (asked_by m.clients.places e)
+  entry_line : (time : ℕ) (e : QueueEntry) → Serve time class (serve_asked (kept.taken_entry m.clients e).entry) (kept.taken_entry m.clients e).client
+      ≡ serve_of time class (asked_by m.clients.places e)
   entry_line time (Connect c) = refl
   entry_line time (Message j) = refl
   entry_line time (Close c) = refl
@@ -323,8 +340,8 @@ module _ (p : Image) (m : Machine_parts) (s : State) (st : StandsFor (record { i
 -- a server is picked: what the machine does is what the checked machine does
 pub server_served : (p : Image) (m : Machine_parts) (s : State) (st : StandsFor (record { image = p; parts = m }) s) (between : IsBetween s) (x : Seat) →
     named s.cells x.object.name ≡ Some x.object → is_server p x.object.thing ≡ true →
-    Keeps p st.typing (picked p x s) → is_some (requested s.cells x.object.name) ≡ true →
-    (told now : LineBuffer) (new : Machine_parts) → ServesFirst p x.object.name m told now new → Takes (record { image = p; parts = m }) s (Picks x) told now (record { image = p; parts = new })
+    Keeps p st.typing (picked p x s) → is_some (requested s.cells x.object.name) ≡ true → (told now : LineBuffer) (new : Machine_parts) →
+    ServesFirst p x.object.name m told now new → Takes (record { image = p; parts = m }) s (Picks x) told now (record { image = p; parts = new })
 server_served p m s st between x lives serves keeps asked told now new f = go (kept.queue_at m.clients n) refl
   where
     n : ℕ
@@ -340,13 +357,14 @@ server_served p m s st between x lives serves keeps asked told now new f = go (k
     go [] at = absurd (none-some f.first (sym (ap (kept.first_entry m.clients) at) ∙ f.waits))
     go (e ∷ es) at =
         let first : kept.taken_entry m.clients e ≡ f.first = same_Some (kept.taken_entry m.clients e) f.first (sym (ap (kept.first_entry m.clients) at) ∙ f.waits) in
-        let begins : Begins p (record { number = n; class = class }) (kept.taken_entry m.clients e).client (kept.taken_entry m.clients e).entry (taken_from n f.active m) new =
-        subst (λ k. Begins p (record { number = n; class = k }) (kept.taken_entry m.clients e).client (kept.taken_entry m.clients e).entry (taken_from n f.active m) new) same_class
+        let begins : Begins p (record { number = n; class = class })
+        (kept.taken_entry m.clients e).client (kept.taken_entry m.clients e).entry (taken_from n f.active m) new = subst (λ k. Begins p
+        (record { number = n; class = k }) (kept.taken_entry m.clients e).client (kept.taken_entry m.clients e).entry (taken_from n f.active m) new) same_class
         (subst (λ y. Begins p (record { number = n; class = f.class }) y.client y.entry (taken_from n f.active m) new) (sym first) f.begins) in
         let w = went p m s st between.idle x lives serves keeps asked f.active f.noted e es at new begins in
         let line : Serve m.rest.clock f.class (serve_asked f.first.entry) f.first.client ∷ [] ≡ pick_line p s x.object =
-        ap (λ k. Serve m.rest.clock k (serve_asked f.first.entry) f.first.client ∷ []) same_class
-        ∙ ap (λ y. Serve m.rest.clock class (serve_asked y.entry) y.client ∷ []) (sym first) ∙ line_so p m s st between.idle x lives serves keeps asked f.active f.noted e es at in
+        ap (λ k. Serve m.rest.clock k (serve_asked f.first.entry) f.first.client ∷ []) same_class ∙ ap (λ y. Serve m.rest.clock class
+        (serve_asked y.entry) y.client ∷ []) (sym first) ∙ line_so p m s st between.idle x lives serves keeps asked f.active f.noted e es at in
         record {
           between = between;
           state = w.0;

@@ -96,8 +96,8 @@ module _ (p : Image) (m : Parts) (booted : Booted p m) where
 abbrev pub Afforded : Image → Type 0
 Afforded p = (t : Typing) × IsStrongest p t × (c : Prices) × IsAffordable p t c × CostsWithin p c
 
-pub boots : (p : Image) (m : Parts) → IsLinked p → Afforded p → HasDepths p → HasHeights p → BootKeeps → StepKeeps → CalmKeeps → LinkedIsWired → BootWithin → MovesPay
-    → Booted p m → StandsFor (record { image = p; parts = m }) (boot_state p)
+pub boots : (p : Image) (m : Parts) → IsLinked p → Afforded p → HasDepths p → HasHeights p → BootKeeps → StepKeeps → CalmKeeps → LinkedIsWired → BootWithin →
+    MovesPay → Booted p m → StandsFor (record { image = p; parts = m }) (boot_state p)
 boots p m linked (t, strongest, prices, affordable, costs) depths heights boot_keeps step_keeps calm_keeps wired boot_within moves_pay booted =
     let w = wired p booted.formed linked in
     let sound : Sound p t = record {

@@ -17,7 +17,8 @@ module _ (p : Image) (c : ℕ) (s : State) where
   abbrev pub connected : Listed → ℕ → State
   connected x slots = record s { cells = reserved (asked_last (Connect_of c)) x.name s.cells; clients = with_client c (Connecting x.name slots) s.clients }
 
-  pub by_connecting : (P : State → Type 0) → P s → (r : Option CommandRefusal) (y : Option Listed) (slots : ℕ) → ((x : Listed) → y ≡ Some x → P (connected x slots)) → P (connecting p c s r y slots)
+  pub by_connecting : (P : State → Type 0) → P s → (r : Option CommandRefusal) (y : Option Listed) (slots : ℕ) →
+      ((x : Listed) → y ≡ Some x → P (connected x slots)) → P (connecting p c s r y slots)
   by_connecting P same None (Some x) slots connects = connects x refl
   by_connecting P same None None slots connects = same
   by_connecting P same (Some r) y slots connects = same
@@ -41,7 +42,8 @@ module _ (p : Image) (c : ℕ) (s : State) where
   abbrev pub left : Client → List Cell → State
   left to cs = record s { cells = cs; clients = with_client c to s.clients }
 
-  pub by_leaving : (P : State → Type 0) → P s → (to : Option Client) → ((x : Client) → to ≡ Some x → P (left x (told p c s (client_at s.clients c) (withdrawn c s.cells)))) → P (leaving p c s to)
+  pub by_leaving : (P : State → Type 0) → P s → (to : Option Client) →
+      ((x : Client) → to ≡ Some x → P (left x (told p c s (client_at s.clients c) (withdrawn c s.cells)))) → P (leaving p c s to)
   by_leaving P same None leaves = same
   by_leaving P same (Some x) leaves = leaves x refl
 
@@ -55,10 +57,13 @@ module _ (p : Image) (c : ℕ) (s : State) where
 
   module _ (P : State → Type 0) (name : ℕ) (each : ByCommand P name) where
     by_left : (to : Option Client) → P (leaving p c s to)
-    by_left to = by_leaving P each.same to (λ x is. by_told (λ cs. P (left x cs)) (withdrawn c s.cells) (each.leaves x) (client_at s.clients c) (λ server session slots at. each.closes x server))
+    by_left to = by_leaving P each.same to
+        (λ x is. by_told (λ cs. P (left x cs)) (withdrawn c s.cells) (each.leaves x) (client_at s.clients c) (λ server session slots at. each.closes x server))
 
     pub by_command : (command : ClientCommand) → P (commanded p c s command name)
-    by_command (Connect class slots) = by_connecting P each.same (refusal p c s (Connect class slots)) (asked_server p class s.cells) slots (λ x is. each.connects x slots)
-    by_command (Send words) = by_sending P each.same (refusal p c s (Send words)) (client_at s.clients c) name words (λ server session slots goes at. each.sends words server)
+    by_command (Connect class slots) =
+        by_connecting P each.same (refusal p c s (Connect class slots)) (asked_server p class s.cells) slots (λ x is. each.connects x slots)
+    by_command (Send words) =
+        by_sending P each.same (refusal p c s (Send words)) (client_at s.clients c) name words (λ server session slots goes at. each.sends words server)
     by_command Close = by_left (row (client_at s.clients c)).close
     by_command Die = by_left (row (client_at s.clients c)).die

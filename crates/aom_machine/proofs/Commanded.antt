@@ -63,10 +63,12 @@ dies_alike : (x to : Client) → (row x).die ≡ Some to → (n : ℕ) → sessi
 dies_alike x to e n = grind arith
 
 module _ (s : kept.State) (c : ℕ) (small : c < length s.clients) where
-  sessions_left : (to : Client) → ((n : ℕ) → session_with n to ≡ session_with n (kept.client_at s c)) → (x : Client) → SessionsSame s (kept.told x c (kept.with_client c to (kept.withdrawn c s)))
+  sessions_left : (to : Client) → ((n : ℕ) → session_with n to ≡ session_with n (kept.client_at s c)) → (x : Client) →
+      SessionsSame s (kept.told x c (kept.with_client c to (kept.withdrawn c s)))
   sessions_left to same x = grind (arith, nat_tests, sessions_with s c small to same)
 
-  sessions_leaving : (to : Option Client) → ((x : Client) → to ≡ Some x → (n : ℕ) → session_with n x ≡ session_with n (kept.client_at s c)) → SessionsSame s (kept.leaving to c s)
+  sessions_leaving : (to : Option Client) → ((x : Client) → to ≡ Some x → (n : ℕ) → session_with n x ≡ session_with n (kept.client_at s c)) →
+      SessionsSame s (kept.leaving to c s)
   sessions_leaving None same = λ n d. refl
   sessions_leaving (Some to) same = sessions_left to (same to refl) (kept.client_at s c)
 
@@ -80,7 +82,8 @@ module _ (s : kept.State) (c : ℕ) (small : c < length s.clients) where
 
 module _ (p : Image) (c : ℕ) (s : State) where
   -- cells and what clients are at, and nothing else
-  pub commanded_form : (command : ClientCommand) (name : ℕ) → commanded p c s command name ≡ record s { cells = (commanded p c s command name).cells; clients = (commanded p c s command name).clients }
+  pub commanded_form : (command : ClientCommand) (name : ℕ) →
+      commanded p c s command name ≡ record s { cells = (commanded p c s command name).cells; clients = (commanded p c s command name).clients }
   commanded_form command name = by_command p c s (λ t. t ≡ record s { cells = t.cells; clients = t.clients }) name
       (record { same = refl; connects = λ x slots. refl; sends = λ words server. refl; leaves = λ to. refl; closes = λ to server. refl }) command
 
@@ -164,7 +167,8 @@ module _ (c : ℕ) (s : State) (tidy : Tidy s.cells) (bare : (n : ℕ) (x : Cell
               (Some (record x { service = left_by c x.service })))).queue ≡ filter (stays c) x.service.queue
           by true h d = nothing (is_queue x.owner && is_from c x.service.sender) (bare n x e h)
             where
-              nothing : (b : Bool) → x.service.queue ≡ [] → (service_in (cond b None (Some (record x { service = left_by c x.service })))).queue ≡ filter (stays c) x.service.queue
+              nothing : (b : Bool) → x.service.queue ≡ [] →
+                  (service_in (cond b None (Some (record x { service = left_by c x.service })))).queue ≡ filter (stays c) x.service.queue
               nothing true none = sym (ap (filter (stays c)) none)
               nothing false none = refl
           by false h d = ap (λ b. (service_in (cond (b && is_from c x.service.sender) None (Some (record x { service = left_by c x.service })))).queue) h
@@ -181,9 +185,10 @@ module _ (p : Image) (c : ℕ) (s : State) (tidy : Tidy s.cells)
   leaving_queue to n away =
       grind (arith, nat_tests, by_leaving p c s, by_told p c s, service_there, other, queue_withdrawn c s tidy bare n, all_stay s.clients c n away)
 
-  pub commanded_queue : (command : ClientCommand) (name : ℕ) → named s.cells name ≡ None → (n : ℕ) → Untouched p c s command n → SameQueue (commanded p c s command name).cells n
-  commanded_queue (Connect class slots) name free n away = by_connecting p c s (λ t. SameQueue t.cells n) refl (refusal p c s (Connect class slots)) (asked_server p class s.cells) slots (λ x e.
-      ap (λ (v : Service). v.queue) (service_there s.cells x.name n _ (other x.name n (away x e))))
+  pub commanded_queue : (command : ClientCommand) (name : ℕ) → named s.cells name ≡ None → (n : ℕ) → Untouched p c s command n →
+      SameQueue (commanded p c s command name).cells n
+  commanded_queue (Connect class slots) name free n away = by_connecting p c s (λ t. SameQueue t.cells n) refl (refusal p c s (Connect class slots))
+      (asked_server p class s.cells) slots (λ x e. ap (λ (v : Service). v.queue) (service_there s.cells x.name n _ (other x.name n (away x e))))
   commanded_queue (Send words) name free n away =
       grind (arith, nat_tests, by_sending p c s, service_there s.cells, other, service_unnamed s.cells n, eqb-true name n)
   commanded_queue Close name free n away = leaving_queue (row (client_at s.clients c)).close n away

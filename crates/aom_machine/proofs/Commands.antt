@@ -55,7 +55,8 @@ named_alike x = grind arith
 -- each of these is kept, and there once
 all_kept : (store : Store) (ms : List ℕ) → Once ms → ((m : ℕ) → is_among m ms ≡ true → is_some (message_at store m) ≡ true) → AreKept store ms
 all_kept store [] once each = tt
-all_kept store (m ∷ ms) once each = (each m (ap (λ b. b || is_among m ms) (eq-eqb m m refl)), once.0, all_kept store ms once.1 (λ k e. each k (later (m == k) (is_among k ms) e)))
+all_kept store (m ∷ ms) once each =
+    (each m (ap (λ b. b || is_among m ms) (eq-eqb m m refl)), once.0, all_kept store ms once.1 (λ k e. each k (later (m == k) (is_among k ms) e)))
   where
     later : (a b : Bool) → b ≡ true → (a || b) ≡ true
     later x b e = grind arith
@@ -111,14 +112,15 @@ module _ (p : Image) (m : Parts) (s : State) (st : StandsFor (record { image = p
     new = record { image = p; parts = record m { clients = k; messages = store; active = a; rest = record m.rest { delivered = suc m.rest.delivered } } }
 
     -- by what is made of clients and messages
-    by_parts :
-        (command : ClientCommand) (place : Option ℕ) → IfSome place (λ n. (n < 1024) × (message_at m.messages n ≡ None)) → result ≡ kept.answer (refusal p c s command) → (then : kept.State) → k ≡ then →
-        SameClients then (commanded p c w command (sent_name place)).cells (commanded p c w command (sent_name place)).clients → AreSized p.header.cells then → SessionsSame m.clients then →
-        SameMessages p store (commanded p c w command (sent_name place)).cells → (server : Option ℕ) →
+    by_parts : (command : ClientCommand) (place : Option ℕ) → IfSome place (λ n. (n < 1024) × (message_at m.messages n ≡ None)) →
+        result ≡ kept.answer (refusal p c s command) → (then : kept.State) → k ≡ then →
+        SameClients then (commanded p c w command (sent_name place)).cells (commanded p c w command (sent_name place)).clients → AreSized p.header.cells then →
+        SessionsSame m.clients then → SameMessages p store (commanded p c w command (sent_name place)).cells → (server : Option ℕ) →
         ((n : ℕ) → (server ≡ Some n → ⊥) → Untouched p c w command n) → NotesIf server k m.active a → Obeyed old s c command told now new
     by_parts command place free answer then is clients sized sessions messages server touched hears =
         let unused = sent_free p m.cells m.messages s.cells st.agrees.cells st.sound.formed.header.cells st.agrees.services.messages place free in
-        let clients_now = subst (λ x. SameClients x (commanded p c w command (sent_name place)).cells (commanded p c w command (sent_name place)).clients) (sym is) clients in
+        let clients_now =
+        subst (λ x. SameClients x (commanded p c w command (sent_name place)).cells (commanded p c w command (sent_name place)).clients) (sym is) clients in
         let sized_now = subst (AreSized p.header.cells) (sym is) sized in
         let sessions_now = subst (SessionsSame m.clients) (sym is) sessions in (
           sent_name place,
@@ -128,7 +130,8 @@ module _ (p : Image) (m : Parts) (s : State) (st : StandsFor (record { image = p
             state = commanded p c w command (sent_name place);
             goes = refl;
             lines = lines ∙ ap (λ ls. record told { lines = told.lines ++ ls }) (ap (told_refusal c) answer ∙ same_refusal c (refusal p c s command));
-            stands = obeyed_stands p m s st idle c command (sent_name place) unused (high place) k store a clients_now sized_now sessions_now messages server touched hears;
+            stands = obeyed_stands p m s st idle c command (sent_name place) unused
+                (high place) k store a clients_now sized_now sessions_now messages server touched hears;
           },
         )
       where
@@ -141,7 +144,8 @@ module _ (p : Image) (m : Parts) (s : State) (st : StandsFor (record { image = p
 
     -- what a client leaves is kept no more
     withdraws : Forgets (kept.freed (Some Unconnected) c m.clients) m.messages store → SameMessages p store (withdrawn c w.cells)
-    withdraws f = messages_withdrawn p st.typing st.sound.wired w (typed_now p m s st idle c) st.kept.fit m.clients same c m.messages store f.gone f.others f.limit f.count st.agrees.services.messages
+    withdraws f = messages_withdrawn p st.typing st.sound.wired w (typed_now p m s st idle c) st.kept.fit m.clients same c m.messages store f.gone f.others
+        f.limit f.count st.agrees.services.messages
 
     pub obeys : (command : ClientCommand) → Acts c command (asked_by p m.listed command) m.clients k m.messages store result →
         NotesIf (queue_changed (asked_by p m.listed command) (kept.client_at m.clients c)) k m.active a → Obeyed old s c command told now new
@@ -157,28 +161,30 @@ module _ (p : Image) (m : Parts) (s : State) (st : StandsFor (record { image = p
         ∙ ap (λ y. queue_changed (found_server (most_of (kind_of p (Some class))) y) (kept.client_at m.clients c)) asked ∙ ap Some name)) hears
     obeys (Send words) acts hears = by_parts (Send words) acts.place acts.free (acts.told ∙ ap kept.answer alike) (kept.after_send c acts.place m.clients)
         acts.after_it (same_send p st.typing st.sound.wired w (typed_now p m s st idle c) st.kept.fit m.clients same p.header.cells st.agrees.services.sized
-        (servers_below p m s st idle c) c one words acts.place found (by_place acts.place acts.free) (sent_name acts.place) (called acts.place))
-        (sized_send p.header.cells m.clients st.agrees.services.sized c acts.place) (sessions_send m.clients c acts.place)
-        (messages_send p c w m.clients same m.messages store st.agrees.services.messages words acts.place acts.free alike acts.kept) (queue_changed None (kept.client_at m.clients c)) away_named hears
+        (servers_below p m s st idle c) c one words acts.place found (by_place acts.place acts.free) (sent_name acts.place) (called acts.place)) (sized_send
+        p.header.cells m.clients st.agrees.services.sized c acts.place) (sessions_send m.clients c acts.place) (messages_send p c w m.clients same m.messages
+        store st.agrees.services.messages words acts.place acts.free alike acts.kept) (queue_changed None (kept.client_at m.clients c)) away_named hears
       where
         found : is_some acts.place ≡ nat_lt (count_messages s.cells) p.header.messages
-        found = acts.found ∙ ap (λ n. nat_lt n m.messages.limit) st.agrees.services.messages.count ∙ ap (λ n. nat_lt (count_messages s.cells) n) st.agrees.services.messages.limit
+        found = acts.found ∙ ap (λ n. nat_lt n m.messages.limit) st.agrees.services.messages.count
+            ∙ ap (λ n. nat_lt (count_messages s.cells) n) st.agrees.services.messages.limit
 
         alike : kept.send_refusal c acts.place m.clients ≡ refusal p c s (Send words)
         alike = send_refused p c s m.clients same (typed_now p m s st idle c).good.tidy words acts.place found
 
-        by_place : (place : Option ℕ) → IfSome place (λ n. (n < 1024) × (message_at m.messages n ≡ None)) → (n : ℕ) → place ≡ Some n → (n < 1024) × (named s.cells (message_name n) ≡ None)
+        by_place : (place : Option ℕ) → IfSome place (λ n. (n < 1024) × (message_at m.messages n ≡ None)) → (n : ℕ) → place ≡ Some n →
+            (n < 1024) × (named s.cells (message_name n) ≡ None)
         by_place None free n e = absurd (none-some n e)
         by_place (Some k) free n e = subst (λ i. (i < 1024) × (named s.cells (message_name i) ≡ None)) (same_Some k n e) (free.0, nothing_named k free.1)
 
         called : (place : Option ℕ) (n : ℕ) → place ≡ Some n → sent_name place ≡ message_name n
         called None n e = absurd (none-some n e)
         called (Some k) n e = ap message_name (same_Some k n e)
-    obeys Close acts hears = by_parts Close None tt acts.0 (kept.after_close c m.clients) acts.1
-        (same_close p st.typing st.sound.wired w (typed_now p m s st idle c) st.kept.fit m.clients same p.header.cells st.agrees.services.sized (servers_below p m s st idle c) c one (sent_name None))
-        (sized_close p.header.cells m.clients st.agrees.services.sized c) (sessions_close m.clients c few)
-        (messages_close p c w m.clients same m.messages store st.agrees.services.messages withdraws acts.2 (sent_name None)) (queue_changed None (kept.client_at m.clients c)) away_named hears
-    obeys Die acts hears = by_parts Die None tt acts.0 (kept.after_die c m.clients) acts.1
-        (same_die p st.typing st.sound.wired w (typed_now p m s st idle c) st.kept.fit m.clients same p.header.cells st.agrees.services.sized (servers_below p m s st idle c) c one (sent_name None))
-        (sized_die p.header.cells m.clients st.agrees.services.sized c) (sessions_die m.clients c few)
-        (messages_die p c w m.clients same m.messages store st.agrees.services.messages withdraws acts.2 (sent_name None)) (queue_changed None (kept.client_at m.clients c)) away_named hears
+    obeys Close acts hears = by_parts Close None tt acts.0 (kept.after_close c m.clients) acts.1 (same_close p st.typing st.sound.wired w
+        (typed_now p m s st idle c) st.kept.fit m.clients same p.header.cells st.agrees.services.sized (servers_below p m s st idle c) c one (sent_name None))
+        (sized_close p.header.cells m.clients st.agrees.services.sized c) (sessions_close m.clients c few) (messages_close p c w m.clients same m.messages store
+        st.agrees.services.messages withdraws acts.2 (sent_name None)) (queue_changed None (kept.client_at m.clients c)) away_named hears
+    obeys Die acts hears = by_parts Die None tt acts.0 (kept.after_die c m.clients) acts.1 (same_die p st.typing st.sound.wired w
+        (typed_now p m s st idle c) st.kept.fit m.clients same p.header.cells st.agrees.services.sized (servers_below p m s st idle c) c one (sent_name None))
+        (sized_die p.header.cells m.clients st.agrees.services.sized c) (sessions_die m.clients c few) (messages_die p c w m.clients same m.messages store
+        st.agrees.services.messages withdraws acts.2 (sent_name None)) (queue_changed None (kept.client_at m.clients c)) away_named hears

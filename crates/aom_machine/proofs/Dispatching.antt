@@ -63,9 +63,9 @@ served_object p x serves = grind (arith, nat_tests, message_plain p A_message)
 pub session_named : (n : ℕ) (k : Client) (name : ℕ) → session_with n k ≡ name → name < 4096 → session_of k ≡ Some name
 session_named n k name e small = grind (arith, nat_tests)
 
-module _ (p : Image) (m : Machine_parts) (s : State) (st : StandsFor (record { image = p; parts = m }) s)
-    (idle : s.tasks ≡ []) (x : Seat) (lives : named s.cells x.object.name ≡ Some x.object) (serves : is_server p x.object.thing ≡ true)
-    (class : ℕ) (is : class_at m.cells x.object.name ≡ Some class) (active : Active) (noted : Notes x.object.name (kept.after_next x.object.name m.clients) m.active active) where
+module _ (p : Image) (m : Machine_parts) (s : State) (st : StandsFor (record { image = p; parts = m }) s) (idle : s.tasks ≡ []) (x : Seat)
+    (lives : named s.cells x.object.name ≡ Some x.object) (serves : is_server p x.object.thing ≡ true) (class : ℕ) (is : class_at m.cells x.object.name
+    ≡ Some class) (active : Active) (noted : Notes x.object.name (kept.after_next x.object.name m.clients) m.active active) where
   abbrev n : ℕ
   n = x.object.name
 
@@ -112,7 +112,8 @@ module _ (p : Image) (m : Machine_parts) (s : State) (st : StandsFor (record { i
   shows : ShowsIdle m s.cells
   shows q = grind (arith, nat_tests, none_running p m s st idle)
 
-  nothing_at : (q : Place) → value_in [] m.cells m.entries.items (others m) q ≡ null → Represents (value_in [] m.cells m.entries.items (others m) q) None (held s.cells q) → held s.cells q ≡ None
+  nothing_at : (q : Place) → value_in [] m.cells m.entries.items (others m) q ≡ null →
+      Represents (value_in [] m.cells m.entries.items (others m) q) None (held s.cells q) → held s.cells q ≡ None
   nothing_at q e h = nothing_held p m st.typing s st.typed st.agrees q (sym e ∙ h)
 
   unowned : (d i : ℕ) → held s.cells (Register d i) ≡ None
@@ -139,14 +140,16 @@ module _ (p : Image) (m : Machine_parts) (s : State) (st : StandsFor (record { i
   -- a connect or a close
   module _ (e : QueueEntry) (es : List QueueEntry) (at : kept.queue_at m.clients n ≡ e ∷ es) (other : (j : ℕ) → e ≡ Message j → ⊥) where
     clients_taken : SameClients k' cs s.clients
-    clients_taken = same_next p st.typing st.sound.wired s st.typed st.kept.fit m.clients same p.header.cells st.agrees.services.sized x.object lives below e es at other
+    clients_taken = same_next p st.typing st.sound.wired s st.typed st.kept.fit m.clients same p.header.cells st.agrees.services.sized x.object
+        lives below e es at other
 
     pub aside_taken : Aside p taken then
     aside_taken = record {
       cells = cells_beside p m.cells s.cells cs (beside_served s.cells n (taken_first (service_of s.cells n))) st.agrees.cells;
       entries = st.agrees.entries;
       requests = requests_taken (waits_alike k' cs s.clients clients_taken n);
-      natives = natives_beside p m.sessions s.killed s.cells cs st.sound.formed.header.cells (beside_served s.cells n (taken_first (service_of s.cells n))) st.agrees.natives;
+      natives = natives_beside p m.sessions s.killed s.cells cs st.sound.formed.header.cells
+          (beside_served s.cells n (taken_first (service_of s.cells n))) st.agrees.natives;
       services = services_with clients_taken;
       rest = ap (λ (r : Counters). record r { steps = 0; polled = 0 }) st.agrees.rest;
       room = st.agrees.room;
@@ -157,14 +160,15 @@ module _ (p : Image) (m : Machine_parts) (s : State) (st : StandsFor (record { i
     no_number y z w = grind arith
 
     pub shows_taken : ShowsIdle taken cs
-    shows_taken q =
-        subst (λ i. Represents i (word_at [] q) (held cs q)) (sym (entry_taken (others m) n e es queue_room at (no_number e other) [] m.cells m.entries.items q))
-        (subst (λ o. Represents (value_in [] m.cells m.entries.items (others m) q) (word_at [] q) o) (sym (held_served s.cells n (taken_first (service_of s.cells n)) q)) (shows q))
+    shows_taken q = subst (λ i. Represents i (word_at [] q) (held cs q))
+        (sym (entry_taken (others m) n e es queue_room at (no_number e other) [] m.cells m.entries.items q)) (subst (λ o. Represents
+        (value_in [] m.cells m.entries.items (others m) q) (word_at [] q) o) (sym (held_served s.cells n (taken_first (service_of s.cells n)) q)) (shows q))
 
   unowned_taken : (d i : ℕ) → held cs (Register d i) ≡ None
   unowned_taken d i = held_served s.cells n (taken_first (service_of s.cells n)) (Register d i) ∙ unowned d i
 
-  first_asked_so : (e : QueueEntry) (es : List QueueEntry) → kept.queue_at m.clients n ≡ e ∷ es → (service_of s.cells n).queue ≡ asked_by m.clients.places e ∷ map (asked_by m.clients.places) es
+  first_asked_so : (e : QueueEntry) (es : List QueueEntry) → kept.queue_at m.clients n ≡ e ∷ es →
+      (service_of s.cells n).queue ≡ asked_by m.clients.places e ∷ map (asked_by m.clients.places) es
   first_asked_so e es at = sym (same.queues n) ∙ ap (map (asked_by m.clients.places)) at
 
   picked_so : picked p x s ≡ serves_first p x (service_of s.cells n).queue s
@@ -180,17 +184,17 @@ module _ (p : Image) (m : Machine_parts) (s : State) (st : StandsFor (record { i
     accept_goes = grind (arith, nat_tests, picked_so, first_asked_so (Connect c) es at, server_thing)
 
     pub accept_agrees : Agrees p (accepting method subject c taken) (serving x c Accepts accept_frame then)
-    accept_agrees =
-        begins_agrees p taken then (Server subject c stages.Accepts) (Of_server x c Accepts) (fresh method n) accept_frame (none_running p m s st idle) (aside_taken (Connect c) es at (λ j e. cc))
-        (begun_frame method n (Inside x.object x.place) (length (A_mark ∷ s.items)) refl (λ there. small)) (
+    accept_agrees = begins_agrees p taken then (Server subject c stages.Accepts) (Of_server x c Accepts) (fresh method n) accept_frame (none_running p m s st
+        idle) (aside_taken (Connect c) es at (λ j e. cc)) (begun_frame method n (Inside x.object x.place) (length (A_mark ∷ s.items)) refl (λ there. small)) (
           x.place,
           grind (arith, nat_tests, object, server_thing),
         ) (shows_taken (Connect c) es at (λ j e. cc)) unowned_taken (λ i. begun_registers method n i)
 
   -- ---- a message
 
-  module _ (j : ℕ) (es : List QueueEntry) (at : kept.queue_at m.clients n ≡ Message j ∷ es) (place : j < 1024) (o : Object) (class' : ℕ) (is' : class_at m.cells o.name ≡ Some class')
-      (there : held s.cells (Elsewhere (Session n (sender (kept.place_at m.clients j)))) ≡ Some o) (method : ℕ) (attends : role_of p class' Attends_role ≡ Some method)
+  module _ (j : ℕ) (es : List QueueEntry) (at : kept.queue_at m.clients n ≡ Message j ∷ es) (place : j < 1024) (o : Object)
+      (class' : ℕ) (is' : class_at m.cells o.name ≡ Some class') (there : held s.cells (Elsewhere (Session n (sender (kept.place_at m.clients j)))) ≡ Some o)
+      (method : ℕ) (attends : role_of p class' Attends_role ≡ Some method)
       (reads : (w : ℕ) → w < 5 → cast_signed w32 (cast_unsigned w32 (message_word m.messages j w)) ≡ message_word m.messages j w) where
     abbrev c : ℕ
     c = sender (kept.place_at m.clients j)
@@ -208,11 +212,13 @@ module _ (p : Image) (m : Machine_parts) (s : State) (st : StandsFor (record { i
     then_served = record then { cells = serving_cells }
 
     clients_served : SameClients k' serving_cells s.clients
-    clients_served = same_attended p st.typing st.sound.wired s st.typed st.kept.fit m.clients same p.header.cells st.agrees.services.sized x.object lives below j es at place
+    clients_served = same_attended p st.typing st.sound.wired s st.typed st.kept.fit m.clients same p.header.cells st.agrees.services.sized x.object
+        lives below j es at place
 
     aside_served : Aside p served then_served
     aside_served = record {
-      cells = cells_moved p m.cells cs from (Elsewhere In_service) (cells_beside p m.cells s.cells cs (beside_served s.cells n (taken_first (service_of s.cells n))) st.agrees.cells);
+      cells = cells_moved p m.cells cs from (Elsewhere In_service)
+          (cells_beside p m.cells s.cells cs (beside_served s.cells n (taken_first (service_of s.cells n))) st.agrees.cells);
       entries = st.agrees.entries;
       requests = requests_moved p active cs from (Elsewhere In_service) (requests_taken
           (waits_alike k' serving_cells s.clients clients_served n ∙ ap (λ (v : Service). has_more v.queue) (service_moved cs from (Elsewhere In_service) n)));
@@ -221,10 +227,12 @@ module _ (p : Image) (m : Machine_parts) (s : State) (st : StandsFor (record { i
       services = record {
         clients = clients_served;
         sized = sized_next p.header.cells m.clients st.agrees.services.sized n;
-        messages = messages_moved p m.messages cs from (Elsewhere In_service) (messages_served p m.messages s.cells n (taken_first (service_of s.cells n)) st.agrees.services.messages);
+        messages = messages_moved p m.messages cs from (Elsewhere In_service)
+            (messages_served p m.messages s.cells n (taken_first (service_of s.cells n)) st.agrees.services.messages);
         tokens = tokens_still p m.tokens cs serving_cells (λ i. ap awaited (requested_moved cs from (Elsewhere In_service) i))
             (λ i. ap (λ (v : Service). v.token) (service_moved cs from (Elsewhere In_service) (message_name i))) tokens_taken;
-        listed = listed_alike p m.listed cs serving_cells (named_moved cs from (Elsewhere In_service)) (λ i. ap (option_map (λ r. r.order)) (requested_moved cs from (Elsewhere In_service) i))
+        listed = listed_alike p m.listed cs serving_cells
+            (named_moved cs from (Elsewhere In_service)) (λ i. ap (option_map (λ r. r.order)) (requested_moved cs from (Elsewhere In_service) i))
             (listed_beside p m.listed s.cells cs (beside_served s.cells n (taken_first (service_of s.cells n))) st.agrees.services.listed);
       };
       rest = ap (λ (r : Counters). record r { steps = 0; polled = 0 }) st.agrees.rest;
@@ -237,7 +245,8 @@ module _ (p : Image) (m : Machine_parts) (s : State) (st : StandsFor (record { i
     none_served = grind (arith, nat_tests, fits_unowning p, at_rest p st.typing s st.typed idle)
 
     once : list_any (is_numbered (message_name j)) es ≡ false
-    once = numbered es ∙ sym (among_places es j) ∙ (subst (λ l. Once (places_in l)) at (waiting_once p st.typing st.sound.wired s st.typed st.kept.fit m.clients same n)).0
+    once = numbered es ∙ sym (among_places es j)
+        ∙ (subst (λ l. Once (places_in l)) at (waiting_once p st.typing st.sound.wired s st.typed st.kept.fit m.clients same n)).0
       where
         numbered : (es : List QueueEntry) → list_any (is_numbered (message_name j)) es ≡ list_any (is_at j) es
         numbered [] = refl
@@ -249,12 +258,11 @@ module _ (p : Image) (m : Machine_parts) (s : State) (st : StandsFor (record { i
     waited = grind (arith, nat_tests, eq-eqb)
 
     shows_served : ShowsIdle served serving_cells
-    shows_served = moves (value_in [] m.cells m.entries.items (others m)) _ (word_at []) _ (held cs) _ from (Elsewhere In_service)
-        (λ q. subst (λ o. Represents (value_in [] m.cells m.entries.items (others m) q) (word_at [] q) o) (sym (held_served s.cells n (taken_first (service_of s.cells n)) q)) (shows q)) refl
-        (λ q. served_written [] m.cells m.entries.items (others taken) (message_name j) q
+    shows_served = moves (value_in [] m.cells m.entries.items (others m)) _ (word_at []) _ (held cs) _ from (Elsewhere In_service) (λ q. subst (λ o. Represents
+        (value_in [] m.cells m.entries.items (others m) q) (word_at [] q) o) (sym (held_served s.cells n (taken_first (service_of s.cells n)) q)) (shows q))
+        refl (λ q. served_written [] m.cells m.entries.items (others taken) (message_name j) q
         ∙ ap (λ i. changed (λ z. i) (Elsewhere In_service) (message_name j) q) (message_taken (others m) n j es queue_room at once [] m.cells m.entries.items q)
-        ∙ ap (λ i. changed (changed (value_in [] m.cells m.entries.items (others m)) from null) (Elsewhere In_service) i q) (sym waited))
-        no_word
+        ∙ ap (λ i. changed (changed (value_in [] m.cells m.entries.items (others m)) from null) (Elsewhere In_service) i q) (sym waited)) no_word
         (λ q. held_moved cs from (Elsewhere In_service) q (held_served s.cells n (taken_first (service_of s.cells n)) (Elsewhere In_service) ∙ none_served))
       where
         no_word : (q : Place) → word_at [] q ≡ changed (word_at []) (Elsewhere In_service) None q
@@ -296,13 +304,14 @@ module _ (p : Image) (m : Machine_parts) (s : State) (st : StandsFor (record { i
         (length (A_mark ∷ s.items)) refl (λ there. object_small p m s st.sound.formed st.agrees o session_lives session_is_object) in
         begins_agrees p served then_served (Server subject c (stages.Serves (record { number = o.name; class = class' })))
         (Of_server x c (Serves o)) (told_words m.messages j f) attend_frame (none_running p m s st idle) aside_served
-        (told_frame m.messages j 5 f (frame_of method (Inside o (Elsewhere (Session n c))) (length (A_mark ∷ s.items))) (message_words cs (message_name j)) begun)
-        (x.place, grind (arith, nat_tests, object, server_thing, session_thing_so))
-        shows_served unowned_served (words_shown m.messages j cs (message_name j) f (length-replicate 16 null) (begun_registers method o.name) (λ w small. reads w small ∙ word_so w))
+        (told_frame m.messages j 5 f (frame_of method (Inside o (Elsewhere (Session n c))) (length (A_mark ∷ s.items)))
+        (message_words cs (message_name j)) begun) (x.place, grind (arith, nat_tests, object, server_thing, session_thing_so)) shows_served unowned_served
+        (words_shown m.messages j cs (message_name j) f (length-replicate 16 null) (begun_registers method o.name) (λ w small. reads w small ∙ word_so w))
 
   -- ---- a close
 
-  module _ (c : ℕ) (es : List QueueEntry) (at : kept.queue_at m.clients n ≡ Close c ∷ es) (o : Object) (there : held s.cells (Elsewhere (Session n c)) ≡ Some o) (client : c < 64) where
+  module _ (c : ℕ) (es : List QueueEntry) (at : kept.queue_at m.clients n ≡ Close c ∷ es) (o : Object)
+      (there : held s.cells (Elsewhere (Session n c)) ≡ Some o) (client : c < 64) where
     abbrev gone_from : Place
     gone_from = Elsewhere (Session n c)
 
@@ -341,7 +350,13 @@ module _ (p : Image) (m : Machine_parts) (s : State) (st : StandsFor (record { i
           entries = a.entries;
           requests = requests_moved p active cs gone_from (Going 1) a.requests;
           natives = natives_moved p m.sessions s.killed cs gone_from (Going 1) a.natives;
-          services = services_moved p cs gone_from (Going 1) refl refl (record { clients = same_released k' cs s.clients a.services.clients c; sized = sized_released p.header.cells k' a.services.sized c; messages = a.services.messages; tokens = a.services.tokens; listed = a.services.listed });
+          services = services_moved p cs gone_from (Going 1) refl refl (record {
+            clients = same_released k' cs s.clients a.services.clients c;
+            sized = sized_released p.header.cells k' a.services.sized c;
+            messages = a.services.messages;
+            tokens = a.services.tokens;
+            listed = a.services.listed;
+          });
           rest = a.rest;
           room = a.room;
           entry_room = a.entry_room;
@@ -360,15 +375,14 @@ module _ (p : Image) (m : Machine_parts) (s : State) (st : StandsFor (record { i
     pub part_agrees : Agrees p (parting p o.name subject c taken) parting_state
     part_agrees =
         let us = Ends (Server subject c stages.Parts) ∷ [] in
-        subst (λ ms. Agrees p (with_tasks (dying p m.cells o.name (Ends (Server subject c stages.Parts) ∷ ms)) released) parting_state) (sym (none_running p m s st idle))
-        (begins p released (record then { cells = moved gone_from (Going 1) cs }) us below_tasks o.name (class_at m.cells o.name) o (length s.items) refl part_small
-        (server_same p m s st.agrees o part_lives part_object) (destructor_same p m s st.agrees o part_lives part_object)
+        subst (λ ms. Agrees p (with_tasks (dying p m.cells o.name (Ends (Server subject c stages.Parts) ∷ ms)) released) parting_state) (sym (none_running p m
+        s st idle)) (begins p released (record then { cells = moved gone_from (Going 1) cs }) us below_tasks o.name (class_at m.cells o.name) o
+        (length s.items) refl part_small (server_same p m s st.agrees o part_lives part_object) (destructor_same p m s st.agrees o part_lives part_object)
         ((x.place, ap (λ t. Of_server (record { object = record { name = n; thing = t }; place = x.place }) c Parts) (sym server_thing)), tt) aside_released
         (dying_shows p released (record then { cells = moved gone_from (Going 1) cs }) us below_tasks o.name cs gone_from
         (value_in [] m.cells m.entries.items (others taken)) (word_at []) refl (shows_taken (Close c) es at no_messages) refl refl
-        (shows_taken (Close c) es at no_messages gone_from ∙ ap number there_now) nothing_going
-        (λ q. session_released (others taken) us m.cells m.entries.items c n numbered its_server q ∙ ap (λ i. changed (λ z. i) gone_from null q) (end_shows (Server subject c stages.Parts) q))
-        ended_word))
+        (shows_taken (Close c) es at no_messages gone_from ∙ ap number there_now) nothing_going (λ q. session_released (others taken) us m.cells m.entries.items
+        c n numbered its_server q ∙ ap (λ i. changed (λ z. i) gone_from null q) (end_shows (Server subject c stages.Parts) q)) ended_word))
       where
         nothing_going : held cs (Going 1) ≡ None
         nothing_going = held_served s.cells n (taken_first (service_of s.cells n)) (Going 1) ∙ nothing_at (Going 1) refl (shows (Going 1))

@@ -52,8 +52,10 @@ of_class : (class : ℕ) (t : Thing) → is_of_class class t ≡ true → t ≡ 
 of_class class (An_object_of c) e = ap An_object_of (eqb-true c class e)
 of_class class Message e = absurd (false≢true e)
 
-pub first_known : (p : Image) (m : Parts) → Stands (record { image = p; parts = m }) → (class n : ℕ) → first_of (list_at m.listed class) ≡ Some n → IsFirst p m class n
-first_known p m (s, st) class n first = go (named s.cells n) refl (requested s.cells n) (sym (st.agrees.services.listed.there n class) ∙ among_first (list_at m.listed class) n first)
+pub first_known : (p : Image) (m : Parts) → Stands (record { image = p; parts = m }) → (class n : ℕ) →
+    first_of (list_at m.listed class) ≡ Some n → IsFirst p m class n
+first_known p m (s, st) class n first =
+    go (named s.cells n) refl (requested s.cells n) (sym (st.agrees.services.listed.there n class) ∙ among_first (list_at m.listed class) n first)
   where
     at : (o : Object) → named s.cells n ≡ Some o → is_server p o.thing ≡ true → o.thing ≡ An_object_of class → IsFirst p m class n
     at o lives serves thing =
@@ -63,7 +65,8 @@ first_known p m (s, st) class n first = go (named s.cells n) refl (requested s.c
         record {
           lives = ap is_some c.1;
           is = class_in (cell_at m.cells n) class (class_told p m.cells s.cells n o st.agrees.cells lives object ∙ ap Some thing);
-          below = (let small = st.agrees.cells.below n c.0 c.1 in let limit = st.agrees.cells.limit in let many = st.agrees.services.sized.queues in omega (arith, small, limit, many));
+          below = (let small = st.agrees.cells.below n c.0 c.1 in let limit = st.agrees.cells.limit in let many = st.agrees.services.sized.queues in
+              omega (arith, small, limit, many));
           most = kind.0;
           session = kind.1;
           kind = kind.2;

@@ -1,6 +1,7 @@
 -- Messages are kept no more, one after another.
 use Rattle.std.proofs.lemmas.Bool.Decides.{nat_tests}
-use Rattle.std.proofs.Common.{ap, arith, Bool, false, length, List, None, refl, subst, suc, sym, true, ℕ, zero, ◌+◌, ◌<◌, ◌==◌, ◌∙◌, ◌∷◌, ◌≡◌, drop, slice_index_or, take, []}
+use Rattle.std.proofs.Common.{ap, arith, Bool, false, length, List, None, refl, subst, suc, sym, true, ℕ, zero, ◌+◌, ◌<◌, ◌==◌, ◌∙◌, ◌∷◌, ◌≡◌, drop}
+use Rattle.std.proofs.Common.{slice_index_or, take, []}
 use Rattle.std.specs.Prelude.{is_some, ◌||◌}
 use Rattle.std.proofs.lemmas.Bool.{eq-eqb, eqb-true, false≢true}
 use Rattle.aom_cells.specs.Store.{Changes, IsKept, Store, count, message_at}
@@ -29,7 +30,8 @@ still_kept old now m (x ∷ xs) ch out kept = go (x == m) refl out (λ out. stil
     go true e out rest = absurd (false≢true (sym out))
     go false e out rest = (ap is_some (ch.others x (λ same. false≢true (sym e ∙ eq-eqb x m same))) ∙ kept.0, kept.1, rest out)
 
-rest_kept : (places : List ℕ) (i : ℕ) (old now : Store) → i < length places → AreKept old (drop i places) → Changes old now (slice_index_or places i 0) None → AreKept now (drop (suc i) places)
+rest_kept : (places : List ℕ) (i : ℕ) (old now : Store) → i < length places → AreKept old (drop i places) → Changes old now (slice_index_or places i 0) None →
+    AreKept now (drop (suc i) places)
 rest_kept [] i old now within kept ch = absurd (omega (arith, within))
 rest_kept (m ∷ ms) zero old now within kept ch = still_kept old now m ms ch kept.1 kept.2
 rest_kept (m ∷ ms) (suc i) old now within kept ch = rest_kept ms i old now (omega (arith, within)) kept ch

@@ -30,7 +30,8 @@ use Rattle.aom_machine.proofs.Timers.{timers_same}
 
 -- ---- the line
 
-pub told_none : (c : ℕ) (told : LineBuffer) (result : Result (Unit {0}) CommandRefusal) (u : Unit {0}) → result ≡ Ok u → told ≡ record told { lines = told.lines ++ told_refusal c result }
+pub told_none : (c : ℕ) (told : LineBuffer) (result : Result (Unit {0}) CommandRefusal) (u : Unit {0}) → result ≡ Ok u →
+    told ≡ record told { lines = told.lines ++ told_refusal c result }
 told_none c told result u is = ap (λ ls. record told { lines = ls }) (sym (append-nil told.lines) ∙ ap (λ r. told.lines ++ told_refusal c r) (sym is))
 
 pub told_one : (c : ℕ) (told now : LineBuffer) (result : Result (Unit {0}) CommandRefusal) (r : CommandRefusal) (code : ℤ) → result ≡ Err r →
@@ -69,8 +70,8 @@ hears_timers p m stands (Some n) k new notes = go (is_server (request_at m.activ
 
 -- ---- all of it
 
-module _ (p : Image) (m : Parts) (turned : progress_by m.rest.ended m.stack.tasks ≡ Turned) (c : ℕ) (one : c < 64) (command : ClientCommand) (asked : Option Server)
-    (asks : asked ≡ asked_by p m.listed command) (queue : Option ℕ) (changed : queue ≡ queue_changed asked (kept.client_at m.clients c)) where
+module _ (p : Image) (m : Parts) (turned : progress_by m.rest.ended m.stack.tasks ≡ Turned) (c : ℕ) (one : c < 64) (command : ClientCommand) (asked : Option
+    Server) (asks : asked ≡ asked_by p m.listed command) (queue : Option ℕ) (changed : queue ≡ queue_changed asked (kept.client_at m.clients c)) where
   pub heard : (k : kept.State) (store : Store) (a : Active) (told now : LineBuffer) (result : Result (Unit {0}) CommandRefusal) → now ≡ record told
       { lines = told.lines ++ told_refusal c result } → Acts c command asked m.clients k m.messages store result → NotesIf queue k m.active a →
       (s : State) → StandsFor (record { image = p; parts = m }) s → Obeyed (record { image = p; parts = m }) s c command told now

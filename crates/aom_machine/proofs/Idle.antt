@@ -17,9 +17,9 @@ use Rattle.aom_machine_state.specs.declared.parts.Parts.{Parts}
 
 module _ (p : Image) (m : Parts) (s : State) (st : StandsFor (record { image = p; parts = m }) s) (idle : s.tasks ≡ []) where
   -- with as much outstanding on the cleanup stack
-  pub stands_idle : (new : Parts) (cs : List Cell) (clients : List Client) (r : Counters) (killed : List ℕ) →
-      WellTyped p st.typing (record s { cells = cs; clients = clients; rest = r; killed = killed }) → ClientsFit p clients cs → NoneComes s.cells cs →
-      objects_left st.sound.prices cs ≡ objects_left st.sound.prices s.cells → r.steps ≡ s.rest.steps → Agrees p new (record s { cells = cs; clients = clients; rest = r; killed = killed }) →
+  pub stands_idle : (new : Parts) (cs : List Cell) (clients : List Client) (r : Counters) (killed : List ℕ) → WellTyped p st.typing
+      (record s { cells = cs; clients = clients; rest = r; killed = killed }) → ClientsFit p clients cs → NoneComes s.cells cs → objects_left st.sound.prices cs
+      ≡ objects_left st.sound.prices s.cells → r.steps ≡ s.rest.steps → Agrees p new (record s { cells = cs; clients = clients; rest = r; killed = killed }) →
       StandsFor (record { image = p; parts = new }) (record s { cells = cs; clients = clients; rest = r; killed = killed })
   stands_idle new cs clients r killed typed fits none as_many steps agrees = record {
     typing = st.typing;

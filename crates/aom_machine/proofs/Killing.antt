@@ -1,7 +1,8 @@
 -- A native is killed: cell by cell, what each has outstanding there is completed and its session is over, and the machine then stands for
 -- the state that the checked machine goes to.
 use Rattle.std.proofs.lemmas.Bool.Decides.{nat_tests}
-use Rattle.std.proofs.Common.{ap, arith, Bool, cond, false, List, None, Option, pos, refl, Some, subst, suc, sym, true, ℕ, ◌++◌, ◌+◌, ◌<◌, ◌==◌, ◌∙◌, ◌∷◌, ◌≡◌, []}
+use Rattle.std.proofs.Common.{ap, arith, Bool, cond, false, List, None, Option, pos, refl, Some, subst, suc, sym, true, ℕ, ◌++◌, ◌+◌, ◌<◌, ◌==◌, ◌∙◌, ◌∷◌, ◌≡◌}
+use Rattle.std.proofs.Common.{[]}
 use Rattle.std.specs.Prelude.{◌&&◌, ◌||◌, is_some, nat_lt, not}
 use Rattle.std.proofs.lemmas.Bool.{and_parts, eqb-false, eqb-true, false≢true}
 use Rattle.std.specs.Prelude.{option_map}
@@ -112,7 +113,8 @@ module _ (p : Image) (native : ℕ) where
       go q true f i false = refl
 
   hit_session : (cs : List Cell) (id : ℕ) (b : Bool) → is_hit cs id ≡ b → in_session (after cs) id ≡ cond b false (in_session cs id)
-  hit_session cs id b e = session_after cs id ∙ go (is_owed (requested cs id)) (in_session cs id) (serves p cs native id) ∙ ap (λ x. cond x false (in_session cs id)) e
+  hit_session cs id b e = session_after cs id ∙ go (is_owed (requested cs id)) (in_session cs id) (serves p cs native id)
+      ∙ ap (λ x. cond x false (in_session cs id)) e
     where
       go : (o i s : Bool) → (not s && i) ≡ cond ((o || i) && s) false i
       go false true true = refl
@@ -140,7 +142,8 @@ module _ (p : Image) (native : ℕ) where
       go false q = refl
 
   -- what the native served waits for no token, before and after
-  waits_after : (cs : List Cell) → ((id : ℕ) → serves p cs native id ≡ true → awaited (requested cs id) ≡ None) → (id : ℕ) → awaited (requested (after cs) id) ≡ awaited (requested cs id)
+  waits_after : (cs : List Cell) → ((id : ℕ) → serves p cs native id ≡ true → awaited (requested cs id) ≡ None) → (id : ℕ) →
+      awaited (requested (after cs) id) ≡ awaited (requested cs id)
   waits_after cs untold id = ap awaited (request_after cs id) ∙ go (serves p cs native id) refl
     where
       ended : (b : Bool) (q : Option Request) → awaited q ≡ None → awaited (cond b (on_request (completed_with terminated) q) q) ≡ None
@@ -150,11 +153,11 @@ module _ (p : Image) (native : ℕ) where
       go true e = ended (is_owed (requested cs id)) (requested cs id) (untold id e) ∙ sym (untold id e)
       go false e = refl
 
-  services_bereaved :
-      (k : Kept_state) (store : Store) (tokens : Kept_tokens) (table : Table) (clients : List Client) (cs : List Cell) → ((id : ℕ) → serves p cs native id ≡ true → awaited (requested cs id) ≡ None) →
+  services_bereaved : (k : Kept_state) (store : Store) (tokens : Kept_tokens) (table : Table) (clients : List Client) (cs : List Cell) →
+      ((id : ℕ) → serves p cs native id ≡ true → awaited (requested cs id) ≡ None) →
       SameServices p k store tokens table cs clients → SameServices p k store tokens table (after cs) clients
-  services_bereaved k store tokens table clients cs untold same = services_still p cs (after cs) (still_bereaved p native cs)
-      (messages_as p store cs (after cs) (λ n. ap is_a_message ((bereaved_alike p native cs).named_so n)) (λ m w. words_after cs (message_name m) w) (many_after cs))
+  services_bereaved k store tokens table clients cs untold same = services_still p cs (after cs) (still_bereaved p native cs) (messages_as p store cs
+      (after cs) (λ n. ap is_a_message ((bereaved_alike p native cs).named_so n)) (λ m w. words_after cs (message_name m) w) (many_after cs))
       (listed_alike p table cs (after cs) (bereaved_alike p native cs).named_so (order_after cs)) (waits_after cs untold) same
 
 -- ---- one cell after another
@@ -180,8 +183,10 @@ up_to_next k now was n = grind (arith, nat_tests, is_below n (k + 1), eqb-true k
 
 -- the cells below a number are bereaved
 pub record BereavesBelow (p : Image) (native k : ℕ) (old new : Parts) : Type 0 where
-  pub requests : (s : State) → StandsFor (record { image = p; parts = old }) s → Asks_for new.active (up_to k (requested (all_bereaved p native s.cells)) (requested s.cells)) (queued p s.cells)
-  pub sessions : (s : State) → StandsFor (record { image = p; parts = old }) s → (n : ℕ) → is_open new.sessions n ≡ up_to k (in_session (all_bereaved p native s.cells)) (in_session s.cells) n
+  pub requests : (s : State) → StandsFor (record { image = p; parts = old }) s →
+      Asks_for new.active (up_to k (requested (all_bereaved p native s.cells)) (requested s.cells)) (queued p s.cells)
+  pub sessions : (s : State) → StandsFor (record { image = p; parts = old }) s → (n : ℕ) →
+      is_open new.sessions n ≡ up_to k (in_session (all_bereaved p native s.cells)) (in_session s.cells) n
   pub others : KeepsOthers old new
 
 pub none_yet : (p : Image) (native : ℕ) (m : Parts) → BereavesBelow p native 0 m m
@@ -223,7 +228,8 @@ module _ (p : Image) (native : ℕ) (old : Parts) (k : ℕ) (now : Parts) (so_fa
     lives_here e = grind (arith, nat_tests, same_cells, something_lives, something, message_silent p old s st native k)
 
     coded_here : is_hit p native s.cells k ≡ true → is_unanswered (asked k) ≡ false
-    coded_here hit = ap is_unanswered own_request ∙ coded p old s st native k (and_parts (is_owed (requested s.cells k) || in_session s.cells k) (serves p s.cells native k) hit).1
+    coded_here hit = ap is_unanswered own_request
+        ∙ coded p old s st native k (and_parts (is_owed (requested s.cells k) || in_session s.cells k) (serves p s.cells native k) hit).1
 
     -- the requests once that cell is as it comes to be
     requests_next : (b : Bool) → is_hit p native s.cells k ≡ b → (n : ℕ) →
@@ -233,7 +239,8 @@ module _ (p : Image) (native : ℕ) (old : Parts) (k : ℕ) (now : Parts) (so_fa
         own : cond b (terminated_request (asked k)) (asked k) ≡ requested (all_bereaved p native s.cells) k
         own = ap (λ q. cond b (terminated_request q) q) own_request ∙ sym (hit_request p native s.cells k b hit)
 
-        go : (x : Bool) → (k == n) ≡ x → cond x (cond b (terminated_request (asked k)) (asked k)) (asked n) ≡ cond x (requested (all_bereaved p native s.cells) n) (asked n)
+        go : (x : Bool) → (k == n) ≡ x →
+            cond x (cond b (terminated_request (asked k)) (asked k)) (asked n) ≡ cond x (requested (all_bereaved p native s.cells) n) (asked n)
         go true same = own ∙ ap (requested (all_bereaved p native s.cells)) (eqb-true k n same)
         go false other = refl
 
@@ -249,7 +256,8 @@ module _ (p : Image) (native : ℕ) (old : Parts) (k : ℕ) (now : Parts) (so_fa
   hit_in : (b : Bool) → IsHit b → (s : State) (st : StandsFor first s) → is_hit p native s.cells k ≡ b
   hit_in b hit s st = sym (hit (asked s st) (queued p s.cells) (so_far.requests s st) ∙ hit_told s st)
 
-  pub needs_code : Stands first → IsHit true → (asked : ℕ → Option Request) × (queues : ℕ → Option Bool) × Asks_for now.active asked queues × (is_unanswered (asked k) ≡ false)
+  pub needs_code : Stands first → IsHit true → (asked : ℕ → Option Request) × (queues : ℕ → Option Bool) × Asks_for now.active asked queues
+      × (is_unanswered (asked k) ≡ false)
   needs_code (s, st) hit = (asked s st, queued p s.cells, so_far.requests s st, coded_here s st (hit_in true hit s st))
 
   -- the cell is hit
@@ -268,8 +276,8 @@ module _ (p : Image) (native : ℕ) (old : Parts) (k : ℕ) (now : Parts) (so_fa
     };
   }
     where
-      open_next : (s : State) → StandsFor first s → (n : ℕ) (x : Bool) → (k == n) ≡ x →
-          is_open new.sessions n ≡ cond x (in_session (all_bereaved p native s.cells) n) (up_to k (in_session (all_bereaved p native s.cells)) (in_session s.cells) n)
+      open_next : (s : State) → StandsFor first s → (n : ℕ) (x : Bool) → (k == n) ≡ x → is_open new.sessions n
+          ≡ cond x (in_session (all_bereaved p native s.cells) n) (up_to k (in_session (all_bereaved p native s.cells)) (in_session s.cells) n)
       open_next s st n true same = grind (arith, nat_tests, eqb-true k n same, hit_session p native s.cells k true (hit_in true hit s st), hit_in true hit s st)
       open_next s st n false other = sets.others n (λ e. eqb-false k n other (sym e)) ∙ so_far.sessions s st n
 
@@ -278,7 +286,8 @@ module _ (p : Image) (native : ℕ) (old : Parts) (k : ℕ) (now : Parts) (so_fa
   misses_next hit = record {
     requests = λ s st. standing_follows now.active (asked s st) _ (queued p s.cells)
         (queued p s.cells) (λ n. same_request s st n ∙ requests_next s st false (hit_in false hit s st) n) (λ n there. refl) (so_far.requests s st);
-    sessions = λ s st n. so_far.sessions s st n ∙ same_session s st n (k == n) refl ∙ sym (up_to_next k (in_session (all_bereaved p native s.cells)) (in_session s.cells) n);
+    sessions = λ s st n. so_far.sessions s st n ∙ same_session s st n (k == n) refl
+        ∙ sym (up_to_next k (in_session (all_bereaved p native s.cells)) (in_session s.cells) n);
     others = so_far.others;
   }
     where
@@ -290,8 +299,8 @@ module _ (p : Image) (native : ℕ) (old : Parts) (k : ℕ) (now : Parts) (so_fa
           (in_session (all_bereaved p native s.cells) n) (up_to k (in_session (all_bereaved p native s.cells)) (in_session s.cells) n)
       same_session s st n true same =
           let is = eqb-true k n same in
-          sym (ap (up_to k (in_session (all_bereaved p native s.cells)) (in_session s.cells)) is)
-          ∙ sym (so_far.sessions s st k) ∙ own_session s st ∙ sym (hit_session p native s.cells k false (hit_in false hit s st)) ∙ ap (in_session (all_bereaved p native s.cells)) is
+          sym (ap (up_to k (in_session (all_bereaved p native s.cells)) (in_session s.cells)) is) ∙ sym (so_far.sessions s st k) ∙ own_session s st
+          ∙ sym (hit_session p native s.cells k false (hit_in false hit s st)) ∙ ap (in_session (all_bereaved p native s.cells)) is
       same_session s st n false other = refl
 
   -- no cell has a number past the limit
@@ -299,7 +308,8 @@ module _ (p : Image) (native : ℕ) (old : Parts) (k : ℕ) (now : Parts) (so_fa
   all_hit end = record {
     requests = λ s st.
         let like = bereaved_alike p native s.cells in
-        standing_follows now.active (asked s st) (requested (all_bereaved p native s.cells)) (queued p s.cells) (queued p (all_bereaved p native s.cells)) (λ n. request_of s st n (nat_lt n k) refl)
+        standing_follows now.active (asked s st) (requested (all_bereaved p native s.cells))
+        (queued p s.cells) (queued p (all_bereaved p native s.cells)) (λ n. request_of s st n (nat_lt n k) refl)
         (λ n there. sym (queued_same p s.cells (all_bereaved p native s.cells) like.named_so like.queues_so n)) (so_far.requests s st);
     sessions = λ s st n. so_far.sessions s st n ∙ session_of s st n (nat_lt n k) refl;
     others = so_far.others;
@@ -346,21 +356,23 @@ module _ (p : Image) (native : ℕ) (m b : Parts) (bereaves : Bereaves p native 
         dead = ap (λ ks. ks ++ native ∷ []) st.agrees.natives.dead;
         limit = bereaves.others.places ∙ st.agrees.natives.limit;
       };
-      services = services_bereaved p native m.clients m.messages m.tokens m.listed s.clients s.cells (λ id served. untold p m s st native id served) st.agrees.services;
+      services = services_bereaved p native m.clients m.messages m.tokens m.listed s.clients s.cells
+          (λ id served. untold p m s st native id served) st.agrees.services;
       rest = ap (λ (r : Counters). record r { delivered = suc r.delivered }) st.agrees.rest;
       room = st.agrees.room;
       entry_room = st.agrees.entry_room;
     }
 
     killed_stands : s.tasks ≡ [] → StandsFor (record { image = p; parts = killed_parts }) (without_native p native (heard_one s))
-    killed_stands idle =
-        stands_idle p m s st idle killed_parts cs s.clients (heard_one s).rest (s.killed ++ native ∷ []) (bereaved_well p st.typing s st.typed idle native (heard_one s).rest (s.killed ++ native ∷ []))
+    killed_stands idle = stands_idle p m s st idle killed_parts cs s.clients (heard_one s).rest
+        (s.killed ++ native ∷ []) (bereaved_well p st.typing s st.typed idle native (heard_one s).rest (s.killed ++ native ∷ []))
         (fit_same p s.clients s.cells cs (same_bereaved p native s.cells) st.kept.fit) (comes_bereaved p native s.cells)
         (reset_same st.sound.prices is_entry (λ c. (bereaved p native c).request) (λ c. (bereaved p native c).session) s.cells) refl killed_agrees
 
     -- what the native served has no timer
     killed_timers : b.active.pending.timers ≡ m.active.pending.timers
-    killed_timers = timers_same m.active b.active (requested s.cells) (requested cs) (queued p s.cells) (queued p cs) same st.agrees.requests.stands (bereaves.requests s st)
+    killed_timers = timers_same m.active b.active (requested s.cells) (requested cs) (queued p s.cells) (queued p cs) same st.agrees.requests.stands
+        (bereaves.requests s st)
       where
         ended : (q : Option Request) → timer_in q ≡ None → timer_in (terminated_request q) ≡ None
         ended None e = refl
@@ -370,7 +382,8 @@ module _ (p : Image) (native : ℕ) (m b : Parts) (bereaves : Bereaves p native 
             go true = refl
             go false = e
 
-        go : (n : ℕ) (x : Bool) → serves p s.cells native n ≡ x → timer_in (requested s.cells n) ≡ timer_in (cond x (terminated_request (requested s.cells n)) (requested s.cells n))
+        go : (n : ℕ) (x : Bool) → serves p s.cells native n ≡ x →
+            timer_in (requested s.cells n) ≡ timer_in (cond x (terminated_request (requested s.cells n)) (requested s.cells n))
         go n true served = let none = untimed p m s st native n served in none ∙ sym (ended (requested s.cells n) none)
         go n false other = refl
 

@@ -47,7 +47,8 @@ module _ (p : Image) (old new : Active) (cs ds : List Cell) (b : Beside cs ds) (
     others : (n : ℕ) → is_some (requested cs n) ≡ true → (j == n) ≡ false → queued p cs n ≡ queued p ds n
     others n asked other = grind (arith, nat_tests, queue_same p, there n asked)
 
-    pub noted_requests : (waits : Bool) → waits ≡ has_more (service_of ds j).queue → NotesBy (is_kept_server (request_at old.table j)) old new j waits → SameRequests p new ds
+    pub noted_requests : (waits : Bool) → waits ≡ has_more (service_of ds j).queue →
+        NotesBy (is_kept_server (request_at old.table j)) old new j waits → SameRequests p new ds
     noted_requests waits is notes = go (is_kept_server (request_at old.table j)) refl notes
       where
         go : (x : Bool) → is_kept_server (request_at old.table j) ≡ x → NotesBy x old new j waits → SameRequests p new ds
@@ -61,7 +62,8 @@ module _ (p : Image) (old new : Active) (cs ds : List Cell) (b : Beside cs ds) (
             queues n asked true e =
                 let name = eqb-true j n e in
                 let server : is_some (queued p ds n) ≡ true = sym (told n asked) ∙ ap (λ i. is_kept_server (request_at old.table i)) (sym name) ∙ serves in
-                ap (λ y. cond y (Some waits) (queued p cs n)) e ∙ ap Some (is ∙ ap (λ i. has_more (service_of ds i).queue) name) ∙ sym (of_server p (named ds n) (service_of ds n) server)
+                ap (λ y. cond y (Some waits) (queued p cs n)) e ∙ ap Some (is ∙ ap (λ i. has_more (service_of ds i).queue) name)
+                ∙ sym (of_server p (named ds n) (service_of ds n) server)
             queues n asked false e = ap (λ y. cond y (Some waits) (queued p cs n)) e ∙ others n asked e
         go false serves still = subst (λ a. SameRequests p a ds) (sym still) (record {
           stands = standing_follows old (requested cs) (requested ds)
@@ -71,7 +73,8 @@ module _ (p : Image) (old new : Active) (cs ds : List Cell) (b : Beside cs ds) (
           where
             queues : (n : ℕ) → is_some (requested cs n) ≡ true → (y : Bool) → (j == n) ≡ y → queued p cs n ≡ queued p ds n
             queues n asked true e =
-                let plain : is_some (queued p ds n) ≡ false = sym (told n asked) ∙ ap (λ i. is_kept_server (request_at old.table i)) (sym (eqb-true j n e)) ∙ serves in
+                let plain : is_some (queued p ds n) ≡ false =
+                sym (told n asked) ∙ ap (λ i. is_kept_server (request_at old.table i)) (sym (eqb-true j n e)) ∙ serves in
                 of_none (queued p cs n) (kind_alone p (named cs n) (service_of cs n) (service_of ds n)
                 ∙ ap (λ o. is_some (queue_in p o (service_of ds n))) (sym (there n asked)) ∙ plain) ∙ sym (of_none (queued p ds n) plain)
             queues n asked false e = others n asked e

@@ -70,8 +70,8 @@ module _ (p : Image) (m : Parts) (s : State) (st : StandsFor (record { image = p
 
   module _ (command : ClientCommand) (name : ℕ) (free : named s.cells name ≡ None) (high : 4096 ≤ name)
       (k : kept.State) (store : Store) (a : Active) (clients : SameClients k (commanded p c v command name).cells (commanded p c v command name).clients)
-      (sized : AreSized p.header.cells k) (sessions : SessionsSame m.clients k) (messages : SameMessages p store (commanded p c v command name).cells) (server : Option ℕ)
-      (touched : (n : ℕ) → (server ≡ Some n → ⊥) → Untouched p c v command n) (hears : NotesIf server k m.active a) where
+      (sized : AreSized p.header.cells k) (sessions : SessionsSame m.clients k) (messages : SameMessages p store (commanded p c v command name).cells)
+      (server : Option ℕ) (touched : (n : ℕ) → (server ≡ Some n → ⊥) → Untouched p c v command n) (hears : NotesIf server k m.active a) where
     abbrev then : State
     then = commanded p c v command name
 
@@ -138,12 +138,14 @@ module _ (p : Image) (m : Parts) (s : State) (st : StandsFor (record { image = p
             touched_queues : (n : ℕ) → (server ≡ Some n → ⊥) → (service_of then.cells n).queue ≡ (service_of s.cells n).queue
             touched_queues = queues
 
-            by : (x : Option ℕ) → ((n : ℕ) → (x ≡ Some n → ⊥) → (service_of then.cells n).queue ≡ (service_of s.cells n).queue) → NotesIf x k m.active a → SameRequests p a then.cells
-            by None same still = subst (λ b. SameRequests p b then.cells) (sym still) (requests_beside p m.active s.cells then.cells beside (λ n asked. same n (λ e. none-some n e)) st.agrees.requests)
+            by : (x : Option ℕ) → ((n : ℕ) → (x ≡ Some n → ⊥) → (service_of then.cells n).queue ≡ (service_of s.cells n).queue) → NotesIf x k m.active a →
+                SameRequests p a then.cells
+            by None same still = subst (λ b. SameRequests p b then.cells) (sym still)
+                (requests_beside p m.active s.cells then.cells beside (λ n asked. same n (λ e. none-some n e)) st.agrees.requests)
             by (Some j) same notes = noted_requests p m.active a s.cells then.cells beside st.agrees.requests j (λ n other. same n
                 (λ e. false≢true (sym other ∙ eq-eqb j n (same_Some j n e)))) (is_queued k j) (waits_alike k then.cells then.clients clients j) notes
 
     -- and so it stands for the state
     pub obeyed_stands : StandsFor (record { image = p; parts = new }) then
-    obeyed_stands = subst (StandsFor (record { image = p; parts = new })) (sym form)
-        (stands_idle p m s st idle new then.cells then.clients v.rest s.killed typed fit no_token (commanded_left st.sound.prices p c v command name) refl agrees_now)
+    obeyed_stands = subst (StandsFor (record { image = p; parts = new })) (sym form) (stands_idle p m s st idle new then.cells then.clients v.rest s.killed
+        typed fit no_token (commanded_left st.sound.prices p c v command name) refl agrees_now)

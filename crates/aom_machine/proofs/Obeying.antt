@@ -1,6 +1,7 @@
 -- A command of a client: what clients are at, the messages that are kept and the schedule stand for what the checked machine comes to.
 use Rattle.std.proofs.lemmas.Bool.Decides.{nat_tests}
-use Rattle.std.proofs.Common.{ap, arith, Bool, length, List, None, Option, pos, refl, Some, subst, suc, sym, zero, ℕ, ℤ, ◌∙◌, ◌∷◌, ◌≡◌, slice_index_or, [], ◌<◌, ◌≤◌}
+use Rattle.std.proofs.Common.{ap, arith, Bool, length, List, None, Option, pos, refl, Some, subst, suc, sym, zero, ℕ, ℤ, ◌∙◌, ◌∷◌, ◌≡◌, slice_index_or, [], ◌<◌}
+use Rattle.std.proofs.Common.{◌≤◌}
 use Rattle.std.specs.Prelude.{IfSome, is_some, option_map}
 use Rattle.std.proofs.lemmas.Bool.{false≢true}
 use Rattle.aom_clients.specs.Clients as kept
@@ -70,7 +71,8 @@ only_open x e = grind arith
 unrefused : (p : Image) (c : ℕ) (v : State) (r : Option CommandRefusal) → room p c v r ≡ None → r ≡ None
 unrefused p c v r e = grind arith
 
-module _ (p : Image) (c : ℕ) (v : State) (k : kept.State) (same : SameClients k v.cells v.clients) (before after : Store) (messages : SameMessages p before v.cells) where
+module _ (p : Image) (c : ℕ) (v : State) (k : kept.State) (same : SameClients k v.cells v.clients) (before after : Store)
+    (messages : SameMessages p before v.cells) where
   pub messages_connect : (class slots name : ℕ) → after ≡ before → SameMessages p after (commanded p c v (Connect class slots) name).cells
   messages_connect class slots name still = grind (arith, nat_tests, by_connecting p c v, messages_served p before v.cells)
 
@@ -78,7 +80,8 @@ module _ (p : Image) (c : ℕ) (v : State) (k : kept.State) (same : SameClients 
   pub messages_send : (words : List ℤ) (place : Option ℕ) →
       IfSome place (λ m. (m < 1024) × (message_at before m ≡ None)) → kept.send_refusal c place k ≡ refusal p c v (Send words) →
       Keeps_sent (kept.send_refusal c place k) place words before after → SameMessages p after (commanded p c v (Send words) (sent_name place)).cells
-  messages_send words place free alike is_kept = go (refusal p c v (Send words)) refl place refl free (subst (λ r. Keeps_sent r place words before after) alike is_kept)
+  messages_send words place free alike is_kept =
+      go (refusal p c v (Send words)) refl place refl free (subst (λ r. Keeps_sent r place words before after) alike is_kept)
     where
       -- it needs a place
       no_place : (r : Option CommandRefusal) (b : Bool) → kept.sending_to r b None ≡ None → ⊥
@@ -89,8 +92,8 @@ module _ (p : Image) (c : ℕ) (v : State) (k : kept.State) (same : SameClients 
       went_in m low is_kept e =
           let o = only_open (client_at v.clients c) (unrefused p c v (row (client_at v.clients c)).send e) in
           let from = messages_served p before v.cells o.0 _ messages in
-          subst (λ x. SameMessages p after (sending p c v None x (message_name m) words).cells) (sym o.3)
-          (message_made p before after (reserved (asked_last (Message_of c (message_name m))) o.0 v.cells) _ m words from refl (λ w. at_read words w) low is_kept.0 is_kept.1)
+          subst (λ x. SameMessages p after (sending p c v None x (message_name m) words).cells) (sym o.3) (message_made p before after
+          (reserved (asked_last (Message_of c (message_name m))) o.0 v.cells) _ m words from refl (λ w. at_read words w) low is_kept.0 is_kept.1)
 
       go : (r : Option CommandRefusal) → refusal p c v (Send words) ≡ r → (y : Option ℕ) → place ≡ y → IfSome y (λ m. (m < 1024) × (message_at before m ≡ None)) →
           Keeps_sent r y words before after → SameMessages p after (sending p c v r (client_at v.clients c) (sent_name y) words).cells
@@ -110,9 +113,11 @@ module _ (p : Image) (c : ℕ) (v : State) (k : kept.State) (same : SameClients 
     some_alike : (x y : Option Client) → y ≡ option_map sessionless x → is_some x ≡ is_some y
     some_alike x y e = grind arith
 
-    pub messages_close : Forgets (kept.freed (row (kept.client_at k c)).close c k) before after → (name : ℕ) → SameMessages p after (commanded p c v Close name).cells
+    pub messages_close : Forgets (kept.freed (row (kept.client_at k c)).close c k) before after → (name : ℕ) →
+        SameMessages p after (commanded p c v Close name).cells
     messages_close f name = messages_left (row (kept.client_at k c)).close
         (row (client_at v.clients c)).close (some_alike _ _ (ap (λ x. (row x).close) (sym (same.at c)) ∙ row_close (kept.client_at k c))) f
 
     pub messages_die : Forgets (kept.freed (row (kept.client_at k c)).die c k) before after → (name : ℕ) → SameMessages p after (commanded p c v Die name).cells
-    messages_die f name = messages_left (row (kept.client_at k c)).die (row (client_at v.clients c)).die (some_alike _ _ (ap (λ x. (row x).die) (sym (same.at c)) ∙ row_die (kept.client_at k c))) f
+    messages_die f name = messages_left (row (kept.client_at k c)).die (row (client_at v.clients c)).die
+        (some_alike _ _ (ap (λ x. (row x).die) (sym (same.at c)) ∙ row_die (kept.client_at k c))) f

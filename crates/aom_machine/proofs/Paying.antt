@@ -25,8 +25,13 @@ module _ (p : Image) (t : Typing) (c : Prices) (linked : IsLinked p) (typed : Is
       go true ends =
           let main = moves_pay.payers p ch s u goes ∙ ap (λ b. cond b None (payer s.tasks)) ends in
           record {
-            within =
-                omega (arith, moves_pay.restarts_pay p t c linked typed affordable.priced ch s u well kept goes ends, none_counted p ch s u goes ends, affordable.declared, ap (λ x. declared_of p x) main);
+            within = omega (
+              arith,
+              moves_pay.restarts_pay p t c linked typed affordable.priced ch s u well kept goes ends,
+              none_counted p ch s u goes ends,
+              affordable.declared,
+              ap (λ x. declared_of p x) main,
+            );
           }
       go false on =
           let same = moves_pay.payers p ch s u goes ∙ ap (λ b. cond b None (payer s.tasks)) on in

@@ -40,8 +40,8 @@ IsOwed m native completion = IfSome completion (λ x. (s : State) × StandsFor m
 
 -- from each state that it stands for the machine takes the poll that completes that
 abbrev pub PollsAll : (native : ℕ) → Option (ℕ × ℤ) → (old new : Machine) → Type 0
-PollsAll native completion old new = (s : State) → StandsFor old s →
-    (answer : Option Completion) × Answers s.cells completion answer × AnswersWell old.image s (Polls native answer) × ((told : LineBuffer) → Takes old s (Polls native answer) told told new)
+PollsAll native completion old new = (s : State) → StandsFor old s → (answer : Option Completion) × Answers s.cells completion answer
+    × AnswersWell old.image s (Polls native answer) × ((told : LineBuffer) → Takes old s (Polls native answer) told told new)
 
 some_request : (q : Option Request) → is_owed q ≡ true → (r : Request) × (q ≡ Some r)
 some_request x e = grind arith
@@ -67,8 +67,10 @@ module _ (p : Image) (m : Parts) (native : ℕ) where
 
     lives_pending : Lives m.cells id × IsTrue (is_pending (request_at m.active.table id))
     lives_pending = (
-      ap is_some (cell_of p m.cells s.cells id it.cell.object st.agrees.cells it.lives (served_object p native it.cell.object.thing (sym (ap (serves_object p native) it.lives) ∙ both.0))).1,
-      pending_told (request_at m.active.table id) (requested s.cells id) (queued p s.cells id) (st.agrees.requests.stands.tells id) (coded p m s st native id both.0) both.1,
+      ap is_some (cell_of p m.cells s.cells id it.cell.object st.agrees.cells it.lives
+          (served_object p native it.cell.object.thing (sym (ap (serves_object p native) it.lives) ∙ both.0))).1,
+      pending_told (request_at m.active.table id) (requested s.cells id) (queued p s.cells id) (st.agrees.requests.stands.tells id)
+          (coded p m s st native id both.0) both.1,
     )
 
     module _ (code : ℤ) (a : Active) (makes : Makes m.active a id (completed_with (recorded code))) where
@@ -112,21 +114,23 @@ module _ (p : Image) (m : Parts) (native : ℕ) where
           entries = st.agrees.entries;
           requests = requests_asked s.cells object f p m.active a request.0 lives asked (subst (λ n. Makes m.active a n f) (sym it.name) makes) st.agrees.requests;
           natives = natives_asked p m.sessions s.killed s.cells object.name _ st.agrees.natives;
-          services = services_asked p s.cells object (on_request f (requested s.cells object.name)) lives (order_same f (λ r. refl) (requested s.cells object.name)) waits_for_none st.agrees.services;
+          services = services_asked p s.cells object (on_request f (requested s.cells object.name)) lives
+              (order_same f (λ r. refl) (requested s.cells object.name)) waits_for_none st.agrees.services;
           rest = ap (λ (r : Counters). record r { polled = suc native }) st.agrees.rest;
           room = st.agrees.room;
           entry_room = st.agrees.entry_room;
         }
 
         polled_stands : StandsFor (now a) then
-        polled_stands =
-            stands_idle p m s st idle (now a).parts (with_request f object s.cells) s.clients counts s.killed (completed p st.typing s st.typed idle (recorded code) (recorded_so code) object counts)
-            (fit_same p s.clients s.cells _ (same_requested s.cells object (on_request f (requested s.cells object.name)) (λ e. on_none f (requested s.cells object.name) e)) st.kept.fit)
+        polled_stands = stands_idle p m s st idle (now a).parts (with_request f object s.cells) s.clients counts s.killed
+            (completed p st.typing s st.typed idle (recorded code) (recorded_so code) object counts) (fit_same p s.clients s.cells _
+            (same_requested s.cells object (on_request f (requested s.cells object.name)) (λ e. on_none f (requested s.cells object.name) e)) st.kept.fit)
             (comes_asked s.cells object.name (on_request f (requested s.cells object.name)) (λ k e. sym waits_for_none ∙ e))
             (asked_same st.sound.prices is_entry object.name (on_request f (requested s.cells object.name)) s.cells) refl polled_agrees
 
         outstanding : is_outstanding_at p native it.cell ≡ true
-        outstanding = sym (ap (λ o. serves_object p native o && is_owed (requested s.cells id)) it.lives ∙ ap (λ q. is_served_by p native object.thing && is_owed q) it.asked) ∙ owed
+        outstanding = sym (ap (λ o. serves_object p native o && is_owed (requested s.cells id)) it.lives
+            ∙ ap (λ q. is_served_by p native object.thing && is_owed q) it.asked) ∙ owed
 
         abbrev answer : Completion
         answer = record { cell = it.index; code = code }
@@ -136,17 +140,20 @@ module _ (p : Image) (m : Parts) (native : ℕ) where
 
   -- ---- whatever it completes
 
-  pub owed_pending : (completion : Option (ℕ × ℤ)) → IsOwed was native completion → IfSome completion (λ x. Lives m.cells x.0 × IsTrue (is_pending (request_at m.active.table x.0)))
+  pub owed_pending : (completion : Option (ℕ × ℤ)) → IsOwed was native completion →
+      IfSome completion (λ x. Lives m.cells x.0 × IsTrue (is_pending (request_at m.active.table x.0)))
   owed_pending None owed = tt
   owed_pending (Some x) owed = lives_pending owed.0 owed.1 x.0 owed.2
 
-  pub polled_timers : (completion : Option (ℕ × ℤ)) (a : Active) → IsOwed was native completion → Finishes completion m.active a → a.pending.timers ≡ m.active.pending.timers
+  pub polled_timers : (completion : Option (ℕ × ℤ)) (a : Active) → IsOwed was native completion → Finishes completion m.active a →
+      a.pending.timers ≡ m.active.pending.timers
   polled_timers None a owed same = ap (λ (x : Active). x.pending.timers) same
   polled_timers (Some x) a owed makes = one_timers owed.0 owed.1 x.0 owed.2 x.1 a makes
 
   module _ (turned_now : progress_by m.rest.ended m.stack.tasks ≡ Turned) where
     nothing : PollsAll native None was (now m.active)
-    nothing s st = (None, tt, tt, λ told. rest_turns p m turned_now (Polls native None) (λ r. record r { polled = suc native }) (λ s. (refl, refl)) (λ r. refl) told s st)
+    nothing s st =
+        (None, tt, tt, λ told. rest_turns p m turned_now (Polls native None) (λ r. record r { polled = suc native }) (λ s. (refl, refl)) (λ r. refl) told s st)
 
     pub polls_well : (completion : Option (ℕ × ℤ)) (a : Active) →
         IfSome completion (λ x. FitsWord x.1) → IsOwed was native completion → Finishes completion m.active a → PollsAll native completion was (now a)
@@ -162,5 +169,7 @@ module _ (p : Image) (m : Parts) (native : ℕ) where
         )
 
     -- and it stands for one again
-    pub polled_again : (completion : Option (ℕ × ℤ)) (a : Active) → IfSome completion (λ x. FitsWord x.1) → IsOwed was native completion → Finishes completion m.active a → Stands was → Stands (now a)
-    polled_again completion a fits owed finishes (s, st) = let t = (polls_well completion a fits owed finishes s st).3 (record { lines = []; refused = []; room = 0 }) in (t.state, t.stands)
+    pub polled_again : (completion : Option (ℕ × ℤ)) (a : Active) → IfSome completion (λ x. FitsWord x.1) → IsOwed was native completion →
+        Finishes completion m.active a → Stands was → Stands (now a)
+    polled_again completion a fits owed finishes (s, st) = let t =
+        (polls_well completion a fits owed finishes s st).3 (record { lines = []; refused = []; room = 0 }) in (t.state, t.stands)

@@ -59,14 +59,24 @@ module _ (p : Image) (m : Machine_parts) (s : State) (st : StandsFor (record { i
       (x.0, record { is = x.1; small = subst (λ y. IfSome y (λ class. class < 256)) x.1 (class_fits p m s st.agrees o.name) }, x.2)
 
   -- and so is the session of a client
-  pub its_session : (n c : ℕ) (o : Object) → c < 64 → held s.cells (Elsewhere (Session n c)) ≡ Some o → (class : ℕ) × HasSession m c o.name class × (o.thing ≡ An_object_of class)
+  pub its_session : (n c : ℕ) (o : Object) → c < 64 → held s.cells (Elsewhere (Session n c)) ≡ Some o →
+      (class : ℕ) × HasSession m c o.name class × (o.thing ≡ An_object_of class)
   its_session n c o client there =
       let lives = held_lives s.cells (Elsewhere (Session n c)) o st.typed.good.tidy there in
       let object = session_object p n c st.typing s st.typed o there in
-      let x = its_class o lives object in
-      (x.0, record { one = client; named = session_named n (kept.client_at m.clients c) o.name (st.agrees.values (Elsewhere (Session n c)) ∙ ap number there) (object_small p m s st.sound.formed st.agrees o lives object); lives = x.1 }, x.2)
+      let x = its_class o lives object in (
+        x.0,
+        record {
+          one = client;
+          named = session_named n (kept.client_at m.clients c) o.name (st.agrees.values (Elsewhere (Session n c)) ∙ ap number there)
+              (object_small p m s st.sound.formed st.agrees o lives object);
+          lives = x.1;
+        },
+        x.2,
+      )
 
-  module _ (idle : s.tasks ≡ []) (x : Seat) (lives : named s.cells x.object.name ≡ Some x.object) (serves : is_server p x.object.thing ≡ true) (keeps : Keeps p st.typing (picked p x s)) where
+  module _ (idle : s.tasks ≡ []) (x : Seat) (lives : named s.cells x.object.name ≡ Some x.object) (serves : is_server p x.object.thing ≡ true)
+      (keeps : Keeps p st.typing (picked p x s)) where
     abbrev n : ℕ
     n = x.object.name
 
@@ -88,7 +98,8 @@ module _ (p : Image) (m : Machine_parts) (s : State) (st : StandsFor (record { i
     first_fits e es at = (subst (λ q. QueueFits s.clients n q) (queue_so (e ∷ es) at) (st.kept.fit.queues n)).0.0
 
     -- and nothing waits twice
-    pub first_once : (e : QueueEntry) (es : List QueueEntry) → queue ≡ e ∷ es → list_any (asked_again (asked_by m.clients.places e)) (map (asked_by m.clients.places) es) ≡ false
+    pub first_once : (e : QueueEntry) (es : List QueueEntry) → queue ≡ e ∷ es →
+        list_any (asked_again (asked_by m.clients.places e)) (map (asked_by m.clients.places) es) ≡ false
     first_once e es at = (subst (λ q. QueueFits s.clients n q) (queue_so (e ∷ es) at) (st.kept.fit.queues n)).0.1
 
     -- a message that waits there is kept, at one of the places that there are
@@ -116,7 +127,8 @@ module _ (p : Image) (m : Machine_parts) (s : State) (st : StandsFor (record { i
 
     -- ---- what serves it is there
 
-    pub accept_there : (c : ℕ) (es : List QueueEntry) → queue ≡ Connect c ∷ es → (class : ℕ) → x.object.thing ≡ An_object_of class → IsSome (role_of p class Accepts_role)
+    pub accept_there : (c : ℕ) (es : List QueueEntry) → queue ≡ Connect c ∷ es → (class : ℕ) → x.object.thing ≡ An_object_of class →
+        IsSome (role_of p class Accepts_role)
     accept_there c es at class thing = grind (arith, nat_tests, first_keeps (Connect c ∷ es) at)
 
     -- the session of the client, and its method
@@ -131,10 +143,12 @@ module _ (p : Image) (m : Machine_parts) (s : State) (st : StandsFor (record { i
         c : ℕ
         c = sender (kept.place_at m.clients j)
 
-        served : (h : Option Object) → Keeps p st.typing (attended p x c h (message_name j) (taken_from n s)) → (o : Object) × (h ≡ Some o) × IsSome (part_of p Attends_role o.thing)
+        served : (h : Option Object) → Keeps p st.typing (attended p x c h (message_name j) (taken_from n s)) →
+            (o : Object) × (h ≡ Some o) × IsSome (part_of p Attends_role o.thing)
         served h k = grind arith
 
-    pub part_there : (c : ℕ) (es : List QueueEntry) → queue ≡ Close c ∷ es → (o : Object) × (held s.cells (Elsewhere (Session n c)) ≡ Some o) × ((kind : ℕ) × HasSession m c o.name kind)
+    pub part_there : (c : ℕ) (es : List QueueEntry) → queue ≡ Close c ∷ es →
+        (o : Object) × (held s.cells (Elsewhere (Session n c)) ≡ Some o) × ((kind : ℕ) × HasSession m c o.name kind)
     part_there c es at =
         let o = served (held s.cells (Elsewhere (Session n c))) (first_keeps (Close c ∷ es) at) in
         let y = its_session n c o.0 (closer_there c es at) o.1 in
@@ -145,7 +159,8 @@ module _ (p : Image) (m : Machine_parts) (s : State) (st : StandsFor (record { i
 
     -- ---- so the machine can serve it
 
-    can_take : (e : QueueEntry) (es : List QueueEntry) → queue ≡ e ∷ es → CanTake p server_class.0 (kept.taken_entry m.clients e).client (kept.taken_entry m.clients e).entry m
+    can_take : (e : QueueEntry) (es : List QueueEntry) → queue ≡ e ∷ es →
+        CanTake p server_class.0 (kept.taken_entry m.clients e).client (kept.taken_entry m.clients e).entry m
     can_take (Connect c) es at = accept_there c es at server_class.0 server_class.2
     can_take (Message j) es at = let y = attend_there j es at in (place_there j es at, message_there j es at, (y.0.name, y.2.0, y.2.1, y.2.3))
     can_take (Close c) es at = let y = part_there c es at in (y.0.name, y.2.0, y.2.1)
@@ -184,7 +199,8 @@ module _ (p : Image) (m : Machine_parts) (s : State) (st : StandsFor (record { i
 -- ---- once it is taken
 
 -- no client is at anything else
-pub client_same : (m : Machine_parts) (n : ℕ) (e : QueueEntry) (es : List QueueEntry) → kept.queue_at m.clients n ≡ e ∷ es → (c : ℕ) → kept.client_at (kept.after_next n m.clients) c ≡ kept.client_at m.clients c
+pub client_same : (m : Machine_parts) (n : ℕ) (e : QueueEntry) (es : List QueueEntry) → kept.queue_at m.clients n ≡ e ∷ es → (c : ℕ) →
+    kept.client_at (kept.after_next n m.clients) c ≡ kept.client_at m.clients c
 client_same m n e es at c = grind (arith, nat_tests)
 
 -- and what serves it is there still

@@ -55,7 +55,8 @@ end_alike : (p : Image) (x : Machine_dispatch) (d : Dispatch) → SameDispatch x
 end_alike p x d same = placed_alike p (Elsewhere Root) same.0 x ∙ ap (end_rank p) same.1
 
 -- what a method begins as it ends hangs on what it stands over
-over_alike : (p : Image) (k : ℕ) (ms : List Machine_task) (us : List Task) → SameTasks ms us → over_worth (rank_worths p) k (map ranked ms) ≡ over_worth (rank_worths p) k us
+over_alike : (p : Image) (k : ℕ) (ms : List Machine_task) (us : List Task) → SameTasks ms us →
+    over_worth (rank_worths p) k (map ranked ms) ≡ over_worth (rank_worths p) k us
 over_alike p k = by_tasks (λ ms us. over_worth (rank_worths p) k (map ranked ms) ≡ over_worth (rank_worths p) k us) refl (λ m u ms us same _ e.
     by_task (λ m u. over_worth (rank_worths p) k (map ranked (m ∷ ms)) ≡ over_worth (rank_worths p) k (u ∷ us)) (record {
       runs = λ f fr same. refl;
@@ -67,9 +68,8 @@ over_alike p k = by_tasks (λ ms us. over_worth (rank_worths p) k (map ranked ms
     }) m u same)
 
 -- a method, what it begins as it ends, and what waits
-runs_alike :
-    (p : Image) (f : Machine_frame) (fr : Frame) (place place' : ℕ) (ms : List Machine_task) (us : List Task) → SameFrame f fr → place ≡ place' → SameTasks ms us →
-    waiting_rank p (map ranked ms) ≡ waiting_rank p us →
+runs_alike : (p : Image) (f : Machine_frame) (fr : Frame) (place place' : ℕ) (ms : List Machine_task) (us : List Task) → SameFrame f fr → place ≡ place' →
+    SameTasks ms us → waiting_rank p (map ranked ms) ≡ waiting_rank p us →
     left_in (method_at p f.method) f.counters place * price p f.method + (over_worth (rank_worths p) f.method (map ranked ms) + waiting_rank p (map ranked ms))
     ≡ left_in (method_at p fr.method) fr.counters place' * price p fr.method + (over_worth (rank_worths p) fr.method us + waiting_rank p us)
 runs_alike p f fr place place' ms us same there below waits =
@@ -160,8 +160,8 @@ same_rank p t m s typed agrees = grind (
 busy_state : (ms : List Machine_task) (us : List Task) → SameTasks ms us → 0 < length ms → (u : Task) × (vs : List Task) × (us ≡ u ∷ vs)
 busy_state ms us same busy = cons_given (λ vs. 0 < length vs) us (let even = same_length ms us same in omega arith) (λ none. omega arith) (λ u vs e _. (u, vs, e))
 
-pub moved_falls : (p : Image) (t : Typing) (refused : List ℕ) (m new : Parts) (s : State) → Sound p t → WellTyped p t s → Agrees p m s → Moved p refused (heard_by m) t s new → 0 < length m.stack.tasks
-    → rank_in p new < rank_in p m
+pub moved_falls : (p : Image) (t : Typing) (refused : List ℕ) (m new : Parts) (s : State) → Sound p t → WellTyped p t s → Agrees p m s →
+    Moved p refused (heard_by m) t s new → 0 < length m.stack.tasks → rank_in p new < rank_in p m
 moved_falls p t refused m new s sound typed agrees moved busy = grind (
   arith,
   nat_tests,

@@ -43,7 +43,8 @@ pub placed : (cs : List Cell) (id : ℕ) → is_some (named cs id) ≡ true → 
 placed [] id e = cc
 placed (c ∷ cs) id e = go (c.object.name == id) refl e (placed cs id)
   where
-    go : (b : Bool) → (c.object.name == id) ≡ b → is_some (cond b (Some c.object) (named cs id)) ≡ true → (is_some (named cs id) ≡ true → Placed cs id) → Placed (c ∷ cs) id
+    go : (b : Bool) → (c.object.name == id) ≡ b → is_some (cond b (Some c.object) (named cs id)) ≡ true →
+        (is_some (named cs id) ≡ true → Placed cs id) → Placed (c ∷ cs) id
     go true same e rest = record {
       index = zero;
       cell = c;
@@ -138,8 +139,8 @@ module _ (p : Image) (m : Parts) (s : State) (st : StandsFor (record { image = p
       name = named_name s.cells id o lives
 
       none : requested s.cells id ≡ None
-      none = unrequested p o.thing message (states_claim p o st.typed.layers) (requested s.cells id)
-          (subst (λ n. Suits (thing_kind p o.thing) (states_claim p o st.typed.layers) (requested s.cells n)) name (st.typed.good.suits o (ap (named s.cells) name ∙ lives)))
+      none = unrequested p o.thing message (states_claim p o st.typed.layers) (requested s.cells id) (subst (λ n. Suits (thing_kind p o.thing)
+          (states_claim p o st.typed.layers) (requested s.cells n)) name (st.typed.good.suits o (ap (named s.cells) name ∙ lives)))
 
       past : (b : Bool) → nat_lt id 4096 ≡ b → p.header.cells ≤ id
       past true e = absurd (false≢true (sym (st.agrees.services.messages.past id (ltb-true id 4096 e)) ∙ ap is_a_message lives ∙ ap (λ b. not b) message))
@@ -154,8 +155,10 @@ module _ (p : Image) (m : Parts) (s : State) (st : StandsFor (record { image = p
 -- ---- what the table tells of it
 
 module _ (p : Image) (m : Parts) (native id : ℕ) where
-  owes_told : (s : State) → StandsFor (record { image = p; parts = m }) s → owes p s.cells native id ≡ (serves_class p native (class_at m.cells id) && held_owed (request_at m.active.table id))
+  owes_told : (s : State) → StandsFor (record { image = p; parts = m }) s →
+      owes p s.cells native id ≡ (serves_class p native (class_at m.cells id) && held_owed (request_at m.active.table id))
   owes_told s st = grind (arith, nat_tests, class_told p m s st native id, told_alike)
 
-  pub owes_in_all : (s u : State) → StandsFor (record { image = p; parts = m }) s → StandsFor (record { image = p; parts = m }) u → owes p s.cells native id ≡ true → owes p u.cells native id ≡ true
+  pub owes_in_all : (s u : State) → StandsFor (record { image = p; parts = m }) s → StandsFor (record { image = p; parts = m }) u →
+      owes p s.cells native id ≡ true → owes p u.cells native id ≡ true
   owes_in_all s u st su owed = owes_told u su ∙ sym (owes_told s st) ∙ owed

@@ -72,5 +72,6 @@ lines_left (Dispatched (Of_server x c stage) ∷ ts) = 1
 lines_left _ = 0
 
 -- what such a move writes, and what may still come, is no more than might come before it
-pub passes_few : (p : Image) (c : Choice) (s u : State) (ts : List Task) → s.tasks ≡ ts → IsUncounted ts → step p c s ≡ Goes u → length (written_task p s ts) + lines_left u.tasks ≤ lines_left ts
+pub passes_few : (p : Image) (c : Choice) (s u : State) (ts : List Task) → s.tasks ≡ ts → IsUncounted ts → step p c s ≡ Goes u →
+    length (written_task p s ts) + lines_left u.tasks ≤ lines_left ts
 passes_few p c s u x is uncounted e = grind arith

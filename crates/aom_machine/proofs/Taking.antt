@@ -65,5 +65,6 @@ module _ (p : Image) (m : Parts) (turned : progress_by m.rest.ended m.stack.task
         k.candidate,
         k.first,
         ((signals_are_ready p st.typing s st.typed).1 between.idle).first ∙ ap is_some k.first,
-        server_served p m s st between k.candidate.seat (lives s st picks serves) (serving s st picks serves) k.keeps (asked s st picks serves) told now new (first s st picks serves told now new d),
+        server_served p m s st between k.candidate.seat (lives s st picks serves) (serving s st picks serves) k.keeps (asked s st picks serves) told now new
+            (first s st picks serves told now new d),
       )

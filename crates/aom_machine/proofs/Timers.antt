@@ -28,9 +28,8 @@ distinct asked ts t = λ i j d less within same. not_itself (timer_in (asked (ge
 
 -- behind the first stand those of all others
 behind : (asked : ℕ → Option Request) (t : Machine_timer) (ts : List Machine_timer) → Timely asked (t ∷ ts) → Timely (asked_anew t.id None asked) ts
-behind asked t ts timely =
-    subst (λ us. Timely (asked_anew t.id None asked) us) (sym (without-at id_of t.id (t ∷ ts) 0 (distinct asked (t ∷ ts) timely) (at_head t ts refl)))
-    (timely_without asked t.id None (t ∷ ts) refl timely)
+behind asked t ts timely = subst (λ us. Timely (asked_anew t.id None asked) us)
+    (sym (without-at id_of t.id (t ∷ ts) 0 (distinct asked (t ∷ ts) timely) (at_head t ts refl))) (timely_without asked t.id None (t ∷ ts) refl timely)
 
 one_list : (asked : ℕ → Option Request) (ts us : List Machine_timer) → Timely asked ts → Timely asked us → ts ≡ us
 one_list asked [] [] a b = refl
@@ -57,24 +56,23 @@ one_list asked (t ∷ ts) (u ∷ us) a b = go (t.id == u.id) refl (λ same. one_
 -- requests whose timers are the same
 pub timers_same : (old new : Active) (asked other : ℕ → Option Request) (queues then : ℕ → Option Bool) →
     ((n : ℕ) → timer_in (asked n) ≡ timer_in (other n)) → Asks_for old asked queues → Asks_for new other then → new.pending.timers ≡ old.pending.timers
-timers_same old new asked other queues then same a b =
-    one_list other new.pending.timers old.pending.timers (record { dues = b.dues; sooner = b.sooner }) (timely_kept asked other old.pending.timers same (record { dues = a.dues; sooner = a.sooner }))
+timers_same old new asked other queues then same a b = one_list other new.pending.timers old.pending.timers (record { dues = b.dues; sooner = b.sooner })
+    (timely_kept asked other old.pending.timers same (record { dues = a.dues; sooner = a.sooner }))
 
 -- ---- none is due
 
 -- where none is due none is with the same timers at the same time
-pub none_due_still :
-    (old new : Machine) → Stands old → new.parts.active.pending.timers ≡ old.parts.active.pending.timers → new.parts.rest.clock ≡ old.parts.rest.clock →
-    ((s : State) → StandsFor old s → NoneDue s) → (s : State) → StandsFor new s → NoneDue s
+pub none_due_still : (old new : Machine) → Stands old → new.parts.active.pending.timers ≡ old.parts.active.pending.timers →
+    new.parts.rest.clock ≡ old.parts.rest.clock → ((s : State) → StandsFor old s → NoneDue s) → (s : State) → StandsFor new s → NoneDue s
 none_due_still old new stands same clock none s st x e = go (first_due first.cells) refl
   where
     first : State
     first = stands.0
 
     due : Some x.timer.due ≡ option_map (λ y. y.timer.due) (first_due first.cells)
-    due =
-        sym (next_due_is new.parts.active s.cells (queued new.image s.cells) st.typed.good.tidy st.agrees.requests.stands ∙ ap (option_map (λ y. y.timer.due)) e)
-        ∙ ap Held.first_due same ∙ next_due_is old.parts.active first.cells (queued old.image first.cells) stands.1.typed.good.tidy stands.1.agrees.requests.stands
+    due = sym (next_due_is new.parts.active s.cells (queued new.image s.cells) st.typed.good.tidy st.agrees.requests.stands
+        ∙ ap (option_map (λ y. y.timer.due)) e) ∙ ap Held.first_due same
+        ∙ next_due_is old.parts.active first.cells (queued old.image first.cells) stands.1.typed.good.tidy stands.1.agrees.requests.stands
 
     go : (o : Option Timed) → first_due first.cells ≡ o → s.rest.clock < x.timer.due
     go None f = absurd (none-some _ (sym (due ∙ ap (option_map (λ y. y.timer.due)) f)))

@@ -75,8 +75,8 @@ module _ (cs : List Cell) (o : Object) (f : Request → Request) where
   pub requests_asked : (p : Image) (old new : Active) (r : Request) →
       named cs o.name ≡ Some o → requested cs o.name ≡ Some r → Makes old new o.name f → SameRequests p old cs → SameRequests p new (with_request f o cs)
   requests_asked p old new r lives is makes h = record {
-    stands =
-        standing_follows new (asked_anew o.name (Some (f r)) (requested cs)) (requested (with_request f o cs)) (queued p cs) (queued p (with_request f o cs)) now
+    stands = standing_follows new (asked_anew o.name (Some (f r)) (requested cs)) (requested (with_request f o cs)) (queued p cs)
+        (queued p (with_request f o cs)) now
         (λ n there. sym (queued_same p cs (with_request f o cs) alike.named_so alike.queues_so n)) (makes.stands (requested cs) (queued p cs) r h.stands is);
     limit = makes.limit ∙ h.limit;
   }
@@ -85,7 +85,8 @@ module _ (cs : List Cell) (o : Object) (f : Request → Request) where
       now n = grind (arith, nat_tests, asked_set cs o.name)
 
 -- where the request keeps its order
-pub order_same : (f : Request → Request) → ((r : Request) → (f r).order ≡ r.order) → (q : Option Request) → option_map (λ x. x.order) (on_request f q) ≡ option_map (λ x. x.order) q
+pub order_same : (f : Request → Request) → ((r : Request) → (f r).order ≡ r.order) → (q : Option Request) →
+    option_map (λ x. x.order) (on_request f q) ≡ option_map (λ x. x.order) q
 order_same f same x = grind arith
 
 -- ---- nothing is at hand
@@ -126,7 +127,8 @@ rest_turns p m over part f goes steps told s st = record {
 }
 
 -- so it is of the machine as it is seen, which stands for a state again
-module _ (p : Image) (m : Parts) (view : Machine) (is : record { image = p; parts = m } ≡ view) (over : progress view ≡ Turned) (stands : Stands (record { image = p; parts = m })) where
+module _ (p : Image) (m : Parts) (view : Machine) (is : record { image = p; parts = m } ≡ view) (over : progress view ≡ Turned)
+    (stands : Stands (record { image = p; parts = m })) where
   seen_turns : (part : Turning) (f : Counters → Counters) →
       ((s : State) → (turned p s part ≡ Goes (record s { rest = f s.rest })) × (written_by p s part ≡ [])) → ((r : Counters) → (f r).steps ≡ r.steps) →
       TakesAll view part (record { image = p; parts = record m { rest = f m.rest } }) × Stands (record { image = p; parts = record m { rest = f m.rest } })
@@ -148,8 +150,8 @@ module _ (p : Image) (m : Parts) (view : Machine) (is : record { image = p; part
   -- and what the machine stands for then it stood for before it
   pub stands_back : (s : State) → StandsFor (record { image = p; parts = record m { rest = record m.rest { delivered = suc m.rest.delivered } } }) s →
       StandsFor view (record s { rest = view.parts.rest })
-  stands_back s st = subst (λ (x : Machine). StandsFor x (record s { rest = x.parts.rest })) is
-      (stands_rest p (record m { rest = record m.rest { delivered = suc m.rest.delivered } }) s m.rest m.rest refl (ap (λ (r : Counters). r.steps) st.agrees.rest) st)
+  stands_back s st = subst (λ (x : Machine). StandsFor x (record s { rest = x.parts.rest })) is (stands_rest p
+      (record m { rest = record m.rest { delivered = suc m.rest.delivered } }) s m.rest m.rest refl (ap (λ (r : Counters). r.steps) st.agrees.rest) st)
 
   -- the run is over
   pub waits_ends : TakesAll view Waits (record { image = p; parts = record m { rest = record m.rest { ended = Some Waiting } } }) ×
@@ -170,7 +172,8 @@ next_due_told m due next s st = next s.cells (queued m.image s.cells) st.typed.g
 -- and it counts the signals of the checked machine
 module _ (m : Machine) (count : ℕ) (counts : meanings.IsSignalCount m.parts.active count) (s : State) (st : StandsFor m s) where
   pub signals_told : count ≡ signal_count s.cells
-  signals_told = counts s.cells (queued m.image s.cells) st.typed.good.tidy (are_wanted m.image s.cells (λ o lives plain. (st.kept.fit.servers o lives plain).0)) st.agrees.requests.stands
+  signals_told = counts s.cells (queued m.image s.cells) st.typed.good.tidy
+      (are_wanted m.image s.cells (λ o lives plain. (st.kept.fit.servers o lives plain).0)) st.agrees.requests.stands
 
   pub ready_between : s.tasks ≡ [] → count ≡ ready_count s.cells
   ready_between idle = signals_told ∙ ((signals_are_ready m.image st.typing s st.typed).1 idle).count
@@ -204,7 +207,8 @@ module _ (p : Image) (m : Parts) (a : Active) (turned : progress_by m.rest.ended
       entries = st.agrees.entries;
       requests = requests_asked s.cells o timed_out p m.active a r lives is makes st.agrees.requests;
       natives = natives_asked p m.sessions s.killed s.cells o.name _ st.agrees.natives;
-      services = services_asked p s.cells o (on_request timed_out (requested s.cells o.name)) lives (order_same timed_out (λ r. refl) (requested s.cells o.name)) waits_for_none st.agrees.services;
+      services = services_asked p s.cells o (on_request timed_out (requested s.cells o.name)) lives
+          (order_same timed_out (λ r. refl) (requested s.cells o.name)) waits_for_none st.agrees.services;
       rest = st.agrees.rest;
       room = st.agrees.room;
       entry_room = st.agrees.entry_room;
@@ -215,7 +219,8 @@ module _ (p : Image) (m : Parts) (a : Active) (turned : progress_by m.rest.ended
         let idle = (machine_between before s st turned).idle in
         let cs = with_request timed_out o s.cells in
         stands_idle p m s st idle (record m { active = a }) cs s.clients s.rest s.killed (completed p st.typing s st.typed idle (pos 0) refl o s.rest)
-        (fit_same p s.clients s.cells cs (same_requested s.cells o (on_request timed_out (requested s.cells o.name)) (λ e. on_none timed_out (requested s.cells o.name) e)) st.kept.fit)
+        (fit_same p s.clients s.cells cs
+        (same_requested s.cells o (on_request timed_out (requested s.cells o.name)) (λ e. on_none timed_out (requested s.cells o.name) e)) st.kept.fit)
         (comes_asked s.cells o.name (on_request timed_out (requested s.cells o.name)) (λ k e. sym waits_for_none ∙ e))
         (asked_same st.sound.prices is_entry o.name (on_request timed_out (requested s.cells o.name)) s.cells) refl timed_agrees
 
@@ -229,8 +234,7 @@ module _ (p : Image) (m : Parts) (a : Active) (turned : progress_by m.rest.ended
       let same : o.name ≡ id = d.2 in
       let lives : named s.cells o.name ≡ Some o = ap (named s.cells) same ∙ d.3 in
       let is : requested s.cells o.name ≡ Some r.0 = ap (requested s.cells) same ∙ r.1 in
-      let untold : awaited (requested s.cells o.name) ≡ None =
-      grind (arith, nat_tests, ticks_untold) in
+      let untold : awaited (requested s.cells o.name) ≡ None = grind (arith, nat_tests, ticks_untold) in
       let made = subst (λ n. Makes m.active a n timed_out) (sym same) makes in (
         d.0,
         d.1,
@@ -247,7 +251,8 @@ module _ (p : Image) (m : Parts) (a : Active) (turned : progress_by m.rest.ended
       has_timer : (q : Option Request) (t : Timer) → timer_in q ≡ Some t → (r : Request) × (q ≡ Some r)
       has_timer x t e = grind arith
 
-  nothing_due : a ≡ m.active → ((asked : ℕ → Option Request) (queues : ℕ → Option Bool) → Asks_for m.active asked queues → meanings.NoneDue m.rest.clock asked) → Completed before false after
+  nothing_due : a ≡ m.active → ((asked : ℕ → Option Request) (queues : ℕ → Option Bool) → Asks_for m.active asked queues →
+      meanings.NoneDue m.rest.clock asked) → Completed before false after
   nothing_due same none = (
     ap (λ x. record { image = p; parts = record m { active = x } }) same,
     λ s st x e.
@@ -282,7 +287,8 @@ here : (n : ℕ) (q : Option Request) (asked : ℕ → Option Request) → asked
 here n q asked = ap (λ b. cond b q (asked n)) (eq-eqb n n refl)
 
 -- the line of a dispatch, as the machine writes it
-dispatch_line : (s : State) (o : Object) (class : ℕ) → o.thing ≡ An_object_of class → run_line s o ≡ Run_line s.rest.clock class (status_of (requested s.cells o.name)) ∷ []
+dispatch_line : (s : State) (o : Object) (class : ℕ) → o.thing ≡ An_object_of class →
+    run_line s o ≡ Run_line s.rest.clock class (status_of (requested s.cells o.name)) ∷ []
 dispatch_line s o class e = ap (λ (t : Thing). run_line s (record o { thing = t })) e
 
 -- no task of a dispatch that begins shows anything, and nor does its mark
@@ -338,7 +344,8 @@ module _ (p : Image) (m : Parts) (s : State) (st : StandsFor (record { image = p
   none_found none = none_chosen s.cells (queued p s.cells) st.typed.good.tidy wanted none
 
   -- what waits at it
-  queue_told : (id : ℕ) (k : Found id) (b : Bool) → is_server p k.candidate.seat.object.thing ≡ b → queued p s.cells id ≡ cond b (Some (has_more (service_of s.cells id).queue)) None
+  queue_told : (id : ℕ) (k : Found id) (b : Bool) → is_server p k.candidate.seat.object.thing ≡ b →
+      queued p s.cells id ≡ cond b (Some (has_more (service_of s.cells id).queue)) None
   queue_told id k b e = grind (arith, nat_tests)
 
   -- whether it is a server the table tells
@@ -355,7 +362,8 @@ module _ (p : Image) (m : Parts) (s : State) (st : StandsFor (record { image = p
       meanings.TakesUp (is_served (request_at m.active.table id)) m.active a id → is_served (request_at a.table id) ≡ is_server p k.candidate.seat.object.thing
   serving_after id k a takes = go (is_served (request_at m.active.table id)) refl takes
     where
-      go : (b : Bool) → is_served (request_at m.active.table id) ≡ b → meanings.TakesUp b m.active a id → is_served (request_at a.table id) ≡ is_server p k.candidate.seat.object.thing
+      go : (b : Bool) → is_served (request_at m.active.table id) ≡ b → meanings.TakesUp b m.active a id →
+          is_served (request_at a.table id) ≡ is_server p k.candidate.seat.object.thing
       go true e same = ap (λ x. is_served (request_at x.table id)) same ∙ serving_told id k
       go false e makes =
           let stands = makes.stands (requested s.cells) (queued p s.cells) k.candidate.request st.agrees.requests.stands k.asked in
@@ -422,7 +430,8 @@ module _ (p : Image) (m : Parts) (s : State) (st : StandsFor (record { image = p
         is = class_in (cell_at m.cells id) its_class.0 (its_thing ∙ ap Some its_class.1)
 
     -- the dispatch that the machine begins is that of the checked machine
-    module _ (a : Active) (told now : LineBuffer) (new : Parts) (makes : Makes m.active a id taken_up) (d : Dispatches p id (record m { active = a }) told now new) where
+    module _ (a : Active) (told now : LineBuffer) (new : Parts) (makes : Makes m.active a id taken_up)
+        (d : Dispatches p id (record m { active = a }) told now new) where
       abbrev then : State
       then = picked d.method k.found.candidate.seat s
 
@@ -453,7 +462,10 @@ module _ (p : Image) (m : Parts) (s : State) (st : StandsFor (record { image = p
 
       dispatch_agrees : Agrees p (running d.method d.class id (record m { active = a })) then
       dispatch_agrees = record {
-        tasks = (begun_frame d.method id (Inside object k.found.candidate.seat.place) (length then.items) name small, (tt, ((k.found.candidate.seat.place, seat), subst (λ us. SameTasks us []) (sym none_running) tt)));
+        tasks = (
+          begun_frame d.method id (Inside object k.found.candidate.seat.place) (length then.items) name small,
+          (tt, ((k.found.candidate.seat.place, seat), subst (λ us. SameTasks us []) (sym none_running) tt)),
+        );
         values = values;
         cells = cells_then s.cells object taken_up p m.cells st.agrees.cells;
         entries = (tt, st.agrees.entries);
@@ -477,19 +489,26 @@ module _ (p : Image) (m : Parts) (s : State) (st : StandsFor (record { image = p
           dispatch = Ends (Of_one subject) ∷ m.stack.tasks
 
           shown : (q : Place) → value_in (Runs_frame (fresh d.method id) ∷ Is_trap ∷ dispatch) m.cells (Is_mark ∷ m.entries.items) (others m) q ≡ value m q
-          shown q =
-              fresh_value d.method id (Is_trap ∷ dispatch) m.cells (Is_mark ∷ m.entries.items) (others m) q ∙ over_value true dispatch m.cells (Is_mark ∷ m.entries.items) (others m) q
-              ∙ begun_value (Of_one subject) m.stack.tasks m.cells m.entries.items (others m) q
+          shown q = fresh_value d.method id (Is_trap ∷ dispatch) m.cells (Is_mark ∷ m.entries.items) (others m) q ∙ over_value true dispatch m.cells
+              (Is_mark ∷ m.entries.items) (others m) q ∙ begun_value (Of_one subject) m.stack.tasks m.cells m.entries.items (others m) q
 
           worded : (q : Place) → word_at then.tasks q ≡ word_at s.tasks q
           worded q = grind (arith, nat_tests, fresh_word d.method, over_words, no_word (Of_object k.found.candidate.seat) q)
 
-          values : (q : Place) → Represents (value_in (Runs_frame (fresh d.method id) ∷ Is_trap ∷ dispatch) m.cells (Is_mark ∷ m.entries.items) (others m) q) (word_at then.tasks q) (held then.cells q)
+          values : (q : Place) → Represents (value_in (Runs_frame (fresh d.method id) ∷ Is_trap ∷ dispatch) m.cells (Is_mark ∷ m.entries.items) (others m) q)
+              (word_at then.tasks q) (held then.cells q)
           values q = grind (arith, nat_tests, shown q, worded q, alike s.cells)
 
       -- it costs no more than its class declares
       dispatch_within : KeepsWithin p st.sound.prices then
-      dispatch_within = record { within = omega (arith, picking p st.typing st.sound.prices st.sound.wired.family st.sound.linked st.sound.affordable.priced s st.typed idle (Picks k.found.candidate.seat) lives refl then goes, affords) }
+      dispatch_within = record {
+        within = omega (
+          arith,
+          picking p st.typing st.sound.prices st.sound.wired.family st.sound.linked st.sound.affordable.priced s st.typed idle
+              (Picks k.found.candidate.seat) lives refl then goes,
+          affords,
+        );
+      }
         where
           affords : price_of p st.sound.prices (payers.class_of object.thing) ≤ declared_of p (payers.class_of object.thing)
           affords = grind (arith, nat_tests, thing)
@@ -527,7 +546,8 @@ module _ (p : Image) (m : Parts) (turned : progress_by m.rest.ended m.stack.task
   was = record { image = p; parts = m }
 
   -- what is picked, in each state that the machine stands for
-  pub found_in : (a : Active) (id : ℕ) → meanings.Picks m.active a (Some id) → (s : State) (st : StandsFor was s) → Found p m s st (machine_between was s st turned).idle id
+  pub found_in : (a : Active) (id : ℕ) → meanings.Picks m.active a (Some id) → (s : State) (st : StandsFor was s) →
+      Found p m s st (machine_between was s st turned).idle id
   found_in a id c s st = found_of p m s st (machine_between was s st turned).idle id (c.1 (requested s.cells) (queued p s.cells) st.agrees.requests.stands)
 
   -- an object that is no server
@@ -536,13 +556,15 @@ module _ (p : Image) (m : Parts) (turned : progress_by m.rest.ended m.stack.task
   plain_in a id c plain s st = sym (serving_after p m s st (machine_between was s st turned).idle id (found_in a id c s st) a c.0) ∙ plain
 
   -- the pick has taken its signal
-  makes_in : (a : Active) (id : ℕ) (c : meanings.Picks m.active a (Some id)) → is_served (request_at a.table id) ≡ false → (s : State) (st : StandsFor was s) → Makes m.active a id taken_up
+  makes_in : (a : Active) (id : ℕ) (c : meanings.Picks m.active a (Some id)) → is_served (request_at a.table id) ≡ false → (s : State) (st : StandsFor was s) →
+      Makes m.active a id taken_up
   makes_in a id c plain s st =
       let idle = (machine_between was s st turned).idle in
       subst (λ b. meanings.TakesUp b m.active a id) (serving_told p m s st idle id (found_in a id c s st) ∙ plain_in a id c plain s st) c.0
 
   -- what the machine needs to know of the object that it picks
-  pub picks_can : (a : Active) (id : ℕ) → Stands was → meanings.Picks m.active a (Some id) → is_served (request_at a.table id) ≡ false → CanDispatch p (record m { active = a }) id
+  pub picks_can : (a : Active) (id : ℕ) → Stands was → meanings.Picks m.active a (Some id) → is_served (request_at a.table id) ≡ false →
+      CanDispatch p (record m { active = a }) id
   picks_can a id (s, st) c plain =
       let idle = (machine_between was s st turned).idle in
       can_dispatch p m s st idle id (pick_of p m s st idle id (found_in a id c s st) (plain_in a id c plain s st)) a (makes_in a id c plain s st)
@@ -573,7 +595,8 @@ module _ (p : Image) (m : Parts) (turned : progress_by m.rest.ended m.stack.task
     refl,
     λ s st.
         let idle = (machine_between was s st turned).idle in
-        ((signals_are_ready p st.typing s st.typed).1 idle).first ∙ ap is_some (none_found p m s st idle (c.1 (requested s.cells) (queued p s.cells) st.agrees.requests.stands)),
+        ((signals_are_ready p st.typing s st.typed).1 idle).first
+        ∙ ap is_some (none_found p m s st idle (c.1 (requested s.cells) (queued p s.cells) st.agrees.requests.stands)),
   )
 
 -- and the machine stands for a state again

@@ -1,4 +1,5 @@
--- Each move keeps what the typing says of the methods that wait: what runs over a method leaves its registers alone, and a method begins to wait with its operands moved.
+-- Each move keeps what the typing says of the methods that wait: what runs over a method leaves its registers alone, and a method begins to wait with its
+-- operands moved.
 use Rattle.std.proofs.lemmas.Bool.Decides.{nat_tests}
 use Rattle.std.proofs.Common.{Bool, List, None, Option, Some, [], ap, arith, cond, false, length, pos}
 use Rattle.std.proofs.Common.{refl, subst, suc, sym, true, ℕ, ℤ, ◌&&◌, ◌<◌, ◌≤◌, ◌==◌, ◌∙◌, ◌∷◌, ◌≡◌}
@@ -107,24 +108,27 @@ module _ (p : Image) (fr : Frame) (ts : List Task) (s : State) where
   spot_apart x e i lt = grind (arith, nat_tests, higher_apart, field_apart fr.home)
 
   updated_same : (u : Update) → SameBelow s.cells (cells_after p fr ts s u) (length ts)
-  updated_same (Carried from to) d i lt = held_apart s.cells (spot_place p fr ts s from) (spot_place p fr ts s to) (Register d i) (spot_apart from d i lt) (spot_apart to d i lt)
-  updated_same (Made name class a) d i lt = ap (λ b. cond b (Some (record { name = name; thing = An_object_of class })) (held s.cells (Register d i))) (higher_apart (length ts) a d i lt)
+  updated_same (Carried from to) d i lt =
+      held_apart s.cells (spot_place p fr ts s from) (spot_place p fr ts s to) (Register d i) (spot_apart from d i lt) (spot_apart to d i lt)
+  updated_same (Made name class a) d i lt =
+      ap (λ b. cond b (Some (record { name = name; thing = An_object_of class })) (held s.cells (Register d i))) (higher_apart (length ts) a d i lt)
   updated_same (Written w v) d i lt = stored_same s.cells fr.home w v (length ts) d i lt
   updated_same (Requested r) d i lt = (rerequested_alike s.cells fr.home r).held_so (Register d i)
   updated_same (Sessioned b) d i lt = (resessioned_alike s.cells fr.home b).held_so (Register d i)
   updated_same (Replied a code) d i lt =
       let order = token_of s.cells (held s.cells (here fr ts s a)) in
-      held_without (redeemed_by order code s.cells) (here fr ts s a) (Register d i) ∙ ap (λ b. cond b None (held (redeemed_by order code s.cells) (Register d i))) (higher_apart (length ts) a d i lt)
-      ∙ (redeemed_by_alike order code s.cells).held_so (Register d i)
+      held_without (redeemed_by order code s.cells) (here fr ts s a) (Register d i) ∙ ap (λ b. cond b None (held (redeemed_by order code s.cells)
+      (Register d i))) (higher_apart (length ts) a d i lt) ∙ (redeemed_by_alike order code s.cells).held_so (Register d i)
   updated_same (Handed name a) d i lt =
       let r = on_request (promised (next_token s.cells)) (own_request s.cells fr.home) in
-      ap (λ b. cond b (Some (record { name = name; thing = Message })) (held (rerequested s.cells fr.home r) (Register d i))) (higher_apart (length ts) a d i lt)
-      ∙ (rerequested_alike s.cells fr.home r).held_so (Register d i)
+      ap (λ b. cond b (Some (record { name = name; thing = Message })) (held (rerequested s.cells fr.home r) (Register d i)))
+      (higher_apart (length ts) a d i lt) ∙ (rerequested_alike s.cells fr.home r).held_so (Register d i)
   updated_same (Pushed a) d i lt = held_apart s.cells (here fr ts s a) (Entry (length s.items)) (Register d i) (higher_apart (length ts) a d i lt) refl
   updated_same (Popped a) d i lt = held_apart s.cells (top_place s.items) (here fr ts s a) (Register d i) refl (higher_apart (length ts) a d i lt)
   updated_same _ d i lt = refl
 
-  passed_same : (depth : ℕ) (xs : List Argument) (first to : ℕ) (cs : List Cell) → length ts < depth → SameBelow cs (passed_cells p fr ts s depth xs first to cs) (length ts)
+  passed_same : (depth : ℕ) (xs : List Argument) (first to : ℕ) (cs : List Cell) → length ts < depth →
+      SameBelow cs (passed_cells p fr ts s depth xs first to cs) (length ts)
   passed_same depth [] first to cs deep d i lt = refl
   passed_same depth (Takes_word ∷ xs) first to cs deep d i lt = passed_same depth xs (suc first) (suc to) cs deep d i lt
   passed_same depth (Takes_own t ∷ xs) first to cs deep d i lt = grind (arith, nat_tests, passed_same depth xs, held_apart cs, higher_apart depth to d i)
@@ -142,7 +146,8 @@ held_left cs q r e apart = by (same_place q e) refl
     left [] h = refl
     left (c ∷ cs) h = go (same_place c.owner q) refl (left cs h)
       where
-        go : (b : Bool) → same_place c.owner q ≡ b → held (moved q r cs) e ≡ None → cond (same_place (cond b r c.owner) e) (Some c.object) (held (moved q r cs) e) ≡ None
+        go : (b : Bool) → same_place c.owner q ≡ b → held (moved q r cs) e ≡ None →
+            cond (same_place (cond b r c.owner) e) (Some c.object) (held (moved q r cs) e) ≡ None
         go true x rest = ap (λ y. cond y (Some c.object) (held (moved q r cs) e)) apart ∙ rest
         go false x rest = ap (λ y. cond y (Some c.object) (held (moved q r cs) e)) (ap (λ z. same_place c.owner z) (sym (same_place-true q e h)) ∙ x) ∙ rest
 
@@ -159,9 +164,8 @@ module _ (p : Image) (fr : Frame) (ts : List Task) (s : State) where
       → Says (moved (here fr ts s a) to cs) (set_register sh a Null)
   emptied cs sh a to apart wordless says i = grind (arith, nat_tests, at-put_at Unset sh.registers a i Null, held_left cs, eq-eqb, eqb-true a i)
 
-  arguments_says :
-      (depth : ℕ) (xs : List Argument) (first to : ℕ) (cs : List Cell) (sh : Shape) → length ts < depth → AllTrue (needs_each p fr ts s xs first) → Says cs sh →
-      Says (passed_cells p fr ts s depth xs first to cs) (arguments_moved xs first sh)
+  arguments_says : (depth : ℕ) (xs : List Argument) (first to : ℕ) (cs : List Cell) (sh : Shape) → length ts < depth → AllTrue (needs_each p fr ts s xs first) →
+      Says cs sh → Says (passed_cells p fr ts s depth xs first to cs) (arguments_moved xs first sh)
   arguments_says depth [] first to cs sh deep met says = says
   arguments_says depth (Takes_word ∷ xs) first to cs sh deep met says = arguments_says depth xs (suc first) (suc to) cs sh deep met.1 says
   arguments_says depth (Takes_own t ∷ xs) first to cs sh deep met says =
@@ -177,19 +181,20 @@ pub record RunsTyped (p : Image) (t : Typing) (cs : List Cell) (fr : Frame) (ts 
   pub says : (i : ℕ) → KindSays p (register shape i) (word fr i) (held cs (Register (length ts) i))
 
 pub runs_typed : (p : Image) (t : Typing) (s : State) (fr : Frame) (ts : List Task) → WellTyped p t s → s.tasks ≡ Run fr ∷ ts → RunsTyped p t s.cells fr ts
-runs_typed p t s fr ts w top = method_layer (λ ls. Good p t s.cells ls) fr ts w.layers (sym w.tasks ∙ top) w.good (λ sh ls under good.
-    record {
-      shape = sh;
-      typed = good.stack.0;
-      says = grind (arith, nat_tests, kind_says p, register_fits p s.cells fr sh ls good.fits);
-    })
+runs_typed p t s fr ts w top = method_layer (λ ls. Good p t s.cells ls) fr ts w.layers (sym w.tasks ∙ top) w.good (λ sh ls under good. record {
+  shape = sh;
+  typed = good.stack.0;
+  says = grind (arith, nat_tests, kind_says p, register_fits p s.cells fr sh ls good.fits);
+})
 
 -- ---- moves
 
-line_wait : (p : Image) (t : Typing) (cs : List Cell) (m : ℕ) (home : Home) (height : ℕ) (ts : List Task) → AllWait p t cs ts → OthersWait p t cs (line_on p m home height ts)
+line_wait : (p : Image) (t : Typing) (cs : List Cell) (m : ℕ) (home : Home) (height : ℕ) (ts : List Task) → AllWait p t cs ts →
+    OthersWait p t cs (line_on p m home height ts)
 line_wait p t cs m x height ts w = grind arith
 
-destructed_wait : (p : Image) (t : Typing) (cs : List Cell) (o : Object) (height : ℕ) (ts : List Task) → AllWait p t cs ts → OthersWait p t cs (destructed p o height ts)
+destructed_wait : (p : Image) (t : Typing) (cs : List Cell) (o : Object) (height : ℕ) (ts : List Task) → AllWait p t cs ts →
+    OthersWait p t cs (destructed p o height ts)
 destructed_wait p t cs o height ts w = grind (arith, nat_tests)
 
 begun_wait : (p : Image) (t : Typing) (cs : List Cell) (o : Object) (height : ℕ) (ts : List Task) → AllWait p t cs ts → OthersWait p t cs (begun p o height ts)
@@ -218,7 +223,8 @@ module _ (p : Image) (t : Typing) (c : Choice) (s : State) (fr : Frame) (ts : Li
   W u = OthersWait p t u.cells u.tasks
 
   -- it waits from then on
-  begins : (cs : List Cell) → ((j : ℕ) → KindSays p (register (while_waiting p (Some i) h.shape) j) (word fr j) (held cs (Register (length ts) j))) → Waits p t cs (length ts) fr
+  begins : (cs : List Cell) → ((j : ℕ) → KindSays p (register (while_waiting p (Some i) h.shape) j) (word fr j) (held cs (Register (length ts) j))) →
+      Waits p t cs (length ts) fr
   begins cs says = record {
     shape = h.shape;
     typed = h.typed;
@@ -252,8 +258,8 @@ module _ (p : Image) (t : Typing) (c : Choice) (s : State) (fr : Frame) (ts : Li
       (result_same p fr ts over g a _ below (let n = ap length e in omega (arith, n))) (subst (AllWait p t over.cells) (sym e) ended_w).1
   returns g a (Trapped ∷ Run caller ∷ below) e = still_wait p t over.cells _ below
       (result_same p fr ts over g a _ below (let n = ap length e in omega (arith, n))) (subst (AllWait p t over.cells) (sym e) ended_w).1
-  returns g a (Trapped ∷ Dispatched d ∷ below) e =
-      still_wait p t over.cells _ below (accepted_same d a (length ts) over.cells (length below) (let n = ap length e in omega (arith, n))) (subst (AllWait p t over.cells) (sym e) ended_w)
+  returns g a (Trapped ∷ Dispatched d ∷ below) e = still_wait p t over.cells _ below
+      (accepted_same d a (length ts) over.cells (length below) (let n = ap length e in omega (arith, n))) (subst (AllWait p t over.cells) (sym e) ended_w)
   returns g a (Destroy ∷ below) e = line_wait p t over.cells fr.method fr.home fr.height below (subst (AllWait p t over.cells) (sym e) ended_w)
   returns g a (Unwind code ∷ below) e = subst (AllWait p t over.cells) (sym e) ended_w
   returns g a (Closing ∷ below) e = subst (OthersWait p t over.cells) (sym at_hand) ended_w
@@ -275,19 +281,21 @@ module _ (p : Image) (t : Typing) (c : Choice) (s : State) (fr : Frame) (ts : Li
         record {
           shape = h.shape;
           typed = h.typed;
-          says = λ j.
-              subst (λ x. KindSays p (register (while_waiting p x h.shape) j) (at None (put_at None fr.words a None) j) (held cs (Register (length ts) j))) (sym there)
-              (subst (λ x. KindSays p (register (while_waiting p (Some x) h.shape) j) (at None (put_at None fr.words a None) j) (held cs (Register (length ts) j))) (sym is)
+          says = λ j. subst (λ x. KindSays p (register (while_waiting p x h.shape) j)
+              (at None (put_at None fr.words a None) j) (held cs (Register (length ts) j))) (sym there) (subst (λ x. KindSays p
+              (register (while_waiting p (Some x) h.shape) j) (at None (put_at None fr.words a None) j) (held cs (Register (length ts) j))) (sym is)
               (subst (λ x. KindSays p (register (set_register h.shape a Null) j) x (held cs (Register (length ts) j))) (sym (blank wordless j)) (says j)));
         },
-        still_wait p t s.cells cs ts (λ d j lt. held_apart s.cells (here fr ts s a) (Going (suc (length ts))) (Register d j) (higher_apart (length ts) a d j lt) refl) w,
+        still_wait p t s.cells cs ts
+            (λ d j lt. held_apart s.cells (here fr ts s a) (Going (suc (length ts))) (Register d j) (higher_apart (length ts) a d j lt) refl) w,
       )
     where
       blank : word fr a ≡ None → (j : ℕ) → at None (put_at None fr.words a None) j ≡ word fr j
       blank wordless j = grind (arith, nat_tests, at-put_at None fr.words a j None, eqb-true a j)
 
   -- its registers stay as they are
-  pops : (cs : List Cell) → ((x : Shape) → while_waiting p (Some i) x ≡ without_entry x) → ((d j : ℕ) → held cs (Register d j) ≡ held s.cells (Register d j)) → AllWait p t cs (Run fr ∷ ts)
+  pops : (cs : List Cell) → ((x : Shape) → while_waiting p (Some i) x ≡ without_entry x) → ((d j : ℕ) → held cs (Register d j) ≡ held s.cells (Register d j)) →
+      AllWait p t cs (Run fr ∷ ts)
   pops cs is same = (grind (arith, nat_tests, begins cs), still_wait p t s.cells cs ts (λ d j lt. same d j) w)
 
   -- and so they do while the method that cancels runs
@@ -295,13 +303,14 @@ module _ (p : Image) (t : Typing) (c : Choice) (s : State) (fr : Frame) (ts : Li
   cancels is = grind (arith, nat_tests, rerequested_alike s.cells fr.home, begins, still_wait p t s.cells)
 
   -- by its effect; with what words a method waits for an object that goes is told by the instruction
-  acts_wait : (e : Effect) → ((o : Object) (a : ℕ) (words : List (Option ℤ)) → e ≡ Destroys o a words → W (applied p fr ts s e)) → May p c fr ts s i e → W (applied p fr ts s e)
+  acts_wait : (e : Effect) → ((o : Object) (a : ℕ) (words : List (Option ℤ)) → e ≡ Destroys o a words → W (applied p fr ts s e)) →
+      May p c fr ts s i e → W (applied p fr ts s e)
   acts_wait (Goes_on ch) deleted fits = still_wait p t s.cells _ ts (updated_same p fr ts s ch.update) w
   acts_wait (Jumps to) deleted fits = w
   acts_wait (Counts d n) deleted fits = w
   acts_wait (Repeats d n to) deleted fits = w
-  acts_wait (Calls target m first) deleted fits =
-      calls (suc (length ts)) m first (after_of p m) target _ (omega arith) (subst (λ j. AllTrue (needs p c fr ts s j)) fits.1 met) (λ sh. ap (λ j. while_waiting p (Some j) sh) fits.1)
+  acts_wait (Calls target m first) deleted fits = calls (suc (length ts)) m first (after_of p m) target _ (omega arith)
+      (subst (λ j. AllTrue (needs p c fr ts s j)) fits.1 met) (λ sh. ap (λ j. while_waiting p (Some j) sh) fits.1)
   acts_wait (Cancels m) deleted fits = cancels fits.0
   acts_wait (Sets_trap target m first) deleted fits = calls (suc (suc (length ts))) m first (resting p (method_class p m)) target _
       (omega arith) (subst (λ j. AllTrue (needs p c fr ts s j)) fits.1 met) (λ sh. ap (λ j. while_waiting p (Some j) sh) fits.1)
@@ -329,9 +338,8 @@ module _ (p : Image) (t : Typing) (c : Choice) (s u : State) (typed : WellTyped 
       let goes_on : guarded (needs p c fr ts mid i) (does p c fr ts mid i) ≡ Goes u = sym (step_of_instr p c s fr ts i top there) ∙ goes in
       let met = guarded_met (needs p c fr ts mid i) (does p c fr ts mid i) u goes_on in
       let wait = deletes_wait p t c mid fr ts top i there met (runs_typed p t s fr ts typed top) (over_these (Run fr ∷ ts) top) o a is in
-      subst V
-      (sym (ap (λ x. applied p fr ts mid (deletes fr x a)) some) ∙ sym (ap (λ j. does p c fr ts mid j) is) ∙ guarded_goes (needs p c fr ts mid i) (does p c fr ts mid i) u goes_on)
-      wait
+      subst V (sym (ap (λ x. applied p fr ts mid (deletes fr x a)) some) ∙ sym (ap (λ j. does p c fr ts mid j) is)
+      ∙ guarded_goes (needs p c fr ts mid i) (does p c fr ts mid i) u goes_on) wait
 
   main_wait : (v : State) (b : Bool) (root : Option Object) → V (main_ends p b root v)
   main_wait v true (Some o) = begun_wait p t _ o _ (Dispatched Of_root ∷ []) tt
@@ -391,8 +399,8 @@ module _ (p : Image) (t : Typing) (c : Choice) (s u : State) (typed : WellTyped 
       go (Empties ts o top there same) = subst V (sym same) (parting_waits ts o (first_session s.cells o.name (service_of s.cells o.name).sessions) top refl)
       go (Clears code ts items o top last there same) =
           let cs = moved (Entry (length items)) (Going (suc (length ts))) s.cells in
-          subst V (sym same) (begun_wait p t cs o _ (Unwind code ∷ ts)
-          (still_wait p t s.cells cs ts (λ d i lt. held_apart s.cells (Entry (length items)) (Going (suc (length ts))) (Register d i) refl refl) (over_these (Unwind code ∷ ts) top)))
+          subst V (sym same) (begun_wait p t cs o _ (Unwind code ∷ ts) (still_wait p t s.cells cs ts
+          (λ d i lt. held_apart s.cells (Entry (length items)) (Going (suc (length ts))) (Register d i) refl refl) (over_these (Unwind code ∷ ts) top)))
       go (Undoes code ts items m x top last same) = subst V (sym same) (over_these (Unwind code ∷ ts) top)
       go (Arrives code fr ts items top last same) = subst V (sym same) (over_these (Unwind code ∷ Trapped ∷ Run fr ∷ ts) top).1
       go (Comes_out code d ts items top last same) = subst V (sym same) (over_these (Unwind code ∷ Trapped ∷ Dispatched d ∷ ts) top)

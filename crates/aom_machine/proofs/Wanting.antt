@@ -49,7 +49,19 @@ module _ (p : Image) (m : Parts) (s : State) (st : StandsFor (record { image = p
   abbrev h : At_hand p m
   h =
       let f = frame_of m.stack.tasks s.tasks runs st.agrees.tasks in
-      record { typing = st.typing; state = s; frame = f.0; below = f.1; top = f.2; formed = st.sound.formed; linked = st.sound.linked; wired = st.sound.wired; typed = st.typed; kept = st.kept; agrees = st.agrees }
+      record {
+        typing = st.typing;
+        state = s;
+        frame = f.0;
+        below = f.1;
+        top = f.2;
+        formed = st.sound.formed;
+        linked = st.sound.linked;
+        wired = st.sound.wired;
+        typed = st.typed;
+        kept = st.kept;
+        agrees = st.agrees;
+      }
 
   -- what the method that runs asks
   abbrev call : Exchange
@@ -66,14 +78,16 @@ module _ (p : Image) (m : Parts) (s : State) (st : StandsFor (record { image = p
       go (Inside o from) e = absurd (inside_there p m h o from e none)
       go _ e = refl
 
-  kind_told : (o : Object) → this m ≡ o.name → named s.cells o.name ≡ Some o → is_object o.thing ≡ true → native_of (thing_kind p o.thing) ≡ native_of (kind_of p (class_at m.cells (this m)))
+  kind_told : (o : Object) → this m ≡ o.name → named s.cells o.name ≡ Some o → is_object o.thing ≡ true →
+      native_of (thing_kind p o.thing) ≡ native_of (kind_of p (class_at m.cells (this m)))
   kind_told o number lives object = grind (arith, nat_tests, kind_same p, object_class p m s st.agrees o lives object)
 
   pub unserved_wants : native_of (kind_of p (class_at m.cells (this m))) ≡ None → wanted p s ≡ None
   unserved_wants none = by_home ∙ go h.frame.home refl
     where
       go : (home : Home) → h.frame.home ≡ home → wanted_by s p h.frame h.below home call ≡ None
-      go (Inside o from) e = ap (λ n. wanted_at s h.frame h.below o n call) (kind_told o (inside_number p m h o from e) (housed p m h o from e) (inside_object p m h o from e) ∙ none)
+      go (Inside o from) e = ap (λ n. wanted_at s h.frame h.below o n call)
+          (kind_told o (inside_number p m h o from e) (housed p m h o from e) (inside_object p m h o from e) ∙ none)
       go _ e = refl
 
   -- the instruction that is next, and its needs
@@ -109,9 +123,9 @@ module _ (p : Image) (m : Parts) (s : State) (st : StandsFor (record { image = p
     is_there = not (is_killed m.sessions n) && is_open m.sessions id
 
     -- a call with two words, at a session that is open
-    worded_so : (w : (function word : ℤ) → Wanted) (v : (function word : ℤ) → Machine_wanted) →
-        ((f x : ℤ) → as_wanted (v f x) ≡ w f x) → (a b : ℕ) → is_some (word h.frame a) ≡ true → is_some (word h.frame b) ≡ true →
-        cond (is_served s n id) (Some (w (read h.frame h.below s a) (read h.frame h.below s b))) None ≡ option_map as_wanted (cond is_there (Some (v (word_here m a) (word_here m b))) None)
+    worded_so : (w : (function word : ℤ) → Wanted) (v : (function word : ℤ) → Machine_wanted) → ((f x : ℤ) → as_wanted (v f x) ≡ w f x) → (a b : ℕ) → is_some
+        (word h.frame a) ≡ true → is_some (word h.frame b) ≡ true → cond (is_served s n id) (Some (w (read h.frame h.below s a) (read h.frame h.below s b)))
+        None ≡ option_map as_wanted (cond is_there (Some (v (word_here m a) (word_here m b))) None)
     worded_so w v same a b some_a some_b = grind (arith, nat_tests, served, word_told a some_a, word_told b some_b, mapped)
 
     call_so : (x : Exchange) → HasWords h.frame x → wanted_here s h.frame h.below n id x ≡ option_map as_wanted (wanted_call m owed n id x)
@@ -193,7 +207,8 @@ native_declared d = refl
 
 -- ---- what a native has answered changes no state
 
-pub heard_stands : (p : Image) (m : Parts) (answer : ℤ) (s : State) → StandsFor (record { image = p; parts = m }) s → StandsFor (record { image = p; parts = record m { heard = answer } }) s
+pub heard_stands : (p : Image) (m : Parts) (answer : ℤ) (s : State) → StandsFor (record { image = p; parts = m }) s →
+    StandsFor (record { image = p; parts = record m { heard = answer } }) s
 heard_stands p m answer s st =
     let a = st.agrees in
     record {
@@ -206,5 +221,16 @@ heard_stands p m answer s st =
       waits = st.waits;
       within = st.within;
       kept = st.kept;
-      agrees = record { tasks = a.tasks; values = a.values; cells = a.cells; entries = a.entries; requests = a.requests; natives = a.natives; services = a.services; rest = a.rest; room = a.room; entry_room = a.entry_room };
+      agrees = record {
+        tasks = a.tasks;
+        values = a.values;
+        cells = a.cells;
+        entries = a.entries;
+        requests = a.requests;
+        natives = a.natives;
+        services = a.services;
+        rest = a.rest;
+        room = a.room;
+        entry_room = a.entry_room;
+      };
     }

@@ -29,9 +29,16 @@ use Rattle.aom_machine_instructions.proofs.SemanticsLemmas.{cond_same}
 pub stop_does : (m : Parts) (refused : List ℕ) → Does refused Stop m (places.next (record m { rest = record m.rest { stopped = true } }))
 stop_does m refused = plain_does m (places.next (record m { rest = record m.rest { stopped = true } })) refused Stop refl (λ p h c met.
     let s = h.state in
-    goes_on_as p m h (record m { rest = record m.rest { stopped = true } }) s.cells s.items (record s.rest { stopped = true })
-    (record { stack = refl; cells = h.agrees.cells; entries = h.agrees.entries; requests = h.agrees.requests; natives = h.agrees.natives; services = h.agrees.services; rest = ap (λ (r : Counters). record r { stopped = true }) h.agrees.rest; room = h.agrees.entry_room })
-    (λ f ms e top. top.values))
+    goes_on_as p m h (record m { rest = record m.rest { stopped = true } }) s.cells s.items (record s.rest { stopped = true }) (record {
+      stack = refl;
+      cells = h.agrees.cells;
+      entries = h.agrees.entries;
+      requests = h.agrees.requests;
+      natives = h.agrees.natives;
+      services = h.agrees.services;
+      rest = ap (λ (r : Counters). record r { stopped = true }) h.agrees.rest;
+      room = h.agrees.entry_room;
+    }) (λ f ms e top. top.values))
 
 -- where a dispatch is at its end, no register, entry or destruction owns
 pub record Closing (s : State) : Type 0 where
@@ -55,11 +62,11 @@ pub shows_null : (n : ℕ) (w : Option ℤ) (o : Option Object) → n ≡ null �
 shows_null n w o e f g = subst (λ w. Represents n w o) (sym f) (subst (λ o. Represents n None o) (sym g) e)
 
 -- as main ends, its dispatch is at its end
-pub ended : (p : Image) (m : Parts) (es : Machine_items) (s : State) (x : Machine_dispatch) (d : Dispatch) → Agrees p m s → m.entries ≡ record es { items = Is_mark ∷ es.items } → SameDispatch x d
-    → Closing (record s { tasks = Dispatched d ∷ []; items = below_top s.items })
-    → Agrees p (record m { stack = record m.stack { tasks = Ends x ∷ [] }; entries = es }) (record s { tasks = Dispatched d ∷ []; items = below_top s.items })
-ended p m es s x d agrees marked same shut =
-    agrees_with p (record m { entries = es }) (record s { items = below_top s.items }) (Ends x ∷ []) (Dispatched d ∷ []) (aside_unmarked p m s es marked (aside_of p m s agrees)) (same, tt) values
+pub ended : (p : Image) (m : Parts) (es : Machine_items) (s : State) (x : Machine_dispatch) (d : Dispatch) → Agrees p m s →
+    m.entries ≡ record es { items = Is_mark ∷ es.items } → SameDispatch x d → Closing (record s { tasks = Dispatched d ∷ []; items = below_top s.items }) →
+    Agrees p (record m { stack = record m.stack { tasks = Ends x ∷ [] }; entries = es }) (record s { tasks = Dispatched d ∷ []; items = below_top s.items })
+ended p m es s x d agrees marked same shut = agrees_with p (record m { entries = es }) (record s { items = below_top s.items }) (Ends x ∷ [])
+    (Dispatched d ∷ []) (aside_unmarked p m s es marked (aside_of p m s agrees)) (same, tt) values
   where
     values : (r : Place) → Represents (value_in (Ends x ∷ []) m.cells es.items (others m) r) (word_at (Dispatched d ∷ []) r) (held s.cells r)
     values (Register k i) = shows_null _ _ _ (cond_same (0 == k) null) (cond_same (0 == k) None) (shut.registers k i)

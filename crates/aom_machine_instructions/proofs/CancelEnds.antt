@@ -56,7 +56,8 @@ unfolding method_at class_in
 cancels_active p linked m d e role = grind (arith, nat_tests, all_there (IsShaped p) p.methods m d linked.shapes e, active_in)
 
 -- whose request is being cancelled
-being_cancelled : (k : Option ClassKind) (n : Known) (r : Option Request) → is_active_kind k ≡ true → n.cancelled ≡ true → Suits k n r → in_phase is_cancelling r ≡ true
+being_cancelled : (k : Option ClassKind) (n : Known) (r : Option Request) → is_active_kind k ≡ true → n.cancelled ≡ true → Suits k n r →
+    in_phase is_cancelling r ≡ true
 being_cancelled k n r active cancels suits = grind arith
 
 -- the needs of a return have it completed
@@ -81,10 +82,12 @@ module _ (p : Image) (m : Parts) (h : At_hand p m) where
     cell : is_object object.thing ≡ true
     over : int_eq request.status pending ≡ false
 
-  cancels : (c : Choice) → is_active_kind (own_kind p h.frame.method) ≡ true → is_cancel (method_role p h.frame.method) ≡ true → not (hangs p h.frame h.below h.state) ≡ true → Cancels
+  cancels : (c : Choice) → is_active_kind (own_kind p h.frame.method) ≡ true → is_cancel (method_role p h.frame.method) ≡ true →
+      not (hangs p h.frame h.below h.state) ≡ true → Cancels
   cancels c active plays ends = method_layer (λ ls. (forms h.state.items ≡ items_of ls) × Good p h.typing h.state.cells ls) h.frame h.below h.typed.layers
       (sym h.typed.tasks ∙ h.top) (h.typed.items, h.typed.good) (λ sh ls rest good.
-      let at : At p h.typing h.state h.frame sh ls = record { tasks = h.top ∙ ap (λ us. Run h.frame ∷ us) (sym rest); items = good.0; undos = h.typed.undos; good = good.1 } in
+      let at : At p h.typing h.state h.frame sh ls =
+      record { tasks = h.top ∙ ap (λ us. Run h.frame ∷ us) (sym rest); items = good.0; undos = h.typed.undos; good = good.1 } in
       let it = of_object p h.typing (main_of_none p h.wired) c h.state h.frame sh ls at (active_listed (own_kind p h.frame.method) active) in
       let of_it : own_request h.state.cells h.frame.home ≡ requested h.state.cells it.object.name = ap (own_request h.state.cells) it.home in
       let phase = being_cancelled (own_kind p h.frame.method) _ _ active (ap (λ b. b || (states_claim p it.object ls).cancelled) plays) it.suits in
@@ -108,7 +111,8 @@ module _ (p : Image) (m : Parts) (h : At_hand p m) where
         runs,
         subst (Lives m.cells) (sym it.number) (ap is_some (cell_of p m.cells h.state.cells n it.object h.agrees.cells it.lives it.cell).1),
         grind (arith, nat_tests, told_cancelling m.active),
-        ap (λ k. is_pending (request_at m.active.table k)) it.number ∙ told_over m.active (requested h.state.cells) (queued p h.state.cells) stands n it.request it.own it.over,
+        ap (λ k. is_pending (request_at m.active.table k)) it.number
+            ∙ told_over m.active (requested h.state.cells) (queued p h.state.cells) stands n it.request it.own it.over,
       )
 
 -- what the active objects are asked for as a method returns
@@ -164,7 +168,8 @@ module _ (p : Image) (m : Parts) (h : At_hand p m) where
   no_cell lives none = let clash : true ≡ false = sym lives ∙ ap (λ n. is_some (cell_at m.cells n)) none ∙ ap is_some h.agrees.cells.null_is_none in cc
 
   -- the requests that the active objects stand for then
-  ended_requests : (act : Active) (role : Role) → method_role p h.frame.method ≡ Some role → IsCancelled role m → EndsCancel role m.active act (this m) → SameRequests p act then
+  ended_requests : (act : Active) (role : Role) → method_role p h.frame.method ≡ Some role → IsCancelled role m →
+      EndsCancel role m.active act (this m) → SameRequests p act then
   ended_requests act Cancel plays was ends =
       subst (λ b. SameRequests p act (cond b (rerequested cells h.frame.home taken) cells)) (sym (ap is_cancel plays)) (go h.frame.home refl)
     where
@@ -174,7 +179,8 @@ module _ (p : Image) (m : Parts) (h : At_hand p m) where
       go (Inside o from) is =
           let number : this m ≡ o.name = number_is p m h ∙ ap home_number is in
           let stands = h.agrees.requests.stands in
-          let phase = sym (told_cancelling m.active (requested cells) (queued p cells) stands o.name) ∙ ap (λ n. is_being_cancelled (request_at m.active.table n)) (sym number) ∙ was.2 in
+          let phase = sym (told_cancelling m.active (requested cells) (queued p cells) stands o.name)
+          ∙ ap (λ n. is_being_cancelled (request_at m.active.table n)) (sym number) ∙ was.2 in
           let request = in_one is_cancelling (requested cells o.name) phase in
           let after = subst (λ n. StandsFor act (asked_anew n (Some (cancelled request.0)) (requested cells)) (queued p cells)) number
           (ends.stands (requested cells) (queued p cells) request.0 stands (ap (requested cells) number ∙ request.1)) in
@@ -190,7 +196,8 @@ module _ (p : Image) (m : Parts) (h : At_hand p m) where
     cells = ended_heap;
     entries = h.agrees.entries;
     requests = ended_requests act over.role (ap (method_role p) (sym (method_is p m h)) ∙ over.plays) over.was over.ends;
-    natives = by_ended (λ cs. SameNatives p m.sessions cs h.state.killed) h.agrees.natives (λ n r. natives_asked p m.sessions h.state.killed cells n r h.agrees.natives);
+    natives = by_ended (λ cs. SameNatives p m.sessions cs h.state.killed) h.agrees.natives
+        (λ n r. natives_asked p m.sessions h.state.killed cells n r h.agrees.natives);
     services = services_ended p h.frame cells (housed p m h) h.agrees.services;
     rest = h.agrees.rest;
     room = h.agrees.room;

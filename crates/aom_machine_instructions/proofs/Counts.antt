@@ -94,7 +94,8 @@ module _ (p : Image) (t : Typing) (depth : ℕ → ℕ) (cs : List Cell) (items 
   few_tasks back (Dying o ∷ Unwinding code es ∷ ls) s r = let few = few_tasks Leaves ls s.2.1 r.1 in omega (arith, few)
   few_tasks back (Dying o ∷ Dispatching d seats ∷ ls) s r = grind (arith, nat_tests)
   few_tasks back (Dying o ∷ Ending x left ∷ Dying y ∷ []) s r = omega arith
-  few_tasks back (Dying o ∷ Ending x left ∷ Dying y ∷ Method fr sh ∷ ls) s r = let few = few_tasks (Returns fr.method fr.home) ls s.2.3.2.4 r.1.1.1.1 in omega (arith, few)
+  few_tasks back (Dying o ∷ Ending x left ∷ Dying y ∷ Method fr sh ∷ ls) s r = let few =
+      few_tasks (Returns fr.method fr.home) ls s.2.3.2.4 r.1.1.1.1 in omega (arith, few)
   few_tasks back (Dying o ∷ Ending x left ∷ Dying y ∷ Unwinding code es ∷ ls) s r = let few = few_tasks Leaves ls s.2.3.2.1 r.1.1.1 in omega (arith, few)
   few_tasks back (Dying o ∷ Ending x left ∷ Dying y ∷ Dispatching d seats ∷ ls) s r = grind (arith, nat_tests)
   few_tasks back (Ending x left ∷ Dying y ∷ []) s r = omega arith
@@ -108,7 +109,8 @@ module _ (p : Image) (t : Typing) (depth : ℕ → ℕ) (cs : List Cell) (items 
 pub tasks_at_hand : (p : Image) (t : Typing) (depths : HasDepths p) (heights : ℕ → ℕ) (s : State) →
     WellTyped p t s → IsCalm p s.tasks → HasRoom p (at 0 depths.depths) heights s → length s.tasks ≤ 1036
 tasks_at_hand p t depths heights s w is_calm room =
-    let few = few_tasks p t (at 0 depths.depths) s.cells s.items Now w.layers w.good.stack (subst (AllRunUnder p (at 0 depths.depths) s.cells s.items) w.tasks room.runs) in
+    let few = few_tasks p t (at 0 depths.depths) s.cells s.items Now w.layers w.good.stack
+    (subst (AllRunUnder p (at 0 depths.depths) s.cells s.items) w.tasks room.runs) in
     let methods = few_methods (at 0 depths.depths) depths.are.within (tasks_of w.layers) (subst (AllUnder (at 0 depths.depths)) w.tasks room.under) in
     let one = one_unwinds p (tasks_of w.layers) (calm_below p (tasks_of w.layers) (subst (IsCalm p) w.tasks is_calm)) in
     let same = ap length w.tasks in
@@ -142,8 +144,10 @@ marks_at_hand p t wired typed strongest depths heights s fr ts w same room targe
     let h = stands_here p t s fr ts w same in
     let all = subst (AllUnder (at 0 depths.depths)) same room.under in
     let few = few_under (at 0 depths.depths) depths.are.within (at 0 depths.depths fr.method) ts (depths.are.within fr.method) all.0 all.1 in
-    let one = (depths.are.each m (wired.trapped fr.method fr.place target m first x here).there).most 1 (alone (wired.trapped fr.method fr.place target m first x here).there) in
-    let less = may_call p t (at 0 depths.depths) (at 0 heights.heights) (tables_of p t wired strongest depths heights) fr h.shape h.there (Trap target m first x) m here (inl refl) in
+    let one = (depths.are.each m (wired.trapped fr.method fr.place target m first x here).there).most 1
+    (alone (wired.trapped fr.method fr.place target m first x here).there) in
+    let less = may_call p t (at 0 depths.depths) (at 0 heights.heights) (tables_of p t wired strongest depths heights) fr h.shape h.there
+    (Trap target m first x) m here (inl refl) in
     omega (arith, few, one, less, marks_under p t s fr ts w same)
 
 -- ---- entries

@@ -64,9 +64,10 @@ module _ (p : Image) (formed : WellFormed p) (m : Parts) (t : Typing) (s : State
       let aside = aside_moved p m s from (Going (length ts)) agrees refl refl in
       let v : State = record s { cells = moved from (Going (length ts)) s.cells; items = js } in
       begins p mid v us ts n (class_at m.cells n) o (length js) name (subst (λ i. i < 4096) (sym name) (object_small p m s formed agrees o lives cell))
-      (ap (λ i. is_server_class p (class_at m.cells i)) name ∙ server_same p m s agrees o lives cell) (ap (λ i. destructor_at p m.cells i) name ∙ destructor_same p m s agrees o lives cell)
-      agrees.tasks (aside_with p m (record s { cells = v.cells }) mid.entries js aside same agrees.entry_room)
-      (dying_shows p mid v us ts n s.cells from v' (word_at ts) refl old long refl there empty (value_popped us m.cells is (others m) n (length js) even) (λ q. refl))
+      (ap (λ i. is_server_class p (class_at m.cells i)) name ∙ server_same p m s agrees o lives cell)
+      (ap (λ i. destructor_at p m.cells i) name ∙ destructor_same p m s agrees o lives cell)
+      agrees.tasks (aside_with p m (record s { cells = v.cells }) mid.entries js aside same agrees.entry_room) (dying_shows p mid v us ts n s.cells from v'
+      (word_at ts) refl old long refl there empty (value_popped us m.cells is (others m) n (length js) even) (λ q. refl))
 
   -- an operation is run
   operation_runs : (k n k' : ℕ) (w : ℤ) (is : List Machine_item) (js : List Item) → m.entries.items ≡ Holds_operation k n ∷ is → k ≡ k' → cast_signed w32 n ≡ w → SameItems is js
@@ -98,7 +99,8 @@ module _ (p : Image) (formed : WellFormed p) (m : Parts) (t : Typing) (s : State
   pub deals : tops_entry s.items ≡ true → top_is_whole s.cells s.items ≡ true → Agrees p (dealt_with p m) (deals_with p s.items s.tasks s)
   deals some whole = go refl (entries_alike m.entries.items s.items agrees.entries (entry_tops m.entries.items s.items agrees.entries some)) whole
     where
-      go : {is : List Machine_item} {js : List Item} → m.entries.items ≡ is → Entries_alike is js → top_is_whole s.cells js ≡ true → Agrees p (dealing p is m) (deals_with p js s.tasks s)
+      go : {is : List Machine_item} {js : List Item} → m.entries.items ≡ is → Entries_alike is js → top_is_whole s.cells js ≡ true →
+          Agrees p (dealing p is m) (deals_with p js s.tasks s)
       go was (entries_own n is js same) whole = object_goes n is js was same (held s.cells (Entry (length js))) refl whole
       go was (entries_run k n k' w is js which word same) whole = operation_runs k n k' w is js was which word same
 
@@ -109,7 +111,8 @@ module _ (p : Image) (m : Parts) where
 
   pub deletes_whole : IsNext p PopDelete m → TopLives m
   unfolding at_hand
-  deletes_whole next = let n = needs_met p m PopDelete next in top_lives p (counting next.counts m) next.stands.1.typing next.stands.0 next.stands.1.typed next.stands.1.agrees n.1.1.0
+  deletes_whole next = let n = needs_met p m PopDelete next in
+      top_lives p (counting next.counts m) next.stands.1.typing next.stands.0 next.stands.1.typed next.stands.1.agrees n.1.1.0
 
 pub pop_delete_does : (p : Image) (m : Parts) (refused : List ℕ) → DoesIn p refused PopDelete m (dealt_with p m)
 pop_delete_does p m refused h here = plain_at p m _ refused PopDelete refl h (λ c needs typed.

@@ -67,7 +67,12 @@ at_end p t m s typed agrees ending = go refl refl (tops An_end m.stack.tasks end
     go : {ms : List Machine_task} {us : List Task} → m.stack.tasks ≡ ms → s.tasks ≡ us → Tops An_end ms → Alike ms us → AtEnd m s
     go e f (end_on_top x _) (both_end _ d ms ts same rest _) =
         let below = under_dispatch p t s d ts typed f in
-        record { dispatch = x; place = same.0; held = e ∙ ap (λ us. Ends x ∷ us) (none_alike ms ts rest below); state = f ∙ ap (λ us. Dispatched d ∷ us) below ∙ ap (λ y. Dispatched y ∷ []) (sym same.1) }
+        record {
+          dispatch = x;
+          place = same.0;
+          held = e ∙ ap (λ us. Ends x ∷ us) (none_alike ms ts rest below);
+          state = f ∙ ap (λ us. Dispatched d ∷ us) below ∙ ap (λ y. Dispatched y ∷ []) (sym same.1);
+        }
 
 -- who is dispatched lives
 pub seat_lives : (p : Image) (t : Typing) (s : State) →
@@ -76,7 +81,8 @@ seat_lives p t s typed d x top is = dispatch_layer (Good p t s.cells) d [] typed
     (sym typed.tasks ∙ top) typed.good (λ seats ls _ good. sits_lives s.cells seats x good.stack.2 (subst (λ y. SitsFirst s.cells y seats) is good.stack.3))
 
 -- the root's destruction and its destructor find room there
-pub uproot_room : (p : Image) (m : Parts) → Stands (record { image = p; parts = m }) → IsEnding m.stack.tasks → length (below_first m.stack.tasks) + 2 < m.stack.depth
+pub uproot_room : (p : Image) (m : Parts) → Stands (record { image = p; parts = m }) → IsEnding m.stack.tasks →
+    length (below_first m.stack.tasks) + 2 < m.stack.depth
 uproot_room p m st ending = grind (arith, nat_tests, at_end p st.1.typing m st.0 st.1.typed st.1.agrees ending)
 
 pub can_end : (p : Image) (m : Parts) → Stands (record { image = p; parts = m }) → IsEnding m.stack.tasks → CanEnd m
@@ -109,7 +115,8 @@ needs_none q x cs plain = grind arith
 tells_none : (q : Place) (x : Machine_dispatch) (cs : List Cell) → IsPlain x → dispatch_lines cs (dispatch_of q x) ≡ []
 tells_none q x cs plain = grind arith
 
-pub step_of_end : (p : Image) (c : Choice) (s : State) (d : Dispatch) → s.tasks ≡ Dispatched d ∷ [] → step p c s ≡ guarded (needs_end d s.cells) (dispatch_ends p d (at_close s))
+pub step_of_end : (p : Image) (c : Choice) (s : State) (d : Dispatch) → s.tasks ≡ Dispatched d ∷ [] →
+    step p c s ≡ guarded (needs_end d s.cells) (dispatch_ends p d (at_close s))
 step_of_end p c s d top = ap (λ us. step_task p c (counted_by s (asked p us) (is_counted us)) us) top
 
 -- the counts of both sides
@@ -123,7 +130,8 @@ abbrev uprooted_counts : Counters → Counters
 uprooted_counts r = record r { clock = raised r.clock }
 
 -- what is left of a dispatch at its end, on both sides
-module _ (p : Image) (formed : WellFormed p) (m : Parts) (announced : m.rest.announced ≡ true) (t : Typing) (s : State) (typed : WellTyped p t s) (agrees : Agrees p m s) (e : AtEnd m s) where
+module _ (p : Image) (formed : WellFormed p) (m : Parts) (announced : m.rest.announced ≡ true) (t : Typing) (s : State) (typed : WellTyped p t s)
+    (agrees : Agrees p m s) (e : AtEnd m s) where
   abbrev now : Counters
   now = record s.rest { announced = true }
 
@@ -134,14 +142,16 @@ module _ (p : Image) (formed : WellFormed p) (m : Parts) (announced : m.rest.ann
   same_counts f = grind (arith, nat_tests)
 
   -- nothing
-  left_alone : (r r' : Counters) → r ≡ r' → Agrees p (record m { stack = record m.stack { tasks = below_first m.stack.tasks }; rest = r }) (record s { tasks = []; rest = r' })
+  left_alone : (r r' : Counters) → r ≡ r' →
+      Agrees p (record m { stack = record m.stack { tasks = below_first m.stack.tasks }; rest = r }) (record s { tasks = []; rest = r' })
   left_alone r r' same = subst (λ us. Agrees p (record m { stack = record m.stack { tasks = us }; rest = r }) (record s { tasks = []; rest = r' }))
       (sym (ap below_first e.held)) (emptied p m s r r' agrees shut same)
 
   -- but for the root, where there is one and `stop` was run
-  ends_alike : (r r' : Counters) → r ≡ r' → Agrees p (ended_dispatch p (record m { rest = r })) (main_ends p r'.stopped (held s.cells (Elsewhere Root)) (record s { rest = r' }))
-  ends_alike r r' same =
-      subst (λ b. Agrees p (ended_dispatch p old) (main_ends p b (held s.cells (Elsewhere Root)) new)) (ap (λ (q : Counters). q.stopped) same) (go r.stopped (held s.cells (Elsewhere Root)) refl)
+  ends_alike : (r r' : Counters) → r ≡ r' →
+      Agrees p (ended_dispatch p (record m { rest = r })) (main_ends p r'.stopped (held s.cells (Elsewhere Root)) (record s { rest = r' }))
+  ends_alike r r' same = subst (λ b. Agrees p (ended_dispatch p old) (main_ends p b (held s.cells (Elsewhere Root)) new))
+      (ap (λ (q : Counters). q.stopped) same) (go r.stopped (held s.cells (Elsewhere Root)) refl)
     where
       old : Parts
       old = record m { rest = r }
@@ -155,7 +165,8 @@ module _ (p : Image) (formed : WellFormed p) (m : Parts) (announced : m.rest.ann
       go : (stopped : Bool) (root : Option Object) → held s.cells (Elsewhere Root) ≡ root →
           Agrees p (cond (stopped && not (m.root == null)) (uprooted p old) (ends.closed old)) (main_ends p stopped root new)
       go false root is = alone
-      go true None is = subst (λ b. Agrees p (cond (not b) (uprooted p old) (ends.closed old)) (closed new)) (sym (eq-eqb m.root null (agrees.values (Elsewhere Root) ∙ ap number is))) alone
+      go true None is = subst (λ b. Agrees p (cond (not b) (uprooted p old) (ends.closed old)) (closed new))
+          (sym (eq-eqb m.root null (agrees.values (Elsewhere Root) ∙ ap number is))) alone
       go true (Some o) is =
           let name : m.root ≡ o.name = agrees.values (Elsewhere Root) ∙ ap number is in
           let rooted : m.root ≡ null → ⊥ = λ n. not_null p m t s typed agrees (Elsewhere Root) o is (sym name ∙ n) in
@@ -170,7 +181,8 @@ module _ (p : Image) (formed : WellFormed p) (m : Parts) (announced : m.rest.ann
   answered_alike : (answer : ℤ) → Agrees p (ended_answered p answer m) (answered p answer (at_close s))
   answered_alike answer = go (int_eq answer (pos 0))
     where
-      go : (b : Bool) → Agrees p (cond b (ended_dispatch p (ends.handled m)) (ends.failed answer m)) (cond b (object_ends p (at_close s)) (failed answer (at_close s)))
+      go : (b : Bool) →
+          Agrees p (cond b (ended_dispatch p (ends.handled m)) (ends.failed answer m)) (cond b (object_ends p (at_close s)) (failed answer (at_close s)))
       go true = object_alike
       go false = left_alone (failed_counts answer m.rest) (failed_counts answer now) (same_counts (failed_counts answer))
 
@@ -194,7 +206,8 @@ module _ (p : Image) (formed : WellFormed p) (m : Parts) (announced : m.rest.ann
     abbrev ts : List Task
     ts = Dispatched (Asks asked_seat) ∷ []
 
-    at_rest : (q : Place) → Represents (value_in (Ends e.dispatch ∷ []) m.cells m.entries.items (others m) q) (word_at (Dispatched (dispatch_of e.place e.dispatch) ∷ []) q) (held s.cells q)
+    at_rest : (q : Place) → Represents (value_in (Ends e.dispatch ∷ []) m.cells m.entries.items (others m) q)
+        (word_at (Dispatched (dispatch_of e.place e.dispatch) ∷ []) q) (held s.cells q)
     at_rest q = grind (arith, nat_tests, held s.cells q)
 
     base : (q : Place) → Represents (value_in (Runs_frame f ∷ us) m.cells m.entries.items (others m) q) (word_at (Run fr ∷ ts) q) (held s.cells q)
@@ -215,8 +228,11 @@ module _ (p : Image) (formed : WellFormed p) (m : Parts) (announced : m.rest.ann
         let n = cast_unsigned w32 code in
         let here = Register 1 0 in
         agrees_with p m (at_close s) (Runs_frame (with_register 0 n f) ∷ us) (Run (error_frame k asked_seat code (length s.items)) ∷ ts)
-        (aside_counted p m s m.rest (at_close s).rest (aside_of p m s agrees) (same_counts (λ r. r)))
-        (reframed f fr (slice_set f.registers 0 n) (Some code ∷ []) 0 0 (begun_frame k x.number home (length s.items) refl (λ there. object_small p m s formed agrees (subject_of x) sits refl)) (length-set f.registers 0 n ∙ length-replicate 16 null) refl, ((e.place, refl), tt))
+        (aside_counted p m s m.rest (at_close s).rest (aside_of p m s agrees) (same_counts (λ r. r))) (
+          reframed f fr (slice_set f.registers 0 n) (Some code ∷ []) 0 0 (begun_frame k x.number home (length s.items) refl
+              (λ there. object_small p m s formed agrees (subject_of x) sits refl)) (length-set f.registers 0 n ∙ length-replicate 16 null) refl,
+          ((e.place, refl), tt),
+        )
         (writes _ _ _ _ (held s.cells) _ here n (Some code) None base (to_z-of_z w32 code fits)
         (value_written f us m.cells m.entries.items (others m) 1 0 n 0 refl (let wide = length-replicate 16 null in omega arith))
         (word_written fr ts 0 0 (Some code)) (λ q. kept (held s.cells) here q ∙ ap (λ o. changed (held s.cells) here o q) (shut.registers 1 0)))
@@ -245,7 +261,8 @@ module _ (p : Image) (m : Parts) (told : LineBuffer) (announced : m.rest.announc
   main_moves is = by_end _ Main tt is (λ t s formed typed agrees e. ends_alike p formed m announced t s typed agrees e m.rest
       (now p formed m announced t s typed agrees e) (same_counts p formed m announced t s typed agrees e (λ r. r)))
 
-  pub over_moves : ending_here m.stack.tasks ≡ Some End_of_run → Moves p m told told (record m { stack = record m.stack { tasks = below_first m.stack.tasks }; rest = over_counts m.rest })
+  pub over_moves : ending_here m.stack.tasks ≡ Some End_of_run →
+      Moves p m told told (record m { stack = record m.stack { tasks = below_first m.stack.tasks }; rest = over_counts m.rest })
   over_moves is = by_end _ End_of_run tt is (λ t s formed typed agrees e. left_alone p formed m announced t s typed agrees e
       (over_counts m.rest) _ (same_counts p formed m announced t s typed agrees e over_counts))
 
@@ -260,10 +277,13 @@ module _ (p : Image) (m : Parts) (told : LineBuffer) (announced : m.rest.announc
   pub asks_moves : (x : Subject) → ending_here m.stack.tasks ≡ Some (One_asks x) → Moves p m told told (ended_dispatch p (ends.handled m))
   asks_moves x is = by_end _ (One_asks x) tt is (λ t s formed. object_alike p formed m announced t s)
 
-  pub object_left_moves : (x : Subject) (code : ℤ) → FitsSigned w32 code → ending_here m.stack.tasks ≡ Some (One_left x code) → Moves p m told told (ends.asking p (role_of p x.class Answers) x code m)
+  pub object_left_moves : (x : Subject) (code : ℤ) → FitsSigned w32 code → ending_here m.stack.tasks ≡ Some (One_left x code) →
+      Moves p m told told (ends.asking p (role_of p x.class Answers) x code m)
   object_left_moves x code fits is = by_end _ (One_left x code) tt is (λ t s formed typed agrees e.
-      let at : s.tasks ≡ Dispatched (Object_left (seat_of e.place x) code) ∷ [] = e.state ∙ ap (λ y. Dispatched (dispatch_of e.place y) ∷ []) (which m s e (One_left x code) is) in
-      asking_alike p formed m announced t s typed agrees e (role_of p x.class Answers) x code (seat_lives p t s typed (Object_left (seat_of e.place x) code) (seat_of e.place x) at refl) fits)
+      let at : s.tasks ≡ Dispatched (Object_left (seat_of e.place x) code) ∷ [] =
+      e.state ∙ ap (λ y. Dispatched (dispatch_of e.place y) ∷ []) (which m s e (One_left x code) is) in
+      asking_alike p formed m announced t s typed agrees e (role_of p x.class Answers) x code
+      (seat_lives p t s typed (Object_left (seat_of e.place x) code) (seat_of e.place x) at refl) fits)
 
   pub answered_moves : (x : Subject) (answer : ℤ) → ending_here m.stack.tasks ≡ Some (One_answered x answer) → Moves p m told told (ended_answered p answer m)
   answered_moves x answer is = by_end _ (One_answered x answer) tt is (λ t s formed typed agrees e. answered_alike p formed m announced t s typed agrees e answer)

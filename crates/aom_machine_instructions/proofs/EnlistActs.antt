@@ -115,7 +115,10 @@ enlist_free p m priority next =
     let n = needs_met p m (Enlist priority) next in
     let x = finds_object p m (Enlist priority) next (λ c fr ts s n. n.0) in
     let none = sym (own_told p _ _ x) ∙ free _ n.1.1.0 in
-    record { nowhere = λ k within. false≢true (sym (next.stands.1.agrees.services.listed.there (this m) k ∙ ap (λ o. lists p k o (requested next.stands.0.cells (this m))) (named_here p _ _ x) ∙ ap (lists p k (Some x.object)) none) ∙ among_in (list_at m.listed k) (this m) within) }
+    record {
+      nowhere = λ k within. false≢true (sym (next.stands.1.agrees.services.listed.there (this m) k ∙ ap (λ o. lists p k o (requested next.stands.0.cells (this m)))
+          (named_here p _ _ x) ∙ ap (lists p k (Some x.object)) none) ∙ among_in (list_at m.listed k) (this m) within);
+    }
 
 -- ---- the instruction
 
@@ -138,13 +141,18 @@ module _ (p : Image) (m : Parts) (h : At_hand p m) (x : OnObject p m h) (priorit
   services_enlisted t listed =
       let same = h.agrees.services in
       let ds = set_request x.object.name (Some r) cs in
-      subst (λ home. SameServices p m.clients m.messages m.tokens t (rerequested cs home (Some r)) h.state.clients) (sym x.home)
-      (record { clients = same_still m.clients cs ds h.state.clients (still_requested cs x.object.name (Some r)) same.clients; sized = same.sized; messages = messages_asked p m.messages cs x.object.name (Some r) same.messages; tokens = tokens_enlisted; listed = listed same.listed })
+      subst (λ home. SameServices p m.clients m.messages m.tokens t (rerequested cs home (Some r)) h.state.clients) (sym x.home) (record {
+        clients = same_still m.clients cs ds h.state.clients (still_requested cs x.object.name (Some r)) same.clients;
+        sized = same.sized;
+        messages = messages_asked p m.messages cs x.object.name (Some r) same.messages;
+        tokens = tokens_enlisted;
+        listed = listed same.listed;
+      })
     where
       -- it waits for no token before and after
       tokens_enlisted : SameTokens p m.tokens (set_request x.object.name (Some r) cs)
-      tokens_enlisted =
-          tokens_still p m.tokens cs (set_request x.object.name (Some r) cs) (λ n. ap awaited (sym (asked_set cs x.object.name (Some r) (ap is_some x.lives) n)) ∙ go n (x.object.name == n) refl)
+      tokens_enlisted = tokens_still p m.tokens cs (set_request x.object.name (Some r) cs)
+          (λ n. ap awaited (sym (asked_set cs x.object.name (Some r) (ap is_some x.lives) n)) ∙ go n (x.object.name == n) refl)
           (λ k. ap (λ (v : Service). v.token) (service_asked cs x.object.name (Some r) (message_name k))) h.agrees.services.tokens
         where
           go : (n : ℕ) (b : Bool) → (x.object.name == n) ≡ b → awaited (cond b (Some r) (requested cs n)) ≡ awaited (requested cs n)
@@ -159,11 +167,12 @@ module _ (p : Image) (m : Parts) (refused : List ℕ) (a : Active) (priority : �
       let none = sym (own_told p m h x ∙ ap (requested h.state.cells) x.number) ∙ free _ met.1.0 in
       let is = serving_told p m h x priority none ∙ plain in
       asks_on p m h a m.tokens m.listed (Some (first_request h.state.cells priority))
-      (requests_enlisted p m h x a priority None (queue_told p m h x priority none false is) enlists)
-      (services_enlisted p m h x priority none m.listed (listed_plain p m.listed h.state.cells x.object (first_request h.state.cells priority) x.lives none is)))
+      (requests_enlisted p m h x a priority None (queue_told p m h x priority none false is) enlists) (services_enlisted p m h x priority none m.listed
+      (listed_plain p m.listed h.state.cells x.object (first_request h.state.cells priority) x.lives none is)))
 
-  pub enlist_server_does : (class : ℕ) → class_at m.cells (this m) ≡ Some class → is_server_class p (Some class) ≡ true → class < 256 → Enlists m.active a (this m) priority (Some false)
-      → DoesIn p refused (Enlist priority) m (places.next (record m { active = a; listed = with_list class (list_at m.listed class ++ this m ∷ []) m.listed }))
+  pub enlist_server_does : (class : ℕ) →
+      class_at m.cells (this m) ≡ Some class → is_server_class p (Some class) ≡ true → class < 256 → Enlists m.active a (this m) priority (Some false) →
+      DoesIn p refused (Enlist priority) m (places.next (record m { active = a; listed = with_list class (list_at m.listed class ++ this m ∷ []) m.listed }))
   enlist_server_does class told serves small enlists h at_it = plain_at p m _ refused (Enlist priority) refl h (λ c met typed.
       let x = on_object p m h met.0 in
       let none = sym (own_told p m h x ∙ ap (requested h.state.cells) x.number) ∙ free _ met.1.0 in

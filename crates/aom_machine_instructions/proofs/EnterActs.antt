@@ -86,7 +86,8 @@ going_kept x f f' g ms k = grind arith
 
 -- ---- the arguments go over one after the other
 
-module _ (p : Image) (trapped : Bool) (heap : Heap) (es : List Item) (rest : Others) (ms : List Machine_task) (ts : List Task) (fr cal : Frame) (s : State) (deep : length ms ≡ length ts) where
+module _ (p : Image) (trapped : Bool) (heap : Heap) (es : List Item) (rest : Others) (ms : List Machine_task) (ts : List Task) (fr cal : Frame) (s : State)
+    (deep : length ms ≡ length ts) where
   abbrev pub lower : ℕ → Place
   lower i = Register (length ts) i
 
@@ -129,21 +130,20 @@ module _ (p : Image) (trapped : Bool) (heap : Heap) (es : List Item) (rest : Oth
   lower_value f g i =
       let above = high in
       let even = even_tops f in
-      past_called f g (length ts) i
-      ∙ ap (λ b. cond b (slice_index_or g.registers i null) (register_in (Runs_frame f ∷ ms) (length ts) i)) (ne_eqb (length (held_tops f)) (length ts) (λ e. absurd (omega arith)))
-      ∙ value_here f ms heap es rest (length ts) i deep
+      past_called f g (length ts) i ∙ ap (λ b. cond b (slice_index_or g.registers i null) (register_in (Runs_frame f ∷ ms) (length ts) i))
+      (ne_eqb (length (held_tops f)) (length ts) (λ e. absurd (omega arith))) ∙ value_here f ms heap es rest (length ts) i deep
 
   lower_word : (c : Frame) (i : ℕ) → word_at (Run c ∷ tops) (lower i) ≡ word fr i
   lower_word c i = grind (arith, nat_tests, high, ne_eqb, over_word trapped (Run fr ∷ ts), eq-eqb)
 
   -- the register of the caller is null from then on
-  lower_written : (f g : Machine_frame) (i : ℕ) → i < length f.registers → (r : Place)
-      → value_in (Runs_frame g ∷ held_tops (record f { registers = slice_set f.registers i null })) heap es rest r ≡ changed (value_in (Runs_frame g ∷ held_tops f) heap es rest) (lower i) null r
+  lower_written : (f g : Machine_frame) (i : ℕ) → i < length f.registers → (r : Place) → value_in (Runs_frame g ∷ held_tops
+      (record f { registers = slice_set f.registers i null })) heap es rest r ≡ changed (value_in (Runs_frame g ∷ held_tops f) heap es rest) (lower i) null r
   lower_written f g i small (Going k) = going_kept trapped f (record f { registers = slice_set f.registers i null }) g ms k
   lower_written f g i small (Register e j) =
       let f' = record f { registers = slice_set f.registers i null } in
-      past_called f' g e j ∙ ap (λ n. cond (n == e) (slice_index_or g.registers j null) (register_in (Runs_frame f' ∷ ms) e j)) (same_tops f' f)
-      ∙ ap (λ n. cond (length (held_tops f) == e) (slice_index_or g.registers j null) n) (value_written f ms heap es rest (length ts) i null f.place deep small (Register e j))
+      past_called f' g e j ∙ ap (λ n. cond (n == e) (slice_index_or g.registers j null) (register_in (Runs_frame f' ∷ ms) e j)) (same_tops f' f) ∙ ap (λ n. cond
+      (length (held_tops f) == e) (slice_index_or g.registers j null) n) (value_written f ms heap es rest (length ts) i null f.place deep small (Register e j))
       ∙ go (length (held_tops f) == e) refl ∙ ap (λ x. cond ((length ts == e) && (i == j)) null x) (sym (past_called f g e j))
     where
       go : (b : Bool) → (length (held_tops f) == e) ≡ b
@@ -166,8 +166,10 @@ module _ (p : Image) (trapped : Bool) (heap : Heap) (es : List Item) (rest : Oth
       → value_in (Runs_frame (with_register to n g) ∷ held_tops f) heap es rest r ≡ changed (value_in (Runs_frame g ∷ held_tops f) heap es rest) (upper to) n r
   upper_written f g to n small = value_written g (held_tops f) heap es rest (length tops) to n g.place (even_tops f) small
 
-  called_on : (g : Machine_frame) (ws : List (Option ℤ)) (to n : ℕ) (w : Option ℤ) → SameFrame g (with_words ws) → SameFrame (with_register to n g) (with_words (ws ++ w ∷ []))
-  called_on g ws to n w same = let wide = same.wide in reframed g (with_words ws) (slice_set g.registers to n) (ws ++ w ∷ []) g.place cal.place same (length-set g.registers to n ∙ wide) same.place
+  called_on : (g : Machine_frame) (ws : List (Option ℤ)) (to n : ℕ) (w : Option ℤ) → SameFrame g (with_words ws) →
+      SameFrame (with_register to n g) (with_words (ws ++ w ∷ []))
+  called_on g ws to n w same = let wide = same.wide in
+      reframed g (with_words ws) (slice_set g.registers to n) (ws ++ w ∷ []) g.place cal.place same (length-set g.registers to n ∙ wide) same.place
 
   -- a word, which owns nothing
   word_alone : (n : ℕ) (w : Option ℤ) (o : Option Object) → is_some w ≡ true → Represents n w o → Represents n w None
@@ -190,8 +192,9 @@ module _ (p : Image) (trapped : Bool) (heap : Heap) (es : List Item) (rest : Oth
       }
 
   -- an object, which leaves null
-  object_goes : (f g : Machine_frame) (cs : List Cell) (ws : List (Option ℤ)) (first to : ℕ) → to < 16 → first < 16 → word fr first ≡ None → Passing f g cs ws to
-      → Passing (with_register first null f) (with_register to (slice_index_or f.registers first null) g) (moved (lower first) (upper to) cs) (ws ++ None ∷ []) (suc to)
+  object_goes : (f g : Machine_frame) (cs : List Cell) (ws : List (Option ℤ)) (first to : ℕ) → to < 16 → first < 16 →
+      word fr first ≡ None → Passing f g cs ws to → Passing (with_register first null f) (with_register to (slice_index_or f.registers first null) g)
+      (moved (lower first) (upper to) cs) (ws ++ None ∷ []) (suc to)
   object_goes f g cs ws first to small low none passing =
       let wide = passing.called.wide in
       let broad = passing.caller.wide in
@@ -200,15 +203,15 @@ module _ (p : Image) (trapped : Bool) (heap : Heap) (es : List Item) (rest : Oth
       let there = passing.free to (omega arith) in
       let above = high in
       record {
-        values = moves v _ (word_at (Run (with_words ws) ∷ tops)) _ (held cs) _ (lower first) (upper to) passing.values (lower_word (with_words ws) first ∙ none)
-            (λ r. upper_written (with_register first null f) g to n (omega arith) r
-            ∙ ap (λ x. cond (same_place (upper to) r) n x) (lower_written f g first (omega arith) r)
-            ∙ ap (λ x. changed (changed v (lower first) null) (upper to) x r) (sym (lower_value f g first))) (words_put ws to None passing.even)
-            (λ r. held_moved cs (lower first) (upper to) r there);
+        values = moves v _ (word_at (Run (with_words ws) ∷ tops)) _ (held cs) _ (lower first) (upper to) passing.values (lower_word (with_words ws) first
+            ∙ none) (λ r. upper_written (with_register first null f) g to n (omega arith) r ∙ ap (λ x. cond (same_place (upper to) r) n x)
+            (lower_written f g first (omega arith) r) ∙ ap (λ x. changed (changed v (lower first) null) (upper to) x r) (sym (lower_value f g first)))
+            (words_put ws to None passing.even) (λ r. held_moved cs (lower first) (upper to) r there);
         cells = cells_moved p heap cs (lower first) (upper to) passing.cells;
         free = grind (arith, nat_tests, held_moved cs, ne_eqb to);
         even = length_more {A = Option ℤ} ws None ∙ ap suc passing.even;
-        caller = reframed f fr (slice_set f.registers first null) fr.words f.place fr.place passing.caller (length-set f.registers first null ∙ broad) passing.caller.place;
+        caller = reframed f fr (slice_set f.registers first null) fr.words f.place fr.place passing.caller
+            (length-set f.registers first null ∙ broad) passing.caller.place;
         called = called_on g ws to n None passing.called;
       }
     where
@@ -216,9 +219,10 @@ module _ (p : Image) (trapped : Bool) (heap : Heap) (es : List Item) (rest : Oth
       aside x y z = grind arith
 
   all_go : (xs : List Argument) (first to : ℕ) (f g : Machine_frame) (cs : List Cell) (ws : List (Option ℤ)) →
-      (first + length xs) ≤ 16 → (to + length xs) ≤ 16 → AllTrue (needs_each p fr ts s xs first) → Passing f g cs ws to
-      → Passing (passed_on xs first f) (given xs first to f g) (passed_cells p fr ts s (length tops) xs first to cs) (ws ++ passed_words p fr ts s xs first) (to + length xs)
-  all_go [] first to f g cs ws low small needs passing = subst (λ n. Passing f g cs (ws ++ []) n) (let n = zero in omega arith) (subst (λ vs. Passing f g cs vs to) (sym (append-nil ws)) passing)
+      (first + length xs) ≤ 16 → (to + length xs) ≤ 16 → AllTrue (needs_each p fr ts s xs first) → Passing f g cs ws to → Passing (passed_on xs first f)
+      (given xs first to f g) (passed_cells p fr ts s (length tops) xs first to cs) (ws ++ passed_words p fr ts s xs first) (to + length xs)
+  all_go [] first to f g cs ws low small needs passing =
+      subst (λ n. Passing f g cs (ws ++ []) n) (let n = zero in omega arith) (subst (λ vs. Passing f g cs vs to) (sym (append-nil ws)) passing)
   all_go (Takes_word ∷ xs) first to f g cs ws low small needs passing =
       let n = slice_index_or f.registers first null in
       let rest = all_go xs (suc first) (suc to) f (with_register to n g) cs
@@ -264,7 +268,8 @@ home_of p m h (On_entry e) k class first count needs = grind (arith, nat_tests, 
 
 -- and it is no message
 module _ (p : Image) (m : Parts) (h : At_hand p m) (class : Option ℕ) where
-  worked_small : (class : Option ℕ) (o : Option Object) (q : Place) → held h.state.cells q ≡ o → is_worked_on p class o ≡ true → home_number (home_at o q) ≢ null → home_number (home_at o q) < 4096
+  worked_small : (class : Option ℕ) (o : Option Object) (q : Place) → held h.state.cells q ≡ o → is_worked_on p class o ≡ true →
+      home_number (home_at o q) ≢ null → home_number (home_at o q) < 4096
   worked_small x y q e worked there = grind (arith, nat_tests, object_small p m h.state h.formed h.agrees, held_lives h.state.cells q, object_for p)
 
   home_small : (target : Target) (k first count : ℕ) → AllTrue (needs_target p h.frame h.below h.state target k class first count) →
@@ -274,7 +279,8 @@ module _ (p : Image) (m : Parts) (h : At_hand p m) (class : Option ℕ) where
 housed_by : (p : Image) (m : Parts) (h : At_hand p m) (target : Target) (k : ℕ) (class : Option ℕ) (first count : ℕ) →
     AllTrue (needs_target p h.frame h.below h.state target k class first count) → target_here target class m ≡ home_number
     (target_home p h.frame h.below h.state target class) → target_here target class m ≢ null → target_here target class m < 4096
-housed_by p m h target k class first count needs home there = subst (λ n. n < 4096) (sym home) (home_small p m h class target k first count needs (λ none. there (home ∙ none)))
+housed_by p m h target k class first count needs home there =
+    subst (λ n. n < 4096) (sym home) (home_small p m h class target k first count needs (λ none. there (home ∙ none)))
 
 -- ---- what the call runs
 
@@ -292,22 +298,24 @@ module _ (p : Image) (m : Parts) (h : At_hand p m) where
   view_told x class = grind (arith, nat_tests, by_top p m h)
 
   -- what it works on is there, and is no message
-  owned_there :
-      (class : Option ℕ) (x : Option Object) (q : Place) → held h.state.cells q ≡ x → is_worked_on p class x ≡ true → (o : Object) (from : Place) → home_at x q ≡ Inside o from →
-      (named h.state.cells o.name ≡ Some o) × (is_object o.thing ≡ true)
+  owned_there : (class : Option ℕ) (x : Option Object) (q : Place) → held h.state.cells q ≡ x → is_worked_on p class x ≡ true → (o : Object) (from : Place) →
+      home_at x q ≡ Inside o from → (named h.state.cells o.name ≡ Some o) × (is_object o.thing ≡ true)
   owned_there class None q at worked o from e = cc
   owned_there None (Some x) q at worked o from e = absurd (false≢true worked)
   owned_there (Some c) (Some x) q at worked o from e =
       grind (arith, nat_tests, held_lives h.state.cells q x h.typed.good.tidy at, object_for p x.thing c worked)
 
-  target_there :
-      (target : Target) (k : ℕ) (class : Option ℕ) (first count : ℕ) → AllTrue (needs_target p h.frame h.below h.state target k class first count) → (o : Object) (from : Place) →
+  target_there : (target : Target) (k : ℕ) (class : Option ℕ) (first count : ℕ) → AllTrue (needs_target p h.frame h.below h.state target k class first count) →
+      (o : Object) (from : Place) →
       target_home p h.frame h.below h.state target class ≡ Inside o from → (named h.state.cells o.name ≡ Some o) × (is_object o.thing ≡ true)
   target_there This k None first count needs o from e = cc
   target_there This k (Some c) first count needs o from e = (housed p m h o from e, inside_object p m h o from e)
-  target_there (On_register r) k class first count needs o from is = owned_there class (held h.state.cells (Register (length h.below) r)) (Register (length h.below) r) refl needs.1.1.0 o from is
-  target_there (On_field g) k class first count needs o from is = owned_there class (held h.state.cells (field_place h.frame.home g)) (field_place h.frame.home g) refl needs.1.1.0 o from is
-  target_there (On_entry e) k class first count needs o from is = owned_there class (held h.state.cells (entry_place h.state.items e)) (entry_place h.state.items e) refl needs.1.1.1.0 o from is
+  target_there (On_register r) k class first count needs o from is =
+      owned_there class (held h.state.cells (Register (length h.below) r)) (Register (length h.below) r) refl needs.1.1.0 o from is
+  target_there (On_field g) k class first count needs o from is =
+      owned_there class (held h.state.cells (field_place h.frame.home g)) (field_place h.frame.home g) refl needs.1.1.0 o from is
+  target_there (On_entry e) k class first count needs o from is =
+      owned_there class (held h.state.cells (entry_place h.state.items e)) (entry_place h.state.items e) refl needs.1.1.1.0 o from is
 
   -- what counts as a class is an object
   of_home : (home : Home) (v : ℕ) → home_view home ≡ Some v → (c : ℕ) × (home_holder home ≡ Member c)
@@ -328,13 +336,14 @@ module _ (p : Image) (m : Parts) (h : At_hand p m) where
   target_counts (On_entry x) class v e = of_home (target_home p h.frame h.below h.state (On_entry x) class) v e
 
   -- the table tells the same of the cell
-  unviewed : (k : ℕ) (home : Home) → ((c : ℕ) → home_holder home ≡ Member c → ⊥) → (view : Option ℕ) → ((v : ℕ) → view ≡ Some v → (c : ℕ) × (home_holder home ≡ Member c)) → k ≡ body_of p k view
+  unviewed : (k : ℕ) (home : Home) → ((c : ℕ) → home_holder home ≡ Member c → ⊥) → (view : Option ℕ) →
+      ((v : ℕ) → view ≡ Some v → (c : ℕ) × (home_holder home ≡ Member c)) → k ≡ body_of p k view
   unfolding body_of
   unviewed k home none x counts = grind arith
 
-  body_by_home :
-      (k : ℕ) (home : Home) (v : View) (view : Option ℕ) → viewed v home ≡ view → ((v : ℕ) → view ≡ Some v → (c : ℕ) × (home_holder home ≡ Member c)) →
-      ((o : Object) (from : Place) → home ≡ Inside o from → (named h.state.cells o.name ≡ Some o) × (is_object o.thing ≡ true)) → body_on p k (home_number home) v m.cells ≡ body_of p k view
+  body_by_home : (k : ℕ) (home : Home) (v : View) (view : Option ℕ) →
+      viewed v home ≡ view → ((v : ℕ) → view ≡ Some v → (c : ℕ) × (home_holder home ≡ Member c)) → ((o : Object) (from : Place) → home ≡ Inside o from →
+      (named h.state.cells o.name ≡ Some o) × (is_object o.thing ≡ true)) → body_on p k (home_number home) v m.cells ≡ body_of p k view
   body_by_home k Static v view same counts there = grind (arith, nat_tests, eq-eqb, unviewed k Static)
   body_by_home k AtRoot v view same counts there = grind (arith, nat_tests, eq-eqb, unviewed k AtRoot)
   body_by_home k (Inside o from) v view same counts there =
@@ -344,8 +353,8 @@ module _ (p : Image) (m : Parts) (h : At_hand p m) where
       ∙ ap (λ y. body_of p k (or_else (class_above v) y)) (class_viewed (cell_at m.cells o.name) o.thing (object_class p m h.state h.agrees o x.0 x.1))
       ∙ ap (body_of p k) same
 
-  body_told : (target : Target) (k first count : ℕ) → AllTrue (needs_target p h.frame h.below h.state target k (method_class p k) first count) →
-      body_on p k (target_here target (method_class p k) m) (view_of target (method_class p k) m.stack.tasks) m.cells ≡ run_by p h.frame h.below h.state target k
+  body_told : (target : Target) (k first count : ℕ) → AllTrue (needs_target p h.frame h.below h.state target k (method_class p k) first count) → body_on p k
+      (target_here target (method_class p k) m) (view_of target (method_class p k) m.stack.tasks) m.cells ≡ run_by p h.frame h.below h.state target k
   body_told target k first count needs =
       let class = method_class p k in
       ap (λ n. body_on p k n (view_of target class m.stack.tasks) m.cells) (home_of p m h target k class first count needs)
@@ -380,7 +389,8 @@ module _ (p : Image) (m : Parts) (h : At_hand p m) (trapped : Bool) (target : Ta
   body = body_on p k this view m.cells
 
   abbrev called : Frame
-  called = frame_as body (target_home p h.frame h.below h.state target (method_class p k)) (viewed view (target_home p h.frame h.below h.state target (method_class p k))) height
+  called = frame_as body (target_home p h.frame h.below h.state target (method_class p k))
+      (viewed view (target_home p h.frame h.below h.state target (method_class p k))) height
 
   -- the table tells what runs
   runs : AllTrue (needs_target p h.frame h.below h.state target k (method_class p k) first (length xs)) →
@@ -393,8 +403,8 @@ module _ (p : Image) (m : Parts) (h : At_hand p m) (trapped : Bool) (target : Ta
   abbrev passed : List Cell
   passed = passed_cells p h.frame h.below h.state (length over) xs first 0 h.state.cells
 
-  enters : (more : List Need) → AllTrue (needs_entering p h.frame h.below h.state target k first more) → (f : Machine_frame) (ms : List Machine_task) (top : Top m h.state h.frame h.below f ms)
-      → Passing p trapped m.cells m.entries.items (others m) ms h.below h.frame called h.state top.deep
+  enters : (more : List Need) → AllTrue (needs_entering p h.frame h.below h.state target k first more) → (f : Machine_frame) (ms : List Machine_task)
+      (top : Top m h.state h.frame h.below f ms) → Passing p trapped m.cells m.entries.items (others m) ms h.below h.frame called h.state top.deep
       (passed_on xs first f) (given xs first 0 f (callee_here p target k m)) passed (passed_words p h.frame h.below h.state xs first) (0 + length xs)
   enters more needs f ms top =
       let parts = all_parts (needs_target p h.frame h.below h.state target k (method_class p k) first (length xs)) _ needs in
@@ -430,8 +440,9 @@ module _ (p : Image) (m : Parts) (h : At_hand p m) (trapped : Bool) (target : Ta
       record { cells = cells; entries = h.agrees.entries; requests = requests; natives = natives; services = services; rest = h.agrees.rest; room = h.agrees.room; entry_room = h.agrees.entry_room }
 
   -- so it begins there
-  agrees_entered : (more : List Need) → AllTrue (needs_entering p h.frame h.below h.state target k first more) → (f : Machine_frame) (ms : List Machine_task) → Top m h.state h.frame h.below f ms
-      → Agrees p (with_tasks (Runs_frame (given xs first 0 f (callee_here p target k m)) ∷ held_over trapped (Runs_frame (passed_on xs first f) ∷ ms)) m)
+  agrees_entered : (more : List Need) → AllTrue (needs_entering p h.frame h.below h.state target k first more) →
+      (f : Machine_frame) (ms : List Machine_task) → Top m h.state h.frame h.below f ms →
+      Agrees p (with_tasks (Runs_frame (given xs first 0 f (callee_here p target k m)) ∷ held_over trapped (Runs_frame (passed_on xs first f) ∷ ms)) m)
       (record h.state { cells = passed; tasks = Run (entered p h.frame h.below h.state target k first height) ∷ over })
   agrees_entered more needs f ms top =
       let done = enters more needs f ms top in
@@ -468,7 +479,8 @@ marked p m s agrees =
     (aside_with p m s mid.entries (A_mark ∷ s.items) (aside_of p m s agrees) (tt, agrees.entries) agrees.entry_room) agrees.tasks values
   where
     values : (r : Place) → Represents (value_in m.stack.tasks m.cells (Is_mark ∷ m.entries.items) (others m) r) (word_at s.tasks r) (held s.cells r)
-    values (Entry k) = subst (λ n. Represents n (word_at s.tasks (Entry k)) (held s.cells (Entry k))) (sym (mark_shows_none m.entries.items k)) (agrees.values (Entry k))
+    values (Entry k) = subst (λ n. Represents n (word_at s.tasks (Entry k)) (held s.cells (Entry k))) (sym (mark_shows_none m.entries.items k))
+        (agrees.values (Entry k))
     values (Register d i) = agrees.values (Register d i)
     values (Field n f) = agrees.values (Field n f)
     values (Going k) = agrees.values (Going k)
@@ -486,13 +498,15 @@ trap_does p m refused target k first x h here =
 
 -- ---- what the code needs to know of one that is next: its method is there, and its arguments lie in registers that a method has
 
-pub calls_well : (p : Image) (m : Parts) (target : Target) (k first x : ℕ) → IsNext p (Call target k first x) m → IsSome (method_at p k) × ((first + length (arguments_of p k)) ≤ 16)
+pub calls_well : (p : Image) (m : Parts) (target : Target) (k first x : ℕ) → IsNext p (Call target k first x) m →
+    IsSome (method_at p k) × ((first + length (arguments_of p k)) ≤ 16)
 calls_well p m target k first x next = (
   (next.stands.1.sound.wired.called (method_here m.stack.tasks) (place_here m.stack.tasks) target k first x next.here).there,
   needs_say p m (Call target k first x) _ (λ c fr ts s n. entering_fits p fr ts s target k first _ n) next,
 )
 
-pub traps_well : (p : Image) (m : Parts) (target : Target) (k first x : ℕ) → IsNext p (Trap target k first x) m → IsSome (method_at p k) × ((first + length (arguments_of p k)) ≤ 16)
+pub traps_well : (p : Image) (m : Parts) (target : Target) (k first x : ℕ) → IsNext p (Trap target k first x) m →
+    IsSome (method_at p k) × ((first + length (arguments_of p k)) ≤ 16)
 traps_well p m target k first x next = (
   (next.stands.1.sound.wired.trapped (method_here m.stack.tasks) (place_here m.stack.tasks) target k first x next.here).there,
   needs_say p m (Trap target k first x) _ (λ c fr ts s n. entering_fits p fr ts s target k first _ n) next,
@@ -512,11 +526,11 @@ TargetLives p m target k =
     let n = target_here target (method_class p k) m in
     (n ≢ null → Lives m.cells n) × IfSome (class_at m.cells n) (λ class. class < 256)
 
-lives_on : (p : Image) (m : Parts) (r : Counters) (h : At_hand p (counting r m)) (q : Counters) (target : Target) (k first : ℕ) →
-    AllTrue (needs_target p h.frame h.below (record h.state { rest = q }) target k (method_class p k) first (length (arguments_of p k))) → TargetLives p m target k
+lives_on : (p : Image) (m : Parts) (r : Counters) (h : At_hand p (counting r m)) (q : Counters) (target : Target) (k first : ℕ) → AllTrue
+    (needs_target p h.frame h.below (record h.state { rest = q }) target k (method_class p k) first (length (arguments_of p k))) → TargetLives p m target k
 lives_on p m r h q target k first needs = (
-  subst (λ n. n ≢ null → Lives m.cells n) (target_kept m r target (method_class p k))
-      (target_lives p (counting r m) h target k first (length (arguments_of p k)) (needs_kept p h.frame h.below h.state q target k (method_class p k) first (length (arguments_of p k)) needs)),
+  subst (λ n. n ≢ null → Lives m.cells n) (target_kept m r target (method_class p k)) (target_lives p (counting r m) h target k first
+      (length (arguments_of p k)) (needs_kept p h.frame h.below h.state q target k (method_class p k) first (length (arguments_of p k)) needs)),
   class_fits p (counting r m) h.state h.agrees (target_here target (method_class p k) m),
 )
 

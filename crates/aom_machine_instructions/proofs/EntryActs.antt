@@ -70,7 +70,8 @@ abbrev pub held_operation : ℕ → ℕ → Parts → Parts
 held_operation a k m = places.next (with_items (Holds_operation k (register_here m.stack.tasks a) ∷ m.entries.items) (asked m))
 
 module _ (p : Image) (m : Parts) (h : At_hand p m) (r : Counters) (rest : record m.rest { requests = raised m.rest.requests } ≡ r) where
-  object_pushed : (a : ℕ) → a < 16 → word h.frame a ≡ None → Agrees p (held_pushed a m) (applied p h.frame h.below (record h.state { rest = r }) (sets h.frame a None (Pushed a)))
+  object_pushed : (a : ℕ) → a < 16 → word h.frame a ≡ None →
+      Agrees p (held_pushed a m) (applied p h.frame h.below (record h.state { rest = r }) (sets h.frame a None (Pushed a)))
   object_pushed a small wordless =
       let s = h.state in
       let fr = h.frame in
@@ -79,41 +80,58 @@ module _ (p : Image) (m : Parts) (h : At_hand p m) (r : Counters) (rest : record
       let here = Register (length ts) a in
       let there = Entry (length s.items) in
       let was = word_here fr ts a ∙ wordless in
-      goes_on_with p m h (with_items (Holds_object n ∷ m.entries.items) (asked m)) (moved here there s.cells) (An_object ∷ s.items) r (put_at None fr.words a None)
-      (on_top (with_register a null)) (with_register a null) (λ f ms. refl)
-      (record { stack = refl; cells = cells_moved p m.cells s.cells here there h.agrees.cells; entries = (tt, h.agrees.entries); requests = requests_moved p m.active s.cells here there h.agrees.requests; natives = natives_moved p m.sessions s.killed s.cells here there h.agrees.natives; services = services_moved p s.cells here there refl refl h.agrees.services; rest = rest; room = h.agrees.entry_room })
-      (λ f ms e top.
+      goes_on_with p m h (with_items (Holds_object n ∷ m.entries.items) (asked m)) (moved here there s.cells) (An_object ∷ s.items) r
+      (put_at None fr.words a None) (on_top (with_register a null)) (with_register a null) (λ f ms. refl) (record {
+        stack = refl;
+        cells = cells_moved p m.cells s.cells here there h.agrees.cells;
+        entries = (tt, h.agrees.entries);
+        requests = requests_moved p m.active s.cells here there h.agrees.requests;
+        natives = natives_moved p m.sessions s.killed s.cells here there h.agrees.natives;
+        services = services_moved p s.cells here there refl refl h.agrees.services;
+        rest = rest;
+        room = h.agrees.entry_room;
+      }) (λ f ms e top.
       let wide = top.frame.wide in
       let v = value_in (Runs_frame f ∷ ms) m.cells m.entries.items (others m) in
       record {
         frame = framed p m h f ms _ a null top;
-        values = moves v _ _ _ (held s.cells) _ here there top.values was (λ q.
-            value_pushed (Runs_frame (with_register a null f) ∷ ms) m.cells m.entries.items (others m) n (length s.items) (same_items_length m.entries.items s.items h.agrees.entries) q
-            ∙ ap (λ x. changed (λ z. x) there n q) (value_written f ms m.cells m.entries.items (others m) (length ts) a null f.place top.deep (omega arith) q)
-            ∙ ap (λ x. changed (changed v here null) there x q) (ap (λ us. register_here us a) e ∙ sym (value_here f ms m.cells m.entries.items (others m) (length ts) a top.deep)))
+        values = moves v _ _ _ (held s.cells) _ here there top.values was (λ q. value_pushed (Runs_frame (with_register a null f) ∷ ms) m.cells m.entries.items
+            (others m) n (length s.items) (same_items_length m.entries.items s.items h.agrees.entries) q ∙ ap (λ x. changed (λ z. x) there n q) (value_written
+            f ms m.cells m.entries.items (others m) (length ts) a null f.place top.deep (omega arith) q) ∙ ap (λ x. changed (changed v here null) there x q)
+            (ap (λ us. register_here us a) e ∙ sym (value_here f ms m.cells m.entries.items (others m) (length ts) a top.deep)))
             (λ q. word_written fr ts a fr.place None q ∙ sym (kept (word_at (Run fr ∷ ts)) here q ∙ ap (λ x. changed (word_at (Run fr ∷ ts)) here x q) was)
             ∙ entry_words (Run fr ∷ ts) (length s.items) q) (λ q. held_moved s.cells here there q (none_over p m h f ms top));
       })
 
-  operation_comes : (a k : ℕ) → cast_signed w32 (register_here m.stack.tasks a) ≡ read h.frame h.below h.state a
-      → Agrees p (held_operation a k m) (applied p h.frame h.below (record h.state { rest = r }) (updates h.frame (Pushed_operation k (read h.frame h.below h.state a))))
+  operation_comes : (a k : ℕ) → cast_signed w32 (register_here m.stack.tasks a) ≡ read h.frame h.below h.state a → Agrees p (held_operation a k m)
+      (applied p h.frame h.below (record h.state { rest = r }) (updates h.frame (Pushed_operation k (read h.frame h.below h.state a))))
   operation_comes a k is =
       let s = h.state in
       let i = Holds_operation k (register_here m.stack.tasks a) in
-      goes_on_as p m h (with_items (i ∷ m.entries.items) (asked m)) s.cells (An_operation k (read h.frame h.below s a) ∷ s.items) r
-      (record { stack = refl; cells = h.agrees.cells; entries = ((refl, is), h.agrees.entries); requests = h.agrees.requests; natives = h.agrees.natives; services = h.agrees.services; rest = rest; room = h.agrees.entry_room })
+      goes_on_as p m h (with_items (i ∷ m.entries.items) (asked m)) s.cells (An_operation k (read h.frame h.below s a) ∷ s.items) r (record {
+        stack = refl;
+        cells = h.agrees.cells;
+        entries = ((refl, is), h.agrees.entries);
+        requests = h.agrees.requests;
+        natives = h.agrees.natives;
+        services = h.agrees.services;
+        rest = rest;
+        room = h.agrees.entry_room;
+      })
       (λ f ms e top q. subst (λ n. Represents n (word_at (Run h.frame ∷ h.below) q) (held s.cells q)) (sym (value_alike
       (Runs_frame f ∷ ms) m.cells (i ∷ m.entries.items) m.entries.items (others m) (λ d. owns_none i m.entries.items d refl) q)) (top.values q))
 
 -- where the request is refused the machine leaves
-leaves_if : (p : Image) (m : Parts) (fr : Frame) (ts : List Task) (s : State) (b : Bool) (off : Update) (on : Effect) → Agrees p m (applied p fr ts s on)
-    → record (applied p fr ts s on) { tasks = Unwind no_memory ∷ to_trap (applied p fr ts s on).tasks } ≡ applied p fr ts s (Leaves no_memory off)
-    → AllTrue (cond b (leave_needs (applied p fr ts s on).cells (applied p fr ts s on).tasks) []) → Agrees p (cond b (leaving (negsuc 3) m) m) (applied p fr ts s (unless_refused b off on))
+leaves_if : (p : Image) (m : Parts) (fr : Frame) (ts : List Task) (s : State) (b : Bool) (off : Update) (on : Effect) → Agrees p m (applied p fr ts s on) →
+    record (applied p fr ts s on) { tasks = Unwind no_memory ∷ to_trap (applied p fr ts s on).tasks } ≡ applied p fr ts s (Leaves no_memory off) →
+    AllTrue (cond b (leave_needs (applied p fr ts s on).cells (applied p fr ts s on).tasks) []) →
+    Agrees p (cond b (leaving (negsuc 3) m) m) (applied p fr ts s (unless_refused b off on))
 leaves_if p m fr ts s true off on agrees same needs = subst (Agrees p (leaving (negsuc 3) m)) same (leaves p m (applied p fr ts s on) no_memory agrees needs.1.0)
 leaves_if p m fr ts s false off on agrees same needs = agrees
 
 module _ (m : Parts) (turn : LineBuffer) where
-  pub push_does : (a : ℕ) (refused : Bool) → a < 16 → refused ≡ refuses_entry turn m → Does turn.refused (Push a) m (cond refused (leaving (negsuc 3) (held_pushed a m)) (held_pushed a m))
+  pub push_does : (a : ℕ) (refused : Bool) → a < 16 → refused ≡ refuses_entry turn m →
+      Does turn.refused (Push a) m (cond refused (leaving (negsuc 3) (held_pushed a m)) (held_pushed a m))
   push_does a refused small same p h here =
       let s = h.state in
       let c : Choice = record { name = null; refused = refused; answer = heard_by m } in (
@@ -169,7 +187,8 @@ deep_enough : (e es : Machine_items) (is : List Machine_item) → 1024 ≤ e.dep
 deep_enough e es is deep same = subst (λ d. 1024 ≤ d) (ap (λ (x : Machine_items). x.depth) same) deep
 
 module _ (m : Parts) (refused : List ℕ) (es : Machine_items) where
-  pub pop_does : (a n : ℕ) → a < 16 → m.entries ≡ record es { items = Holds_object n ∷ es.items } → Does refused (Pop a) m (places.next (set_register a n (record m { entries = es })))
+  pub pop_does : (a n : ℕ) → a < 16 → m.entries ≡ record es { items = Holds_object n ∷ es.items } →
+      Does refused (Pop a) m (places.next (set_register a n (record m { entries = es })))
   pop_does a n small popped = plain_does m (places.next (set_register a n (record m { entries = es }))) refused (Pop a) refl (λ p h c met.
       let s = h.state in
       let fr = h.frame in
@@ -180,9 +199,17 @@ module _ (m : Parts) (refused : List ℕ) (es : Machine_items) where
       let was : m.entries.items ≡ Holds_object n ∷ es.items = ap (λ (e : Machine_items). e.items) popped in
       let same = subst (λ is. SameItems is s.items) was h.agrees.entries in
       let deep = same_items_length es.items items (below_same (Holds_object n) es.items s.items same) in
-      goes_on_with p m h (record m { entries = es }) (moved from here s.cells) items s.rest (put_at None fr.words a None) (on_top (with_register a n)) (with_register a n) (λ f ms. refl)
-      (record { stack = refl; cells = cells_moved p m.cells s.cells from here h.agrees.cells; entries = below_same (Holds_object n) es.items s.items same; requests = requests_moved p m.active s.cells from here h.agrees.requests; natives = natives_moved p m.sessions s.killed s.cells from here h.agrees.natives; services = services_moved p s.cells from here refl refl h.agrees.services; rest = h.agrees.rest; room = deep_enough m.entries es _ h.agrees.entry_room popped })
-      (λ f ms e top.
+      goes_on_with p m h (record m { entries = es }) (moved from here s.cells) items s.rest (put_at None fr.words a None) (on_top (with_register a n))
+      (with_register a n) (λ f ms. refl) (record {
+        stack = refl;
+        cells = cells_moved p m.cells s.cells from here h.agrees.cells;
+        entries = below_same (Holds_object n) es.items s.items same;
+        requests = requests_moved p m.active s.cells from here h.agrees.requests;
+        natives = natives_moved p m.sessions s.killed s.cells from here h.agrees.natives;
+        services = services_moved p s.cells from here refl refl h.agrees.services;
+        rest = h.agrees.rest;
+        room = deep_enough m.entries es _ h.agrees.entry_room popped;
+      }) (λ f ms e top.
       let wide = top.frame.wide in
       let v = value_in (Runs_frame f ∷ ms) m.cells (Holds_object n ∷ es.items) (others m) in
       let old : (q : Place) → Represents (v q) (word_at (Run fr ∷ ts) q) (held s.cells q) =
@@ -196,18 +223,25 @@ module _ (m : Parts) (refused : List ℕ) (es : Machine_items) where
             (word_written fr ts a fr.place None) (λ q. held_moved s.cells from here q (free _ met.0));
       }))
 
-  pub pop_operation_does : (i : Machine_item) → m.entries ≡ record es { items = i ∷ es.items } → Does refused PopOperation m (places.next (record m { entries = es }))
+  pub pop_operation_does : (i : Machine_item) → m.entries ≡ record es { items = i ∷ es.items } →
+      Does refused PopOperation m (places.next (record m { entries = es }))
   pop_operation_does i popped = plain_does m (places.next (record m { entries = es })) refused PopOperation refl (λ p h c met.
       let s = h.state in
       let fr = h.frame in
       let ts = h.below in
       let was : m.entries.items ≡ i ∷ es.items = ap (λ (e : Machine_items). e.items) popped in
       let same = subst (λ is. SameItems is s.items) was h.agrees.entries in
-      goes_on_as p m h (record m { entries = es }) s.cells (below_top s.items) s.rest
-      (record { stack = refl; cells = h.agrees.cells; entries = below_same i es.items s.items same; requests = h.agrees.requests; natives = h.agrees.natives; services = h.agrees.services; rest = h.agrees.rest; room = deep_enough m.entries es _ h.agrees.entry_room popped })
-      (λ f ms e top q.
-      subst (λ k. Represents k (word_at (Run fr ∷ ts) q) (held s.cells q))
-      (value_alike (Runs_frame f ∷ ms) m.cells (i ∷ es.items) es.items (others m) (λ d. owns_none i es.items d (operation_owns i es.items s.items same met.1.0)) q)
+      goes_on_as p m h (record m { entries = es }) s.cells (below_top s.items) s.rest (record {
+        stack = refl;
+        cells = h.agrees.cells;
+        entries = below_same i es.items s.items same;
+        requests = h.agrees.requests;
+        natives = h.agrees.natives;
+        services = h.agrees.services;
+        rest = h.agrees.rest;
+        room = deep_enough m.entries es _ h.agrees.entry_room popped;
+      }) (λ f ms e top q. subst (λ k. Represents k (word_at (Run fr ∷ ts) q) (held s.cells q)) (value_alike (Runs_frame f ∷ ms) m.cells (i ∷ es.items) es.items
+      (others m) (λ d. owns_none i es.items d (operation_owns i es.items s.items same met.1.0)) q)
       (subst (λ is. Represents (value_in (Runs_frame f ∷ ms) m.cells is (others m) q) (word_at (Run fr ∷ ts) q) (held s.cells q)) was (top.values q))))
     where
       operation_owns : (i : Machine_item) (is : List Machine_item) (js : List Item) → SameItems (i ∷ is) js → tops_operation js ≡ true → owned_by i ≡ null

@@ -44,7 +44,8 @@ use Rattle.aom_machine_instructions.proofs.GoingOn.{OnTop, framed, goes_on_as, g
 module _ (p : Image) (m : Parts) (h : At_hand p m) where
   -- it lives
   pub housed : (o : Object) (from : Place) → h.frame.home ≡ Inside o from → named h.state.cells o.name ≡ Some o
-  housed o from e = method_layer (λ ls. Stack p h.typing h.state.cells Now ls) h.frame h.below h.typed.layers (sym h.typed.tasks ∙ h.top) h.typed.good.stack (λ sh ls _ stack.
+  housed o from e = method_layer (λ ls. Stack p h.typing h.state.cells Now ls) h.frame h.below h.typed.layers
+      (sym h.typed.tasks ∙ h.top) h.typed.good.stack (λ sh ls _ stack.
       let lives = subst (IsHoused p h.state.cells ls) e stack.2 in
       lives.lives)
 
@@ -56,11 +57,13 @@ module _ (p : Image) (m : Parts) (h : At_hand p m) where
   inside_number o from e = this_is ∙ ap home_number e
 
   pub inside_there : (o : Object) (from : Place) → h.frame.home ≡ Inside o from → this m ≢ null
-  inside_there o from e n = none-some _ (sym (sym (housed o from e) ∙ ap (named h.state.cells) (sym (inside_number o from e) ∙ n) ∙ null_unnamed p m h.state h.agrees))
+  inside_there o from e n =
+      none-some _ (sym (sym (housed o from e) ∙ ap (named h.state.cells) (sym (inside_number o from e) ∙ n) ∙ null_unnamed p m h.state h.agrees))
 
   -- and it is no message
   pub inside_small : (o : Object) (from : Place) → h.frame.home ≡ Inside o from → o.name < 4096
-  inside_small o from e = subst (λ n. n < 4096) (inside_number o from e) (by_top p m h (λ us. this_here us ≢ null → this_here us < 4096) (λ f ms top. top.frame.housed) (inside_there o from e))
+  inside_small o from e = subst (λ n. n < 4096) (inside_number o from e)
+      (by_top p m h (λ us. this_here us ≢ null → this_here us < 4096) (λ f ms top. top.frame.housed) (inside_there o from e))
 
   pub inside_object : (o : Object) (from : Place) → h.frame.home ≡ Inside o from → is_object o.thing ≡ true
   inside_object o from e = object_there p m h.state h.agrees o (housed o from e) (inside_small o from e)
@@ -140,20 +143,23 @@ module _ (p : Image) (m : Parts) (h : At_hand p m) where
 
   -- and written in its place
   pub record Written (mid : Parts) (q : Place) (x : ℕ) : Type 0 where
-    pub values : (us : List Machine_task) (r : Place) → value_in us mid.cells m.entries.items (record (others m) { root = mid.root }) r ≡ changed (value_in us m.cells m.entries.items (others m)) q x r
+    pub values : (us : List Machine_task) (r : Place) →
+        value_in us mid.cells m.entries.items (record (others m) { root = mid.root }) r ≡ changed (value_in us m.cells m.entries.items (others m)) q x r
     pub cells : SameCells p mid.cells h.state.cells
     pub rest : mid ≡ record m { cells = mid.cells; root = mid.root }
 
-  pub field_written_here : (mid : Parts) (f x : ℕ) → is_some (field_thing p (holder_of p h.frame.method) f) ≡ true → WritesField f x m mid → Written mid (field_place h.frame.home f) x
+  pub field_written_here : (mid : Parts) (f x : ℕ) → is_some (field_thing p (holder_of p h.frame.method) f) ≡ true → WritesField f x m mid →
+      Written mid (field_place h.frame.home f) x
   field_written_here mid f x has writes = by_home f (λ home. Written mid (field_place home f) x)
       (λ e. elim writes [ inl root ↦ at_root root.1 | inr cell ↦ absurd (cell.0 (this_is ∙ ap home_number e)) ])
-      (λ o from e. elim writes [ inl root ↦ absurd (inside_there o from e root.0) | inr cell ↦ in_cell o from e cell.1 cell.2 ])
-      has
+      (λ o from e. elim writes [ inl root ↦ absurd (inside_there o from e root.0) | inr cell ↦ in_cell o from e cell.1 cell.2 ]) has
     where
       at_root : mid ≡ record m { root = x } → Written mid (Elsewhere Root) x
-      at_root e = subst (λ k. Written k (Elsewhere Root) x) (sym e) (record { values = λ us r. root_written us m.cells m.entries.items (others m) x r; cells = h.agrees.cells; rest = refl })
+      at_root e = subst (λ k. Written k (Elsewhere Root) x) (sym e)
+          (record { values = λ us r. root_written us m.cells m.entries.items (others m) x r; cells = h.agrees.cells; rest = refl })
 
-      in_cell : (o : Object) (from : Place) → h.frame.home ≡ Inside o from → PutsField (this m) f x m.cells mid.cells → mid ≡ record m { cells = mid.cells } → Written mid (Field o.name f) x
+      in_cell : (o : Object) (from : Place) → h.frame.home ≡ Inside o from → PutsField (this m) f x m.cells mid.cells → mid ≡ record m { cells = mid.cells } →
+          Written mid (Field o.name f) x
       in_cell o from e puts same =
           let at = subst (λ n. PutsField n f x m.cells mid.cells) (inside_number o from e) puts in
           record {
@@ -164,14 +170,15 @@ module _ (p : Image) (m : Parts) (h : At_hand p m) where
           }
 
   -- the number in a field is that of what the field owns
-  pub field_shown : (f : ℕ) → is_some (field_thing p (holder_of p h.frame.method) f) ≡ true → field_here f m ≡ number (held h.state.cells (field_place h.frame.home f))
+  pub field_shown : (f : ℕ) → is_some (field_thing p (holder_of p h.frame.method) f) ≡ true →
+      field_here f m ≡ number (held h.state.cells (field_place h.frame.home f))
   field_shown f has = grind (arith, nat_tests, field_read_here f m.stack.tasks has, no_word_there h.frame.home f h.state.tasks)
 
 -- ---- the instructions
 
 pub load_does : (m new : Parts) (refused : List ℕ) (a w : ℕ) → WritesWord a (cell_word m.cells (this m) w) m new → Does refused (Load a w) m new
-load_does m new refused a w x = plain_does m new refused (Load a w) refl (λ p h c met.
-    subst (λ v. Agrees p new (applied p h.frame h.below h.state (writes_word h.frame a v))) (word_loaded p m h w met.0) (word_put p m new h a _ (free _ met.1.0) x))
+load_does m new refused a w x = plain_does m new refused (Load a w) refl (λ p h c met. subst (λ v. Agrees p new
+    (applied p h.frame h.below h.state (writes_word h.frame a v))) (word_loaded p m h w met.0) (word_put p m new h a _ (free _ met.1.0) x))
 
 pub store_does : (m : Parts) (refused : List ℕ) (w b : ℕ) (heap : Heap) →
     PutsWord (this m) w (cast_signed w32 (register_here m.stack.tasks b)) m.cells heap → Does refused (Store w b) m (places.next (record m { cells = heap }))
@@ -182,26 +189,43 @@ store_does m refused w b heap puts = plain_does m (places.next (record m { cells
     let v = read fr ts s b in
     let cs = stored s.cells fr.home w v in
     let written = subst (λ v. PutsWord (this m) w v m.cells heap) (word_read p m h b met.1.0) puts in
-    goes_on_as p m h (record m { cells = heap }) cs s.items s.rest
-    (record { stack = refl; cells = cells_after_store p m h heap w v met.0 written; entries = h.agrees.entries; requests = requests_stored p m.active s.cells fr.home w v h.agrees.requests; natives = natives_stored p m.sessions s.killed s.cells fr.home w v h.agrees.natives; services = services_stored p s.cells fr.home w v (inside_small p m h) h.agrees.services; rest = h.agrees.rest; room = h.agrees.entry_room })
-    (λ f ms e top q.
-    subst (λ n. Represents n (word_at (Run fr ∷ ts) q) (held cs q)) (sym (word_put_elsewhere (Runs_frame f ∷ ms) m.cells heap m.entries.items (others m) (this m) w v written q))
-    (subst (λ o. Represents (value_in (Runs_frame f ∷ ms) m.cells m.entries.items (others m) q) (word_at (Run fr ∷ ts) q) o) (sym (held_stored p m h fr.home w v q)) (top.values q))))
+    goes_on_as p m h (record m { cells = heap }) cs s.items s.rest (record {
+      stack = refl;
+      cells = cells_after_store p m h heap w v met.0 written;
+      entries = h.agrees.entries;
+      requests = requests_stored p m.active s.cells fr.home w v h.agrees.requests;
+      natives = natives_stored p m.sessions s.killed s.cells fr.home w v h.agrees.natives;
+      services = services_stored p s.cells fr.home w v (inside_small p m h) h.agrees.services;
+      rest = h.agrees.rest;
+      room = h.agrees.entry_room;
+    }) (λ f ms e top q. subst (λ n. Represents n (word_at (Run fr ∷ ts) q) (held cs q))
+    (sym (word_put_elsewhere (Runs_frame f ∷ ms) m.cells heap m.entries.items (others m) (this m) w v written q)) (subst (λ o. Represents
+    (value_in (Runs_frame f ∷ ms) m.cells m.entries.items (others m) q) (word_at (Run fr ∷ ts) q) o) (sym (held_stored p m h fr.home w v q)) (top.values q))))
 
 -- what a field or a register owns goes to the other, and the register is written
 goes_by_field : (p : Image) (m mid : Parts) (h : At_hand p m) (g x a n : ℕ) (ws : List (Option ℤ)) (from to : Place) →
-    Written p m h mid (field_place h.frame.home g) x → is_queue from ≡ false → is_queue to ≡ false
-    → ((f : Machine_frame) (ms : List Machine_task) → m.stack.tasks ≡ Runs_frame f ∷ ms → Top m h.state h.frame h.below f ms →
-    OnTop p m h (record m { cells = mid.cells; root = mid.root }) (moved from to h.state.cells) ws (with_register a n f) ms)
-    → Agrees p (places.next (set_register a n mid)) (record h.state { cells = moved from to h.state.cells; tasks = Run (next (record h.frame { words = ws })) ∷ h.below })
+    Written p m h mid (field_place h.frame.home g) x → is_queue from ≡ false → is_queue to ≡ false →
+    ((f : Machine_frame) (ms : List Machine_task) → m.stack.tasks ≡ Runs_frame f ∷ ms → Top m h.state h.frame h.below f ms →
+    OnTop p m h (record m { cells = mid.cells; root = mid.root }) (moved from to h.state.cells) ws (with_register a n f) ms) → Agrees p
+    (places.next (set_register a n mid)) (record h.state { cells = moved from to h.state.cells; tasks = Run (next (record h.frame { words = ws })) ∷ h.below })
 goes_by_field p m mid h g x a n ws from to written from_no to_no shows =
     let s = h.state in
-    subst (λ k. Agrees p (places.next (set_register a n k)) (record s { cells = moved from to s.cells; tasks = Run (next (record h.frame { words = ws })) ∷ h.below })) (sym written.rest)
-    (goes_on_with p m h (record m { cells = mid.cells; root = mid.root }) (moved from to s.cells) s.items s.rest ws (on_top (with_register a n)) (with_register a n) (λ f ms. refl)
-    (record { stack = refl; cells = cells_moved p mid.cells s.cells from to written.cells; entries = h.agrees.entries; requests = requests_moved p m.active s.cells from to h.agrees.requests; natives = natives_moved p m.sessions s.killed s.cells from to h.agrees.natives; services = services_moved p s.cells from to from_no to_no h.agrees.services; rest = h.agrees.rest; room = h.agrees.entry_room })
-    shows)
+    subst (λ k. Agrees p (places.next (set_register a n k))
+    (record s { cells = moved from to s.cells; tasks = Run (next (record h.frame { words = ws })) ∷ h.below })) (sym written.rest)
+    (goes_on_with p m h (record m { cells = mid.cells; root = mid.root }) (moved from to s.cells) s.items s.rest ws (on_top (with_register a n))
+    (with_register a n) (λ f ms. refl) (record {
+      stack = refl;
+      cells = cells_moved p mid.cells s.cells from to written.cells;
+      entries = h.agrees.entries;
+      requests = requests_moved p m.active s.cells from to h.agrees.requests;
+      natives = natives_moved p m.sessions s.killed s.cells from to h.agrees.natives;
+      services = services_moved p s.cells from to from_no to_no h.agrees.services;
+      rest = h.agrees.rest;
+      room = h.agrees.entry_room;
+    }) shows)
 
-pub take_does : (m mid : Parts) (refused : List ℕ) (a g n : ℕ) → a < 16 → n ≡ field_here g m → WritesField g null m mid → Does refused (Take a g) m (places.next (set_register a n mid))
+pub take_does : (m mid : Parts) (refused : List ℕ) (a g n : ℕ) → a < 16 → n ≡ field_here g m → WritesField g null m mid →
+    Does refused (Take a g) m (places.next (set_register a n mid))
 take_does m mid refused a g n small reads writes = plain_does m (places.next (set_register a n mid)) refused (Take a g) refl (λ p h c met.
     let q = field_place h.frame.home g in
     let here = Register (length h.below) a in
@@ -222,7 +246,8 @@ take_does m mid refused a g n small reads writes = plain_does m (places.next (se
 declared_some : (p : Image) (t : Option Thing) (o : Option Object) → is_declared_thing p t o ≡ true → is_some t ≡ true
 declared_some p t o e = some_given (λ t. is_declared_thing p t o ≡ true) t e (λ none. false≢true none) (λ x is _. ap is_some is)
 
-pub put_does : (m mid : Parts) (refused : List ℕ) (g b x : ℕ) → b < 16 → x ≡ register_here m.stack.tasks b → WritesField g x m mid → Does refused (Put g b) m (places.next (set_register b null mid))
+pub put_does : (m mid : Parts) (refused : List ℕ) (g b x : ℕ) → b < 16 → x ≡ register_here m.stack.tasks b → WritesField g x m mid →
+    Does refused (Put g b) m (places.next (set_register b null mid))
 put_does m mid refused g b x small reads writes = plain_does m (places.next (set_register b null mid)) refused (Put g b) refl (λ p h c met.
     let fr = h.frame in
     let ts = h.below in
@@ -234,10 +259,10 @@ put_does m mid refused g b x small reads writes = plain_does m (places.next (set
     let v = value_in (Runs_frame f ∷ ms) m.cells m.entries.items (others m) in
     record {
       frame = framed p m h f ms _ b null top;
-      values = moves v _ _ _ (held h.state.cells) _ here q top.values (word_here fr ts b ∙ no_word _ met.0) (λ r.
-          written.values (Runs_frame (with_register b null f) ∷ ms) r
-          ∙ ap (λ y. changed (λ z. y) q x r) (value_written f ms m.cells m.entries.items (others m) (length ts) b null f.place top.deep (omega arith) r)
-          ∙ ap (λ y. changed (changed v here null) q y r) (reads ∙ ap (λ us. register_here us b) e ∙ sym (value_here f ms m.cells m.entries.items (others m) (length ts) b top.deep)))
+      values = moves v _ _ _ (held h.state.cells) _ here q top.values (word_here fr ts b ∙ no_word _ met.0)
+          (λ r. written.values (Runs_frame (with_register b null f) ∷ ms) r ∙ ap (λ y. changed (λ z. y) q x r) (value_written f ms m.cells m.entries.items
+          (others m) (length ts) b null f.place top.deep (omega arith) r) ∙ ap (λ y. changed (changed v here null) q y r)
+          (reads ∙ ap (λ us. register_here us b) e ∙ sym (value_here f ms m.cells m.entries.items (others m) (length ts) b top.deep)))
           (λ r. kept (word_at (Run fr ∷ ts)) q r ∙ ap (λ y. changed (word_at (Run fr ∷ ts)) q y r) (no_word_there p m h fr.home g (Run fr ∷ ts)))
           (λ r. held_moved h.state.cells here q r (free _ met.1.1.0));
     }))
@@ -248,4 +273,5 @@ module _ (m : Parts) (refused : List ℕ) where
       (JumpEmpty g to) refl (λ p h c met. jumps_empty m refused p h (field_place h.frame.home g) to (sym (field_shown p m h g met.0) ∙ is))
 
   pub jump_full_does : (g to : ℕ) → field_here g m ≢ null → Does refused (JumpEmpty g to) m (places.next m)
-  jump_full_does g to is = plain_does m (places.next m) refused (JumpEmpty g to) refl (λ p h c met. passes_full m refused p h (field_place h.frame.home g) to (λ n. is (field_shown p m h g met.0 ∙ n)))
+  jump_full_does g to is = plain_does m (places.next m) refused (JumpEmpty g to) refl
+      (λ p h c met. passes_full m refused p h (field_place h.frame.home g) to (λ n. is (field_shown p m h g met.0 ∙ n)))

@@ -78,7 +78,8 @@ module _ (p : Image) (t : Typing) (s : State) (sound : Sound p t) (typed : WellT
       let leads = good.stack.2.0 in
       ap is_some (sound.typed.each fr.method (suc fr.place) leads.0 leads.1).stands))
 
-pub finds_instr : (p : Image) (m : Parts) → Stands (record { image = p; parts = m }) → Runs m.stack.tasks → IsSome (instr_at p (method_here m.stack.tasks) (place_here m.stack.tasks))
+pub finds_instr : (p : Image) (m : Parts) → Stands (record { image = p; parts = m }) → Runs m.stack.tasks →
+    IsSome (instr_at p (method_here m.stack.tasks) (place_here m.stack.tasks))
 finds_instr p m st runs =
     grind (arith, nat_tests, frame_of m.stack.tasks st.0.tasks runs st.1.agrees.tasks, runs_there p st.1.typing st.0 st.1.sound st.1.typed)
 
@@ -99,7 +100,8 @@ pub class_fits : (p : Image) (m : Parts) (s : State) → Agrees p m s → (n : �
 class_fits p m s agrees n = grind (arith, nat_tests)
 
 -- what `delete` finds in its register is null or lives
-pub deletes_living : (p : Image) (m : Parts) (a : ℕ) → IsNext p (Delete a) m → (register_here m.stack.tasks a ≡ null → ⊥) → Lives m.cells (register_here m.stack.tasks a)
+pub deletes_living : (p : Image) (m : Parts) (a : ℕ) → IsNext p (Delete a) m → (register_here m.stack.tasks a ≡ null → ⊥) →
+    Lives m.cells (register_here m.stack.tasks a)
 deletes_living p counted a next some =
     let m = counting next.counts counted in
     let st = next.stands in
@@ -114,17 +116,30 @@ deletes_living p counted a next some =
     let c = an_open p [] m s st.1.agrees in
     let k = met p t (needs p c.0 fr ts (requested (Delete a) (at_step s)) (Delete a)) _
     (subst (Keeps p t) (step_of_instr p c.0 s fr ts (Delete a) f.2 e) (st.1.sound.keeps c.0 s st.1.typed c.1.name)) in
-    let h : At_hand p m = record { typing = t; state = s; frame = fr; below = ts; top = f.2; formed = st.1.sound.formed; linked = st.1.sound.linked; wired = st.1.sound.wired; typed = st.1.typed; kept = st.1.kept; agrees = st.1.agrees } in
+    let h : At_hand p m = record {
+      typing = t;
+      state = s;
+      frame = fr;
+      below = ts;
+      top = f.2;
+      formed = st.1.sound.formed;
+      linked = st.1.sound.linked;
+      wired = st.1.sound.wired;
+      typed = st.1.typed;
+      kept = st.1.kept;
+      agrees = st.1.agrees;
+    } in
     by_top p m h (λ us. (register_here us a ≡ null → ⊥) → Lives m.cells (register_here us a))
-    (λ f ms top some. number_lives p m t s st.1.typed st.1.agrees (Register (length ts) a) _ k.0.1.0 (shown p m h f ms top a (no_word _ k.0.0)) some)
-    some
+    (λ f ms top some. number_lives p m t s st.1.typed st.1.agrees (Register (length ts) a) _ k.0.1.0 (shown p m h f ms top a (no_word _ k.0.0)) some) some
 
 pub root_lives : (p : Image) (m : Parts) → Stands (record { image = p; parts = m }) → (m.root ≡ null → ⊥) → Lives m.cells m.root
-root_lives p m st some = number_lives p m st.1.typing st.0 st.1.typed st.1.agrees (Elsewhere Root) m.root (root_cell p st.1.typing st.0 st.1.typed) (st.1.agrees.values (Elsewhere Root)) some
+root_lives p m st some = number_lives p m st.1.typing st.0 st.1.typed st.1.agrees (Elsewhere Root) m.root (root_cell p st.1.typing st.0 st.1.typed)
+    (st.1.agrees.values (Elsewhere Root)) some
 
 -- a trap is at hand only under a method
 pub not_trapped : (p : Image) (m : Parts) (ms : List Machine_task) → Stands (record { image = p; parts = m }) → m.stack.tasks ≡ Is_trap ∷ ms → ⊥
-not_trapped p m ms st e = go st.1.typed.layers st.1.typed.good (subst (λ us. SameTasks us (tasks_of st.1.typed.layers)) e (subst (SameTasks m.stack.tasks) st.1.typed.tasks st.1.agrees.tasks))
+not_trapped p m ms st e = go st.1.typed.layers st.1.typed.good
+    (subst (λ us. SameTasks us (tasks_of st.1.typed.layers)) e (subst (SameTasks m.stack.tasks) st.1.typed.tasks st.1.agrees.tasks))
   where
     go : (ls : List Layer) → Good p st.1.typing st.0.cells ls → SameTasks (Is_trap ∷ ms) (tasks_of ls) → ⊥
     go [] good same = same
@@ -195,7 +210,8 @@ module _ (p : Image) (t : Typing) (s : State) (sound : Sound p t) where
 
 -- what the machine has there
 module _ (p : Image) (formed : WellFormed p) where
-  goes_on_there : (f : Machine_frame) (g : Frame) → SameFrame f g → IsSome (instr_at p g.method (suc g.place)) → IsSome (instr_at p f.method f.place) × ((f.place + 1) < 2 ^ 64)
+  goes_on_there : (f : Machine_frame) (g : Frame) → SameFrame f g → IsSome (instr_at p g.method (suc g.place)) →
+      IsSome (instr_at p f.method f.place) × ((f.place + 1) < 2 ^ 64)
   goes_on_there f g same some = grind (arith, nat_tests, before p g.method g.place some, within_code p f.method f.place, short p formed f.method)
 
   pub held_beneath : {ms : List Machine_task} {ts : List Task} → Beneath p ts → Alike ms ts → Below (at_traps p) ts → ReturnsTo p ms
@@ -227,7 +243,8 @@ finds_method p m st runs = some_given (λ o. IsSome o) (instr_at p (method_here 
 -- of a machine in which a cell goes
 module _ (p : Image) (m : Parts) (st : Stands (record { image = p; parts = m })) (destroying : IsDestroying m.stack.tasks) where
   abbrev at_going : (ts : List Task) → st.0.tasks ≡ Destroy ∷ ts → In_going p m
-  at_going ts top = record { typing = st.1.typing; state = st.0; below = ts; top = top; formed = st.1.sound.formed; wired = st.1.sound.wired; typed = st.1.typed; kept = st.1.kept; agrees = st.1.agrees }
+  at_going ts top =
+      record { typing = st.1.typing; state = st.0; below = ts; top = top; formed = st.1.sound.formed; wired = st.1.sound.wired; typed = st.1.typed; kept = st.1.kept; agrees = st.1.agrees }
 
   -- the cell lives
   pub cell_lives : Lives m.cells (going_here m.stack.tasks)

@@ -113,16 +113,17 @@ module _ (p : Image) (m : Parts) (t : Typing) (s : State) (typed : WellTyped p t
       go false gone e rest = ap (λ o. seat_or o (its c) (first_session s.cells n cs)) (none_there c (first_with c cs all) gone) ∙ rest e
 
   -- and where it finds a client, its session is the first
-  some_first : (cs : List ℕ) → With cs → (c r : ℕ) → first_there m.clients cs ≡ Some c → session_of (client_at m.clients c) ≡ Some r → (r ≡ null → ⊥) → IsSeat c r (first_session s.cells n cs)
+  some_first : (cs : List ℕ) → With cs → (c r : ℕ) → first_there m.clients cs ≡ Some c → session_of (client_at m.clients c) ≡ Some r → (r ≡ null → ⊥) →
+      IsSeat c r (first_session s.cells n cs)
   some_first [] all c r e is some = absurd (none-some c e)
   some_first (d ∷ cs) all c r e is some = go (has_cell (client_at m.clients d)) refl e (λ e. some_first cs (rest_with d cs all) c r e is some)
     where
-      go :
-          (b : Bool) → has_cell (client_at m.clients d) ≡ b → cond b (Some d) (first_there m.clients cs) ≡ Some c → (first_there m.clients cs ≡ Some c → IsSeat c r (first_session s.cells n cs)) →
-          IsSeat c r (first_session s.cells n (d ∷ cs))
+      go : (b : Bool) → has_cell (client_at m.clients d) ≡ b → cond b (Some d) (first_there m.clients cs) ≡ Some c →
+          (first_there m.clients cs ≡ Some c → IsSeat c r (first_session s.cells n cs)) → IsSeat c r (first_session s.cells n (d ∷ cs))
       go true there e rest =
           let same = same_Some d c e in
-          let x = one_there c (subst (λ k. server_of (client_at m.clients k) ≡ Some n) same (first_with d cs all)) (subst (λ k. has_cell (client_at m.clients k) ≡ true) same there) r is some in
+          let x = one_there c (subst (λ k. server_of (client_at m.clients k) ≡ Some n) same (first_with d cs all))
+          (subst (λ k. has_cell (client_at m.clients k) ≡ true) same there) r is some in
           record {
             object = x.0;
             held = x.1;
@@ -142,13 +143,16 @@ module _ (p : Image) (m : Parts) (t : Typing) (s : State) (typed : WellTyped p t
 
     pub its_session : (c r : ℕ) → first_there m.clients (sessions_at m.clients n) ≡ Some c → session_of (client_at m.clients c) ≡ Some r → (r ≡ null → ⊥) →
         IsSeat c r (first_session s.cells n (service_of s.cells n).sessions)
-    its_session c r e is some = some_first (service_of s.cells n).sessions own_with c r (ap (first_there m.clients) (sym (agrees.services.clients.sessions n)) ∙ e) is some
+    its_session c r e is some =
+        some_first (service_of s.cells n).sessions own_with c r (ap (first_there m.clients) (sym (agrees.services.clients.sessions n)) ∙ e) is some
 
 -- ---- a session is there
 
 -- the machine has the cell of a session
-pub session_lives : (p : Image) (m : Parts) (t : Typing) (s : State) → WellTyped p t s → Agrees p m s → (n c : ℕ) (o : Object) → held s.cells (Elsewhere (Session n c)) ≡ Some o → Lives m.cells o.name
-session_lives p m t s w agrees n c o e = object_lives_at p m s agrees o (held_lives s.cells (Elsewhere (Session n c)) o w.good.tidy e) (session_object p n c t s w o e)
+pub session_lives : (p : Image) (m : Parts) (t : Typing) (s : State) → WellTyped p t s → Agrees p m s → (n c : ℕ) (o : Object) →
+    held s.cells (Elsewhere (Session n c)) ≡ Some o → Lives m.cells o.name
+session_lives p m t s w agrees n c o e =
+    object_lives_at p m s agrees o (held_lives s.cells (Elsewhere (Session n c)) o w.good.tidy e) (session_object p n c t s w o e)
 
 -- ---- what closes its sessions
 
@@ -165,8 +169,8 @@ closing_found p t s w us top = closing_layer (λ ls. Good p t s.cells ls) us w.l
     dying : (o : Object) (left : List ℕ) (ls : List Layer) → tasks_of ls ≡ us → Good p t s.cells (Ending o left ∷ ls) → IsOverDying o ls → ClosesOver s us
     dying o left (Dying_layer x ∷ ls) tasks good same =
         let k = length (tasks_of ls) in
-        let own = own_held p (seen s.cells) (held s.cells (Going k)) x.thing
-        (subst (λ b. Fits p (seen s.cells) (held s.cells (Going k)) (cond b (Own x.thing Ready) (claim p (declared p s.cells) ls (Going k)))) (eq-eqb k k refl) (good.fits (Going k))) in
+        let own = own_held p (seen s.cells) (held s.cells (Going k)) x.thing (subst (λ b. Fits p (seen s.cells) (held s.cells (Going k))
+        (cond b (Own x.thing Ready) (claim p (declared p s.cells) ls (Going k)))) (eq-eqb k k refl) (good.fits (Going k))) in
         record { below = tasks_of ls; tasks = sym tasks; object = own.0; held = own.1 }
     dying o left _ tasks good same = absurd same
 

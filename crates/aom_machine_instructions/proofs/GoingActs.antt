@@ -63,7 +63,8 @@ pub fresh_value : (method this : ℕ) (us : List Machine_task) (h : Heap) (es : 
     value_in (Runs_frame (fresh method this) ∷ us) h es rest r ≡ value_in us h es rest r
 fresh_value method this us h es rest r = fresh_with method this own us h es rest r
 
-pub fresh_as : (method : ℕ) (home : Home) (view : Option ℕ) (height : ℕ) (ts : List Task) (r : Place) → word_at (Run (frame_as method home view height) ∷ ts) r ≡ word_at ts r
+pub fresh_as : (method : ℕ) (home : Home) (view : Option ℕ) (height : ℕ) (ts : List Task) (r : Place) →
+    word_at (Run (frame_as method home view height) ∷ ts) r ≡ word_at ts r
 fresh_as method home view height ts x = grind (arith, nat_tests, at_depth, word_past ts)
 
 pub fresh_word : (method : ℕ) (home : Home) (height : ℕ) (ts : List Task) (r : Place) → word_at (Run (frame_of method home height) ∷ ts) r ≡ word_at ts r
@@ -77,7 +78,8 @@ pub closes_word : (ts : List Task) (r : Place) → word_at (Closing ∷ ts) r �
 closes_word ts x = grind (arith, nat_tests, at_depth, word_past ts)
 
 -- the destructor that the machine finds is the one that the checked machine runs, and the class is one of servers for both
-unfold_class : (p : Image) (t : Thing) (c : Option Machine_cell) → thing_in c ≡ Some t → (destructor_in p (class_of c) ≡ destructor_of p t) × (is_server_class p (class_of c) ≡ is_server p t)
+unfold_class : (p : Image) (t : Thing) (c : Option Machine_cell) → thing_in c ≡ Some t →
+    (destructor_in p (class_of c) ≡ destructor_of p t) × (is_server_class p (class_of c) ≡ is_server p t)
 unfold_class p t c e = grind (arith, nat_tests, some_given, same_Some)
 
 module _ (p : Image) (m : Parts) (s : State) (agrees : Agrees p m s) (o : Object) (lives : named s.cells o.name ≡ Some o) (object : is_object o.thing ≡ true) where
@@ -99,8 +101,8 @@ module _ (p : Image) (m : Parts) (v : State) (us : List Machine_task) (ts : List
   DyingShows = (q : Place) → Represents (value_in (Destroys n ∷ us) m.cells m.entries.items (others m) q) (word_at (Destroy ∷ ts) q) (held v.cells q)
 
   -- its destructor runs, if there is one
-  pub destructs : (d : Option ℕ) (o : Object) (height : ℕ) → ((k : ℕ) → d ≡ Some k → (c : ℕ) × (method_class p k ≡ Some c)) → n ≡ o.name → n < 4096 → SameTasks us ts → Aside p m v → DyingShows
-      → Agrees p (with_tasks (destructed p d n (Destroys n ∷ us)) m) (record v { tasks = begun_by p d o height ts })
+  pub destructs : (d : Option ℕ) (o : Object) (height : ℕ) → ((k : ℕ) → d ≡ Some k → (c : ℕ) × (method_class p k ≡ Some c)) → n ≡ o.name → n < 4096 →
+      SameTasks us ts → Aside p m v → DyingShows → Agrees p (with_tasks (destructed p d n (Destroys n ∷ us)) m) (record v { tasks = begun_by p d o height ts })
   destructs None o height of name small same aside values = agrees_with p m v (Destroys n ∷ us) (Destroy ∷ ts) aside (small, same) values
   destructs (Some k) o height of name small same aside values = grind (arith, nat_tests, begun_as k n, agrees_with p m v, fresh_with k n, fresh_as k)
 
@@ -113,9 +115,9 @@ module _ (p : Image) (m : Parts) (v : State) (us : List Machine_task) (ts : List
     where
       go : (b : Bool) → Agrees p (with_tasks (cond b (Closes ∷ Destroys n ∷ us) (destructed p (destructor_in p class) n (Destroys n ∷ us))) m)
           (record v { tasks = cond b (Closing ∷ Destroy ∷ ts) (checked.destructed p o height ts) })
-      go true = agrees_with p m v (Closes ∷ Destroys n ∷ us) (Closing ∷ Destroy ∷ ts) aside (tt, (small, same)) (λ q.
-          subst (λ x. Represents x (word_at (Closing ∷ Destroy ∷ ts) q) (held v.cells q)) (sym (closes_value (Destroys n ∷ us) m.cells m.entries.items (others m) q))
-          (subst (λ w. Represents (value_in (Destroys n ∷ us) m.cells m.entries.items (others m) q) w (held v.cells q)) (sym (closes_word (Destroy ∷ ts) q)) (values q)))
+      go true = agrees_with p m v (Closes ∷ Destroys n ∷ us) (Closing ∷ Destroy ∷ ts) aside (tt, (small, same)) (λ q. subst (λ x. Represents x
+          (word_at (Closing ∷ Destroy ∷ ts) q) (held v.cells q)) (sym (closes_value (Destroys n ∷ us) m.cells m.entries.items (others m) q)) (subst (λ w.
+          Represents (value_in (Destroys n ∷ us) m.cells m.entries.items (others m) q) w (held v.cells q)) (sym (closes_word (Destroy ∷ ts) q)) (values q)))
       go false = subst (λ d. Agrees p (with_tasks (destructed p d n (Destroys n ∷ us)) m) (record v { tasks = checked.destructed p o height ts }))
           (sym destructor) (destructs (destructor_of p o.thing) o height (destructor_class p o.thing) name small same aside values)
 
@@ -124,10 +126,9 @@ module _ (p : Image) (m : Parts) (v : State) (us : List Machine_task) (ts : List
       → ((q : Place) → value_in us m.cells m.entries.items (others m) q ≡ changed u from null q) → ((q : Place) → word_at ts q ≡ w q) → DyingShows
   dying_shows cs from u w moves_so old deep no_word is empty ev ew =
       let there = Going (length ts) in
-      moves u _ w _ (held cs) _ from there old no_word
-      (λ q. destroys_value us m.cells m.entries.items (others m) n (length ts) deep q ∙ ap (λ x. cond (same_place there q) n x) (ev q) ∙ ap (λ x. changed (changed u from null) there x q) (sym is))
-      (λ q. destroys_word ts (length ts) q ∙ ap (λ x. cond (same_place there q) None x) (ew q))
-      (λ q. ap (λ l. held l q) moves_so ∙ held_moved cs from there q empty)
+      moves u _ w _ (held cs) _ from there old no_word (λ q. destroys_value us m.cells m.entries.items (others m) n (length ts) deep q
+      ∙ ap (λ x. cond (same_place there q) n x) (ev q) ∙ ap (λ x. changed (changed u from null) there x q) (sym is)) (λ q. destroys_word ts (length ts) q
+      ∙ ap (λ x. cond (same_place there q) None x) (ew q)) (λ q. ap (λ l. held l q) moves_so ∙ held_moved cs from there q empty)
 
 module _ (p : Image) (m : Parts) (refused : List ℕ) where
   pub delete_does : (a : ℕ) → a < 16 → (register_here m.stack.tasks a ≡ null → ⊥)
@@ -137,8 +138,7 @@ module _ (p : Image) (m : Parts) (refused : List ℕ) where
       (applied p h.frame h.below (requested (Delete a) h.state) (deletes h.frame (held h.state.cells (Register (length h.below) a)) a)))
       (λ f ms top is. let x = some_held (held h.state.cells (Register (length h.below) a)) (λ n. is (shown p m h f ms top a (no_word _ needs.0) ∙ n)) in
       subst (λ o. Agrees p (deleted f ms) (applied p h.frame h.below (requested (Delete a) h.state) (deletes h.frame o a))) (sym x.1)
-      (object f ms top (no_word _ needs.0) x.0 x.1 (sym (ap is_no_message x.1) ∙ needs.1.0)))
-      is)
+      (object f ms top (no_word _ needs.0) x.0 x.1 (sym (ap is_no_message x.1) ∙ needs.1.0))) is)
     where
       deleted : Machine_frame → List Machine_task → Parts
       deleted f ms =
@@ -164,16 +164,18 @@ module _ (p : Image) (m : Parts) (refused : List ℕ) where
           let empty : held s.cells (Going (suc (length ts))) ≡ None = nothing_held p m h.typing s h.typed h.agrees (Going (suc (length ts)))
           (sym (going_past (Runs_frame f ∷ ms) (suc (length ts)) (let d = top.deep in omega arith)) ∙ top.values (Going (suc (length ts)))) in
           begins p m v us vs k (class_at m.cells k) o (length s.items) name (subst (λ i. i < 4096) (sym name) below)
-          (ap (λ i. is_server_class p (class_at m.cells i)) name ∙ server_same p m s h.agrees o lives cell) (ap (λ i. destructor_at p m.cells i) name ∙ destructor_same p m s h.agrees o lives cell)
+          (ap (λ i. is_server_class p (class_at m.cells i)) name ∙ server_same p m s h.agrees o lives cell)
+          (ap (λ i. destructor_at p m.cells i) name ∙ destructor_same p m s h.agrees o lives cell)
           (reframed f fr (slice_set f.registers a null) _ f.place fr.place top.frame (length-set f.registers a null ∙ wide) top.frame.place, top.below)
           (aside_moved p m s here (Going (suc (length ts))) h.agrees refl refl)
-          (dying_shows p m v us vs k s.cells here (value_in (Runs_frame f ∷ ms) m.cells m.entries.items (others m)) (word_at (Run fr ∷ ts)) refl top.values (ap suc top.deep) was
-          (value_here f ms m.cells m.entries.items (others m) (length ts) a top.deep) empty
+          (dying_shows p m v us vs k s.cells here (value_in (Runs_frame f ∷ ms) m.cells m.entries.items (others m))
+          (word_at (Run fr ∷ ts)) refl top.values (ap suc top.deep) was (value_here f ms m.cells m.entries.items (others m) (length ts) a top.deep) empty
           (value_written f ms m.cells m.entries.items (others m) (length ts) a null f.place top.deep (omega arith))
           (λ q. word_written fr ts a fr.place None q ∙ sym (kept (word_at (Run fr ∷ ts)) here q ∙ ap (λ x. changed (word_at (Run fr ∷ ts)) here x q) was)))
 
 -- the end of a dispatch shows nothing
-pub end_value : (x y : Machine_dispatch) (h : Heap) (es : List Item) (rest : Others) (q : Place) → value_in (Ends x ∷ []) h es rest q ≡ value_in (Ends y ∷ []) h es rest q
+pub end_value : (x y : Machine_dispatch) (h : Heap) (es : List Item) (rest : Others) (q : Place) →
+    value_in (Ends x ∷ []) h es rest q ≡ value_in (Ends y ∷ []) h es rest q
 end_value x y h es rest q = grind arith
 
 -- and has no word
@@ -181,10 +183,10 @@ pub end_word : (d e : Dispatch) (q : Place) → word_at (Dispatched d ∷ []) q 
 end_word d e _ = refl
 
 -- where a dispatch is at its end, the root is at hand to go, with these counts
-pub uproots : (p : Image) → WellFormed p →
-    (m : Parts) (t : Typing) (s : State) (x : Machine_dispatch) (d : Dispatch) (o : Object) (rest r : Counters) → WellTyped p t s → Agrees p m s →
-    m.stack.tasks ≡ Ends x ∷ [] → s.tasks ≡ Dispatched d ∷ [] → held s.cells (Elsewhere Root) ≡ Some o → record rest { clock = raised rest.clock } ≡ r
-    → Agrees p (uprooted p (record m { rest = rest })) (record s { cells = moved (Elsewhere Root) (Going 1) s.cells; tasks = checked.begun p o (length s.items) (Dispatched Of_root ∷ []); rest = r })
+pub uproots : (p : Image) → WellFormed p → (m : Parts) (t : Typing) (s : State) (x : Machine_dispatch) (d : Dispatch) (o : Object) (rest r : Counters) →
+    WellTyped p t s → Agrees p m s → m.stack.tasks ≡ Ends x ∷ [] → s.tasks ≡ Dispatched d ∷ [] →
+    held s.cells (Elsewhere Root) ≡ Some o → record rest { clock = raised rest.clock } ≡ r → Agrees p (uprooted p (record m { rest = rest }))
+    (record s { cells = moved (Elsewhere Root) (Going 1) s.cells; tasks = checked.begun p o (length s.items) (Dispatched Of_root ∷ []); rest = r })
 uproots p formed m t s x d o rest r typed agrees held_top top e same =
     let old = value_in (Ends x ∷ []) m.cells m.entries.items (others m) in
     let w = word_at (Dispatched d ∷ []) in
@@ -197,11 +199,18 @@ uproots p formed m t s x d o rest r typed agrees held_top top e same =
     let aside = aside_moved p m s (Elsewhere Root) (Going 1) agrees refl refl in
     subst (λ ms. Agrees p (with_tasks (dying p m.cells m.root (Ends End_of_run ∷ ms)) mid)
     (record v { tasks = checked.begun p o (length s.items) (Dispatched Of_root ∷ []) })) (sym (ap below_first held_top))
-    (begins p mid v (Ends End_of_run ∷ []) (Dispatched Of_root ∷ []) m.root
-    (class_at m.cells m.root) o (length s.items) name (subst (λ i. i < 4096) (sym name) (object_small p m s formed agrees o lives cell))
-    (ap (λ i. is_server_class p (class_at m.cells i)) name ∙ server_same p m s agrees o lives cell) (ap (λ i. destructor_at p m.cells i) name ∙ destructor_same p m s agrees o lives cell)
-    ((Elsewhere Root, refl), tt)
-    (record { cells = aside.cells; entries = aside.entries; requests = aside.requests; natives = aside.natives; services = aside.services; rest = same; room = aside.room; entry_room = aside.entry_room })
+    (begins p mid v (Ends End_of_run ∷ []) (Dispatched Of_root ∷ []) m.root (class_at m.cells m.root) o (length s.items) name (subst (λ i. i < 4096)
+    (sym name) (object_small p m s formed agrees o lives cell)) (ap (λ i. is_server_class p (class_at m.cells i)) name ∙ server_same p m s agrees o lives cell)
+    (ap (λ i. destructor_at p m.cells i) name ∙ destructor_same p m s agrees o lives cell) ((Elsewhere Root, refl), tt) (record {
+      cells = aside.cells;
+      entries = aside.entries;
+      requests = aside.requests;
+      natives = aside.natives;
+      services = aside.services;
+      rest = same;
+      room = aside.room;
+      entry_room = aside.entry_room;
+    })
     (dying_shows p mid v (Ends End_of_run ∷ []) (Dispatched Of_root ∷ []) m.root s.cells (Elsewhere Root) old w refl values refl refl refl
     (nothing_held p m t s typed agrees (Going 1) (values (Going 1)))
     (λ q. root_written (Ends End_of_run ∷ []) m.cells m.entries.items (others m) null q
@@ -216,8 +225,8 @@ pub record Ends_cell (m : Parts) (s : State) (x : ℕ) (ms : List Machine_task) 
 
 pub by_going : (p : Image) (m : Parts) (h : In_going p m) (G : List Machine_task → Type 0)
     → ((x : ℕ) (ms : List Machine_task) → Ends_cell m h.state x ms h.below → G (Destroys x ∷ ms)) → G m.stack.tasks
-by_going p m h G show = go (alike m.stack.tasks (Destroy ∷ h.below) (subst (λ us. SameTasks m.stack.tasks us) h.top h.agrees.tasks))
-    (λ r. subst (λ us. Represents (value_in m.stack.tasks m.cells m.entries.items (others m) r) (word_at us r) (held h.state.cells r)) h.top (h.agrees.values r))
+by_going p m h G show = go (alike m.stack.tasks (Destroy ∷ h.below) (subst (λ us. SameTasks m.stack.tasks us) h.top h.agrees.tasks)) (λ r.
+    subst (λ us. Represents (value_in m.stack.tasks m.cells m.entries.items (others m) r) (word_at us r) (held h.state.cells r)) h.top (h.agrees.values r))
   where
     go : {ms : List Machine_task} → Alike ms (Destroy ∷ h.below) →
         ((r : Place) → Represents (value_in ms m.cells m.entries.items (others m) r) (word_at (Destroy ∷ h.below) r) (held h.state.cells r)) → G ms
@@ -273,12 +282,15 @@ module _ (p : Image) (m : Parts) (h : In_going p m) (o : Object) where
       let at : value_in (Destroys x ∷ ms) m.cells m.entries.items (others m) (Going d) ≡ x = ap (λ b. cond b x (going_in ms d)) (eq-eqb (length ms) d top.deep) in
       sym at ∙ top.values (Going d) ∙ ap number holds
 
-  pub thing_of_it : (n class : ℕ) → class_at m.cells n ≡ Some class → n ≡ o.name → named h.state.cells o.name ≡ Some o → is_object o.thing ≡ true → o.thing ≡ An_object_of class
-  thing_of_it n class is name lives object = thing_is o.thing class (cell_at m.cells n) is (ap (λ k. thing_in (cell_at m.cells k)) name ∙ object_class p m h.state h.agrees o lives object)
+  pub thing_of_it : (n class : ℕ) → class_at m.cells n ≡ Some class → n ≡ o.name → named h.state.cells o.name ≡ Some o → is_object o.thing ≡ true →
+      o.thing ≡ An_object_of class
+  thing_of_it n class is name lives object =
+      thing_is o.thing class (cell_at m.cells n) is (ap (λ k. thing_in (cell_at m.cells k)) name ∙ object_class p m h.state h.agrees o lives object)
 
   -- and of an object
   pub going_small : (x : ℕ) (ms : List Machine_task) → Ends_cell m h.state x ms h.below → held h.state.cells (Going (length h.below)) ≡ Some o → o.name < 4096
   going_small x ms top holds = subst (λ n. n < 4096) (number_of x ms top holds) top.small
 
-  pub going_object : (x : ℕ) (ms : List Machine_task) → Ends_cell m h.state x ms h.below → held h.state.cells (Going (length h.below)) ≡ Some o → is_object o.thing ≡ true
+  pub going_object : (x : ℕ) (ms : List Machine_task) → Ends_cell m h.state x ms h.below → held h.state.cells (Going (length h.below)) ≡ Some o →
+      is_object o.thing ≡ true
   going_object x ms top holds = object_there p m h.state h.agrees o (held_lives h.state.cells _ o h.typed.good.tidy holds) (going_small x ms top holds)

@@ -80,10 +80,12 @@ many_there (Message k ∷ es) = ap suc (many_there es)
 many_there (_ ∷ es) = many_there es
 
 -- what is kept, each once
-all_kept : (store : Store) (es : List QueueEntry) → Once (places_in es) → ((m : ℕ) → is_among m (places_in es) ≡ true → is_some (message_at store m) ≡ true) → AllKept store es
+all_kept : (store : Store) (es : List QueueEntry) → Once (places_in es) →
+    ((m : ℕ) → is_among m (places_in es) ≡ true → is_some (message_at store m) ≡ true) → AllKept store es
 all_kept store [] once there = tt
 all_kept store (Connect c ∷ es) once there = (tt, tt, all_kept store es once there)
-all_kept store (Message k ∷ es) once there = (there k (ap (λ b. b || is_among k (places_in es)) (eq-eqb k k refl)), sym (is_there es k) ∙ once.0, all_kept store es once.1 (λ m h. there m (later (k == m) (is_among m (places_in es)) h)))
+all_kept store (Message k ∷ es) once there =
+    (there k (ap (λ b. b || is_among k (places_in es)) (eq-eqb k k refl)), sym (is_there es k) ∙ once.0, all_kept store es once.1 (λ m h. there m (later (k == m) (is_among m (places_in es)) h)))
   where
     later : (a b : Bool) → b ≡ true → (a || b) ≡ true
     later x b h = grind arith
@@ -123,7 +125,8 @@ quiet_then s s' same (_ ∷ es) quiet = quiet_then s s' same es quiet
 
 queue_same : (n : ℕ) (es : List QueueEntry) (s : kept.State) → Quiet s es → SessionsSame s (kept.queue_gone n es s)
 queue_same n [] s quiet = λ i d. refl
-queue_same n (e ∷ es) s quiet = λ i d. queue_same n es (kept.gone n (e ∷ es) s) (quiet_then s (kept.gone n (e ∷ es) s) (one e quiet) es (rest e quiet)) i d ∙ one e quiet i d
+queue_same n (e ∷ es) s quiet =
+    λ i d. queue_same n es (kept.gone n (e ∷ es) s) (quiet_then s (kept.gone n (e ∷ es) s) (one e quiet) es (rest e quiet)) i d ∙ one e quiet i d
   where
     one : (e : QueueEntry) → Quiet s (e ∷ es) → SessionsSame s (kept.gone n (e ∷ es) s)
     one (Connect c) quiet = set_same s (kept.gone n (Connect c ∷ es) s) c Unconnected refl (λ large. refl) quiet.0 (λ i. refl)
@@ -147,7 +150,8 @@ gone_none x i e = grind arith
 
 sessions_same : (n : ℕ) (cs : List ℕ) (s : kept.State) → NoneOf s cs → SessionsSame s (kept.sessions_gone n cs s)
 sessions_same n [] s none = λ i d. refl
-sessions_same n (c ∷ cs) s none = λ i d. sessions_same n cs (kept.session_gone n (c ∷ cs) s) (none_of_then s (kept.session_gone n (c ∷ cs) s) one cs none.1) i d ∙ one i d
+sessions_same n (c ∷ cs) s none =
+    λ i d. sessions_same n cs (kept.session_gone n (c ∷ cs) s) (none_of_then s (kept.session_gone n (c ∷ cs) s) one cs none.1) i d ∙ one i d
   where
     one : SessionsSame s (kept.session_gone n (c ∷ cs) s)
     one = set_same s (kept.session_gone n (c ∷ cs) s) c (at_gone (kept.client_at s c)) refl
@@ -220,7 +224,8 @@ module _ (p : Image) (m : Parts) (h : In_going p m)
       let held_there : held s.cells g ≡ Some x = ap (λ us. held s.cells (Going (length us))) (sym under) ∙ good.stack.0.1 in
       let is : x ≡ o = same_Some x o (sym held_there ∙ holds) in
       let last = resting_in (last_of (thing_kind p x.thing)) in
-      let suits = subst (λ b. Suits (thing_kind p x.thing) (cond b last (states_claim p x ls)) (requested s.cells x.name)) (eq-eqb x.name x.name refl) (good.suits x good.stack.0.0) in
+      let suits = subst (λ b. Suits (thing_kind p x.thing) (cond b last (states_claim p x ls)) (requested s.cells x.name)) (eq-eqb x.name x.name refl)
+      (good.suits x good.stack.0.0) in
       ap (λ (y : Object). awaited (requested s.cells y.name)) (sym is) ∙ last_untold (thing_kind p x.thing) (requested s.cells x.name) suits)
 
   -- no session is there
@@ -263,7 +268,8 @@ module _ (p : Image) (m : Parts) (h : In_going p m)
 
   sessions_stay : SessionsSame k k'
   sessions_stay i d =
-      let queue = queue_same n (kept.queue_at k n) k (quiet_here (kept.queue_at k n) (subst (λ q. QueueFits s.clients n q) (sym (same.queues n)) (h.kept.fit.queues n))) in
+      let queue = queue_same n (kept.queue_at k n) k
+      (quiet_here (kept.queue_at k n) (subst (λ q. QueueFits s.clients n q) (sym (same.queues n)) (h.kept.fit.queues n))) in
       sessions_same n (kept.sessions_at k n) (kept.queue_gone n (kept.queue_at k n) k) (none_of_then k
       (kept.queue_gone n (kept.queue_at k n) k) queue (kept.sessions_at k n) (none_listed (kept.sessions_at k n) (λ c e. e))) i d ∙ queue i d
 
@@ -275,9 +281,11 @@ module _ (p : Image) (m : Parts) (h : In_going p m)
       left x e = ap (λ cs. cell_of cs i) (unqueued_so n s.cells) ∙ cell_of_sifted (λ c. is_queue_of n c.owner) (λ c. c.service) s.cells i h.typed.good.tidy
           ∙ ap (left_of (λ c. is_queue_of n c.owner) (λ c. c.service)) e
 
-      here : (c : Cell) → cell_of s.cells i ≡ Some c → named unqueued i ≡ named s.cells i → (b : Bool) → is_queue_of n c.owner ≡ b → (service_of unqueued i).queue ≡ (service_of s.cells i).queue
+      here : (c : Cell) → cell_of s.cells i ≡ Some c → named unqueued i ≡ named s.cells i → (b : Bool) → is_queue_of n c.owner ≡ b →
+          (service_of unqueued i).queue ≡ (service_of s.cells i).queue
       here c e names true drops =
-          let none : named unqueued i ≡ None = named_cell unqueued i ∙ ap object_in (left (Some c) e ∙ ap (λ b. cond b None (Some (record c { service = c.service }))) drops) in
+          let none : named unqueued i ≡ None =
+          named_cell unqueued i ∙ ap object_in (left (Some c) e ∙ ap (λ b. cond b None (Some (record c { service = c.service }))) drops) in
           let some : named s.cells i ≡ Some c.object = named_cell s.cells i ∙ ap object_in e in
           (let clash : None ≡ Some c.object = sym none ∙ names ∙ some in cc)
       here c e names false drops = ap (λ (v : Service). v.queue) (service_cell unqueued i ∙ ap service_in
@@ -291,7 +299,8 @@ module _ (p : Image) (m : Parts) (h : In_going p m)
   -- the places show what they showed, but for what goes
   module _ (heap : Heap) (a : Active) (w : Standing) (store : Store) (cleared : Changes m.cells heap o.name None) (less : count heap + 1 ≡ count m.cells)
       (off : Delists m.active a o.name) (shut : Sets m.sessions w o.name false) (drops : Drops (kept.queue_at m.clients o.name) m.messages store)
-      (typed : WellTyped p h.typing (vanished o h.below h.state)) (fits : IsKept p (vanished o h.below h.state)) (x : ℕ) (ms : List Machine_task) (top : Ends_cell m h.state x ms h.below) where
+      (typed : WellTyped p h.typing (vanished o h.below h.state)) (fits : IsKept p (vanished o h.below h.state)) (x : ℕ) (ms : List Machine_task)
+      (top : Ends_cell m h.state x ms h.below) where
     object : is_object o.thing ≡ true
     object = going_object p m h o x ms top holds
 
@@ -305,8 +314,8 @@ module _ (p : Image) (m : Parts) (h : In_going p m)
     clients_gone = same_gone p h.typing h.wired s h.typed h.kept.fit k same p.header.cells h.agrees.services.sized g o holds refl small within
 
     held_after : (r : Place) → is_queue r ≡ false → held after r ≡ held (without g s.cells) r
-    held_after r apart =
-        (each_unslotted_alike xs gone).held_so r ∙ held_without unqueued g r ∙ ap (λ o. changed (λ q. o) g None r) (unqueued_holds r apart) ∙ sym (held_without s.cells g r)
+    held_after r apart = (each_unslotted_alike xs gone).held_so r ∙ held_without unqueued g r ∙ ap (λ o. changed (λ q. o) g None r) (unqueued_holds r apart)
+        ∙ sym (held_without s.cells g r)
 
     in_no_queue : (r : Place) → ((i j : ℕ) → r ≡ Elsewhere (Queued i j) → ⊥) → is_queue r ≡ false
     in_no_queue y aside = grind arith
@@ -326,9 +335,9 @@ module _ (p : Image) (m : Parts) (h : In_going p m)
         (held_without s.cells (Going d))
 
     listed_so : SameListed p (unlisted n m.listed) after
-    listed_so = listed_gone p m.listed unqueued after n
-        (λ class. ap (λ o. lists p class o (requested after n)) (each.named_so n ∙ unnamed unqueued g o tidy there))
-        (λ i class other. ap (λ o. lists p class o (requested after i)) (each.named_so i ∙ named_without unqueued g o i tidy there other) ∙ ap (lists p class (named unqueued i)) (asked i other))
+    listed_so = listed_gone p m.listed unqueued after n (λ class. ap (λ o. lists p class o (requested after n))
+        (each.named_so n ∙ unnamed unqueued g o tidy there)) (λ i class other. ap (λ o. lists p class o (requested after i))
+        (each.named_so i ∙ named_without unqueued g o i tidy there other) ∙ ap (lists p class (named unqueued i)) (asked i other))
         (λ i other. ap order_in (asked i other)) (listed_beside p m.listed s.cells unqueued beside h.agrees.services.listed)
       where
         each : Alike gone after
@@ -346,17 +355,20 @@ module _ (p : Image) (m : Parts) (h : In_going p m)
 
     tokens_so : SameTokens p m.tokens after
     tokens_so = tokens_unslotted p m.tokens xs gone
-        (tokens_without p m.tokens unqueued g o tidy there small (ap awaited (beside.requests o.name) ∙ going_untold)
-        (tokens_beside p m.tokens s.cells unqueued beside (told_unqueued p h.typing h.wired s h.typed h.kept.fit k same m.messages h.agrees.services.messages n) h.agrees.services.tokens))
+        (tokens_without p m.tokens unqueued g o tidy there small (ap awaited (beside.requests o.name) ∙ going_untold) (tokens_beside p m.tokens s.cells unqueued
+        beside (told_unqueued p h.typing h.wired s h.typed h.kept.fit k same m.messages h.agrees.services.messages n) h.agrees.services.tokens))
 
-    pub goes_away : Agrees p (places.next (record (with_tasks ms m) { cells = heap; active = a; sessions = w; clients = k'; messages = store; listed = unlisted n m.listed })) (vanished o ts s)
+    pub goes_away : Agrees p (places.next
+        (record (with_tasks ms m) { cells = heap; active = a; sessions = w; clients = k'; messages = store; listed = unlisted n m.listed })) (vanished o ts s)
     goes_away = record {
       tasks = same_resumed ms ts top.below;
       values = shows_again p h.typing (vanished o ts s) (others m) k' (going_on ms) heap m.entries.items
           (without g s.cells) (resumed ts) typed fits.fit clients_gone sessions_stay (λ r aside. held_after r (in_no_queue r aside)) shows_before;
-      cells = cells_unslotted p heap xs gone (cells_without p m.cells heap unqueued g o (cells_beside p m.cells s.cells unqueued beside h.agrees.cells) tidy there object cleared less);
+      cells = cells_unslotted p heap xs gone
+          (cells_without p m.cells heap unqueued g o (cells_beside p m.cells s.cells unqueued beside h.agrees.cells) tidy there object cleared less);
       entries = h.agrees.entries;
-      requests = requests_unslotted p a xs gone (requests_gone p m.active a unqueued g o tidy there off (requests_beside p m.active s.cells unqueued beside queue_stays h.agrees.requests));
+      requests = requests_unslotted p a xs gone
+          (requests_gone p m.active a unqueued g o tidy there off (requests_beside p m.active s.cells unqueued beside queue_stays h.agrees.requests));
       natives = natives_unslotted p w s.killed xs gone (natives_gone p m.sessions w s.killed unqueued g o tidy there shut
           (natives_beside p m.sessions s.killed s.cells unqueued h.formed.header.cells beside h.agrees.natives));
       services = record {
@@ -372,10 +384,12 @@ module _ (p : Image) (m : Parts) (h : In_going p m)
     }
 
     -- with its lines
-    pub told_away : (class : ℕ) (told : LineBuffer) → o.thing ≡ An_object_of class
-        → record told { lines = (told.lines ++ gone_lines k (kept.queue_at k n)) ++ Gone class ∷ [] } ≡ record told { lines = told.lines ++ (queue_lines s.cells (Some o) ++ goes_line (Some o)) }
+    pub told_away : (class : ℕ) (told : LineBuffer) → o.thing ≡ An_object_of class →
+        record told { lines = (told.lines ++ gone_lines k (kept.queue_at k n)) ++ Gone class ∷ [] }
+        ≡ record told { lines = told.lines ++ (queue_lines s.cells (Some o) ++ goes_line (Some o)) }
     told_away class told is =
-        let queue = queue_told k s.cells s.clients same o (messages_wait p h.typing h.wired s h.typed s.clients h.kept.fit k same n) ∙ lines_alike k (kept.queue_at k n) in
+        let queue = queue_told k s.cells s.clients same o (messages_wait p h.typing h.wired s h.typed s.clients h.kept.fit k same n)
+        ∙ lines_alike k (kept.queue_at k n) in
         ap (λ ls. record told { lines = ls }) (append_assoc told.lines (gone_lines k (kept.queue_at k n)) (Gone class ∷ []) ∙ ap (λ ls. told.lines
         ++ (ls ++ Gone class ∷ [])) (sym queue) ∙ ap (λ ls. told.lines ++ (queue_lines s.cells (Some o) ++ ls)) (sym (line_of o class is)))
 
@@ -388,8 +402,7 @@ go_does m heap a w store n class told which is gone less off shut drops p h o ho
     by_going p m h (λ us. n ≡ going_here us → Agrees p (places.next (record (with_tasks (below_first us) m)
     { cells = heap; active = a; sessions = w; clients = kept.server_gone n m.clients; messages = store; listed = unlisted n m.listed })) (vanished o h.below
     h.state) × (record told { lines = (told.lines ++ gone_lines m.clients (kept.queue_at m.clients n)) ++ Gone class ∷ [] } ≡ record told {
-      lines = told.lines
-          ++ (queue_lines h.state.cells (Some o) ++ goes_line (Some o));
+      lines = told.lines ++ (queue_lines h.state.cells (Some o) ++ goes_line (Some o));
     })) (λ x ms top which. let name : n ≡ o.name = which ∙ number_of p m h o x ms top holds in
     let gone = subst (λ k. Changes m.cells heap k None) name gone in
     let off = subst (λ k. Delists m.active a k) name off in
@@ -403,8 +416,7 @@ go_does m heap a w store n class told which is gone less off shut drops p h o ho
     { lines = told.lines ++ (queue_lines h.state.cells (Some o) ++ goes_line (Some o)) })) (sym name) (
       goes_away p m h o holds free heap a w store gone less off shut drops typed fits x ms top,
       told_away p m h o holds free heap a w store gone less off shut drops typed fits x ms top class told thing,
-    ))
-    which
+    )) which
 
 -- what waits at a cell is kept, each once, so it can go
 pub can_vanish : (p : Image) (m : Parts) → Stands (record { image = p; parts = m }) → (n : ℕ) → Lives m.cells n → CanVanish n m
@@ -414,7 +426,8 @@ can_vanish p m st n lives =
     let same = st.1.agrees.services.clients in
     let once = waiting_once p st.1.typing st.1.sound.wired s st.1.typed fit m.clients same n in
     let there = waiting_kept p st.1.typing st.1.sound.wired s st.1.typed fit m.clients same n m.messages st.1.agrees.services.messages in
-    let below = some_given (λ c. IsSome c) (cell_at m.cells n) lives (λ none. cc) (λ c is some. subst (λ k. n < k) st.1.agrees.cells.limit (st.1.agrees.cells.below n c is)) in
+    let below = some_given (λ c. IsSome c) (cell_at m.cells n) lives (λ none. cc)
+    (λ c is some. subst (λ k. n < k) st.1.agrees.cells.limit (st.1.agrees.cells.below n c is)) in
     let few = st.1.sound.formed.header.cells in
     record { small = omega (arith, below, few); within = subst (λ k. n < k) (sym st.1.agrees.services.sized.queues) below; kept = all_kept m.messages (kept.queue_at m.clients n) once there }
 
@@ -425,5 +438,6 @@ gone_counted s (Close c ∷ es) = gone_counted s es
 gone_counted s (_ ∷ es) = ap suc (gone_counted s es)
 
 -- so there is room for the cell's line
-pub room_left : (told : LineBuffer) (s : kept.State) (es : List QueueEntry) → (length told.lines + answers es) < told.room → length (told.lines ++ gone_lines s es) < told.room
+pub room_left : (told : LineBuffer) (s : kept.State) (es : List QueueEntry) → (length told.lines + answers es) < told.room →
+    length (told.lines ++ gone_lines s es) < told.room
 room_left told s es room = let many = length-append told.lines (gone_lines s es) in let counted = gone_counted s es in omega (arith, room, many, counted)

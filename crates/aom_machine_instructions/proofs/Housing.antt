@@ -24,15 +24,27 @@ module _ (p : Image) (m : Parts) (st : Stands (record { image = p; parts = m }))
   unfoldable pub at_hand : At_hand p m
   at_hand =
       let f = frame_of m.stack.tasks st.0.tasks runs st.1.agrees.tasks in
-      record { typing = st.1.typing; state = st.0; frame = f.0; below = f.1; top = f.2; formed = st.1.sound.formed; linked = st.1.sound.linked; wired = st.1.sound.wired; typed = st.1.typed; kept = st.1.kept; agrees = st.1.agrees }
+      record {
+        typing = st.1.typing;
+        state = st.0;
+        frame = f.0;
+        below = f.1;
+        top = f.2;
+        formed = st.1.sound.formed;
+        linked = st.1.sound.linked;
+        wired = st.1.sound.wired;
+        typed = st.1.typed;
+        kept = st.1.kept;
+        agrees = st.1.agrees;
+      }
 
   pub finds_home : ThisLives m
   finds_home = is_housed p m at_hand
 
 module _ (p : Image) (m : Parts) where
   -- the needs of the instruction that is next are met
-  pub needs_met : (i : Instr) (next : IsNext p i m)
-      → (c : Choice) × (let h = at_hand p (counting next.counts m) next.stands next.runs in AllTrue (needs p c h.frame h.below (requested i (at_step h.state)) i))
+  pub needs_met : (i : Instr) (next : IsNext p i m) →
+      (c : Choice) × (let h = at_hand p (counting next.counts m) next.stands next.runs in AllTrue (needs p c h.frame h.below (requested i (at_step h.state)) i))
   unfolding at_hand
   needs_met i next =
       let st = next.stands in
@@ -52,7 +64,9 @@ module _ (p : Image) (m : Parts) where
       says n.0 h.frame h.below (requested i (at_step h.state)) n.1
 
   pub finds_loaded : (a w : ℕ) → IsNext p (Load a w) m → Lives m.cells (this m)
-  finds_loaded a w next = let n = needs_met (Load a w) next in next.housed (has_cell p (counting next.counts m) (at_hand p (counting next.counts m) next.stands next.runs) w n.1.0)
+  finds_loaded a w next = let n = needs_met (Load a w) next in
+      next.housed (has_cell p (counting next.counts m) (at_hand p (counting next.counts m) next.stands next.runs) w n.1.0)
 
   pub finds_stored : (w b : ℕ) → IsNext p (Store w b) m → Lives m.cells (this m)
-  finds_stored w b next = let n = needs_met (Store w b) next in next.housed (has_cell p (counting next.counts m) (at_hand p (counting next.counts m) next.stands next.runs) w n.1.0)
+  finds_stored w b next = let n = needs_met (Store w b) next in
+      next.housed (has_cell p (counting next.counts m) (at_hand p (counting next.counts m) next.stands next.runs) w n.1.0)

@@ -30,7 +30,8 @@ use Rattle.aom_machine_instructions.proofs.Running.{retasked}
 use Rattle.aom_machine_instructions.proofs.WordActs.{plain_does, word_read, passes}
 
 -- a leave is no place
-pub unwinds_value : (us : List Machine_task) (h : Heap) (es : List Item) (rest : Others) (code : ℤ) (r : Place) → value_in (Unwinds code ∷ us) h es rest r ≡ value_in us h es rest r
+pub unwinds_value : (us : List Machine_task) (h : Heap) (es : List Item) (rest : Others) (code : ℤ) (r : Place) →
+    value_in (Unwinds code ∷ us) h es rest r ≡ value_in us h es rest r
 unwinds_value us h es rest code x = grind (arith, nat_tests, at_depth, register_past us, going_past us)
 
 pub unwinds_word : (us : List Task) (code : ℤ) (r : Place) → word_at (Unwind code ∷ us) r ≡ word_at us r
@@ -75,11 +76,12 @@ stays_to_trap cs heap es rest (Ends d ∷ ms) (Dispatched x ∷ ts) free stays =
 stays_to_trap cs heap es rest _ _ free stays = absurd (assumption tt)
 
 -- the machine leaves
-pub leaves : (p : Image) (m : Parts) (s : State) (code : ℤ) → Agrees p m s → above_trap_is_free s.cells s.tasks ≡ true → Agrees p (leaving code m) (record s { tasks = Unwind code ∷ to_trap s.tasks })
+pub leaves : (p : Image) (m : Parts) (s : State) (code : ℤ) → Agrees p m s → above_trap_is_free s.cells s.tasks ≡ true →
+    Agrees p (leaving code m) (record s { tasks = Unwind code ∷ to_trap s.tasks })
 leaves p m s code agrees free =
     let stays = stays_to_trap s.cells m.cells m.entries.items (others m) m.stack.tasks s.tasks free (record { tasks = agrees.tasks; values = agrees.values }) in
-    retasked p m s (Unwinds code ∷ held_to_trap m.stack.tasks) (Unwind code ∷ to_trap s.tasks) agrees (refl, stays.tasks)
-    (λ r. subst (λ n. Represents n (word_at (Unwind code ∷ to_trap s.tasks) r) (held s.cells r)) (sym (unwinds_value (held_to_trap m.stack.tasks) m.cells m.entries.items (others m) code r))
+    retasked p m s (Unwinds code ∷ held_to_trap m.stack.tasks) (Unwind code ∷ to_trap s.tasks) agrees (refl, stays.tasks) (λ r. subst (λ n. Represents n
+    (word_at (Unwind code ∷ to_trap s.tasks) r) (held s.cells r)) (sym (unwinds_value (held_to_trap m.stack.tasks) m.cells m.entries.items (others m) code r))
     (subst (λ w. Represents (value_in (held_to_trap m.stack.tasks) m.cells m.entries.items (others m) r) w (held s.cells r)) (sym (unwinds_word (to_trap s.tasks) code r)) (stays.values r)))
 
 pub leaves_at : (p : Image) (m : Parts) (s : State) (fr : Frame) (ts : List Task) (code : ℤ) → s.tasks ≡ Run fr ∷ ts →
@@ -91,25 +93,26 @@ module _ (m : Parts) (refused : List ℕ) where
   -- with a register's word
   left_with : (p : Image) (h : At_hand p m) (a : ℕ) → is_some (word h.frame a) ≡ true → above_trap_is_free h.state.cells (Run h.frame ∷ h.below) ≡ true →
       Agrees p (leaving (cast_signed w32 (register_here m.stack.tasks a)) m) (applied p h.frame h.below h.state (Leaves (read h.frame h.below h.state a) Same))
-  left_with p h a some free =
-      subst (λ w. Agrees p (leaving (cast_signed w32 (register_here m.stack.tasks a)) m) (applied p h.frame h.below h.state (Leaves w Same))) (word_read p m h a some)
-      (leaves_at p m h.state h.frame h.below (cast_signed w32 (register_here m.stack.tasks a)) h.top h.agrees free)
+  left_with p h a some free = subst (λ w. Agrees p (leaving (cast_signed w32 (register_here m.stack.tasks a)) m) (applied p h.frame h.below h.state
+      (Leaves w Same))) (word_read p m h a some) (leaves_at p m h.state h.frame h.below (cast_signed w32 (register_here m.stack.tasks a)) h.top h.agrees free)
 
   pub leave_does : (a : ℕ) → Does refused (Leave a) m (leaving (cast_signed w32 (register_here m.stack.tasks a)) m)
   leave_does a = plain_does m (leaving (cast_signed w32 (register_here m.stack.tasks a)) m) refused (Leave a) refl (λ p h c met. left_with p h a met.0 met.1.1.0)
 
-  left_negative : (a : ℕ) → int_lt (cast_signed w32 (register_here m.stack.tasks a)) (pos 0) ≡ true → Does refused (LeaveIf a) m (leaving (cast_signed w32 (register_here m.stack.tasks a)) m)
+  left_negative : (a : ℕ) → int_lt (cast_signed w32 (register_here m.stack.tasks a)) (pos 0) ≡ true →
+      Does refused (LeaveIf a) m (leaving (cast_signed w32 (register_here m.stack.tasks a)) m)
   left_negative a less = plain_does m (leaving (cast_signed w32 (register_here m.stack.tasks a)) m) refused (LeaveIf a) refl (λ p h c met.
       let below : int_lt (read h.frame h.below h.state a) (pos 0) ≡ true = ap (λ w. int_lt w (pos 0)) (sym (word_read p m h a met.0)) ∙ less in
       let free = subst (λ b. AllTrue (cond b (leave_needs h.state.cells (Run h.frame ∷ h.below)) [])) below met.1 in
       subst (λ b. Agrees p (leaving (cast_signed w32 (register_here m.stack.tasks a)) m) (applied p h.frame h.below h.state
       (cond b (Leaves (read h.frame h.below h.state a) Same) (updates h.frame Same)))) (sym below) (left_with p h a met.0 free.1.0))
 
-  pub leave_if_leaves : (a : ℕ) (code : ℤ) → code ≡ cast_signed w32 (register_here m.stack.tasks a) → int_lt code (pos 0) ≡ true → Does refused (LeaveIf a) m (leaving code m)
+  pub leave_if_leaves : (a : ℕ) (code : ℤ) → code ≡ cast_signed w32 (register_here m.stack.tasks a) → int_lt code (pos 0) ≡ true →
+      Does refused (LeaveIf a) m (leaving code m)
   leave_if_leaves a code e less = grind (arith, nat_tests, left_negative a)
 
   pub leave_if_stays : (a : ℕ) → int_lt (cast_signed w32 (register_here m.stack.tasks a)) (pos 0) ≡ false → Does refused (LeaveIf a) m (places.next m)
   leave_if_stays a more = plain_does m (places.next m) refused (LeaveIf a) refl (λ p h c met.
       let above : int_lt (read h.frame h.below h.state a) (pos 0) ≡ false = ap (λ w. int_lt w (pos 0)) (sym (word_read p m h a met.0)) ∙ more in
-      subst (λ b. Agrees p (places.next m) (applied p h.frame h.below h.state (cond b (Leaves (read h.frame h.below h.state a) Same) (updates h.frame Same)))) (sym above)
-      (passes m refused p h))
+      subst (λ b. Agrees p (places.next m) (applied p h.frame h.below h.state (cond b (Leaves (read h.frame h.below h.state a) Same) (updates h.frame Same))))
+      (sym above) (passes m refused p h))

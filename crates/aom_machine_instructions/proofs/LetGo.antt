@@ -1,6 +1,7 @@
 -- The sessions with a server that goes: the first that is there is at hand to go before it, and once none is left its destructor runs.
 use Rattle.std.proofs.lemmas.Bool.Decides.{nat_tests}
-use Rattle.std.proofs.Common.{Bool, List, None, Option, Some, [], ap, append-nil, arith, cond, false, length, refl, subst, suc, sym, true, ℕ, ◌+◌, ◌++◌, ◌<◌, ◌∙◌, ◌∷◌, ◌≡◌, ◌≤◌}
+use Rattle.std.proofs.Common.{Bool, List, None, Option, Some, [], ap, append-nil, arith, cond, false, length, refl, subst, suc, sym, true, ℕ, ◌+◌, ◌++◌, ◌<◌}
+use Rattle.std.proofs.Common.{◌∙◌, ◌∷◌, ◌≡◌, ◌≤◌}
 use Rattle.std.proofs.lemmas.Bool.{cases_lt, eq-eqb, eqb-true}
 use Rattle.std.proofs.lemmas.List.{get_or_past}
 use Rattle.aom_cells.specs.Heap.{Lives, class_at, null}
@@ -35,7 +36,8 @@ use Rattle.aom_machine_instructions.proofs.Firsts.{IsSeat, closing_found, its_se
 use Rattle.aom_machine_instructions.proofs.SafetyLemmas.{session_object}
 use Rattle.aom_machine_instructions.proofs.GoingActs.{begins, closes_value, closes_word, destructor_class, destructor_same, destructs, dying_shows, server_same}
 use Rattle.aom_machine_instructions.proofs.ReturnActs.{lives_within}
-use Rattle.aom_machine_instructions.proofs.Running.{Aside, an_open, aside_counted, aside_moved, aside_of, nothing_held, object_lives_at, object_small, object_there}
+use Rattle.aom_machine_instructions.proofs.Running.{Aside, an_open, aside_counted, aside_moved, aside_of, nothing_held, object_lives_at, object_small}
+use Rattle.aom_machine_instructions.proofs.Running.{object_there}
 use Rattle.aom_machine_instructions.proofs.Stepping.{counted_by, moved_so}
 use Rattle.aom_machine_instructions.specs.Going.{destructed, destructor_at, destructor_in, dying, is_server_class}
 use Rattle.aom_machine_instructions.specs.Moves.{Moves}
@@ -60,7 +62,8 @@ closed p t m s typed agrees closing = go refl refl (alike m.stack.tasks s.tasks 
   where
     under : {ms : List Machine_task} {ts : List Task} → m.stack.tasks ≡ Closes ∷ ms →
         s.tasks ≡ Closing ∷ Destroy ∷ ts → (o : Object) → held s.cells (Going (length ts)) ≡ Some o → Alike ms (Destroy ∷ ts) → Closed m s
-    under e f o holds (both_go x ms ts small same _) = record { number = x; held_below = ms; below = ts; held_top = e; top = f; small = small; same = same; object = o; holds = holds }
+    under e f o holds (both_go x ms ts small same _) =
+        record { number = x; held_below = ms; below = ts; held_top = e; top = f; small = small; same = same; object = o; holds = holds }
 
     go : {us : List Machine_task} {vs : List Task} → m.stack.tasks ≡ us → s.tasks ≡ vs → Alike us vs → IsClosing us → Closed m s
     go e f (both_close ms ts same more) is =
@@ -69,7 +72,8 @@ closed p t m s typed agrees closing = go refl refl (alike m.stack.tasks s.tasks 
     go e f _ is = absurd is
 
 -- a step of what closes the sessions
-step_of_closing : (p : Image) (c : Choice) (s : State) (ts : List Task) → s.tasks ≡ Closing ∷ Destroy ∷ ts → step p c s ≡ checked.closing p (Destroy ∷ ts) (at_close s)
+step_of_closing : (p : Image) (c : Choice) (s : State) (ts : List Task) → s.tasks ≡ Closing ∷ Destroy ∷ ts →
+    step p c s ≡ checked.closing p (Destroy ∷ ts) (at_close s)
 step_of_closing p c s ts top = ap (λ us. step_task p c (counted_by s (asked p us) (is_counted us)) us) top
 
 module _ (p : Image) (formed : WellFormed p) (m : Parts)
@@ -104,7 +108,8 @@ module _ (p : Image) (formed : WellFormed p) (m : Parts)
   -- the number that goes is the server's
   number_is : x ≡ o.name
   number_is =
-      let at : value_in (Destroys x ∷ ms) m.cells m.entries.items (others m) (Going (length ts)) ≡ x = ap (λ b. cond b x (going_in ms (length ts))) (eq-eqb (length ms) (length ts) deep) in
+      let at : value_in (Destroys x ∷ ms) m.cells m.entries.items (others m) (Going (length ts)) ≡ x =
+      ap (λ b. cond b x (going_in ms (length ts))) (eq-eqb (length ms) (length ts) deep) in
       sym at ∙ under (Going (length ts)) ∙ ap number e.holds
 
   lives : named s.cells o.name ≡ Some o
@@ -126,8 +131,8 @@ module _ (p : Image) (formed : WellFormed p) (m : Parts)
   aside = aside_counted p m s m.rest (at_close s).rest (aside_of p m s agrees) counts
 
   -- no session is there: its destructor runs
-  pub none_left : kept.first_there m.clients (kept.sessions_at m.clients x) ≡ None
-      → Agrees p (with_tasks (destructed p (destructor_at p m.cells x) x (Destroys x ∷ ms)) m) (parting p o (first_session s.cells o.name (service_of s.cells o.name).sessions) ts (at_close s))
+  pub none_left : kept.first_there m.clients (kept.sessions_at m.clients x) ≡ None → Agrees p (with_tasks (destructed p (destructor_at p m.cells x) x
+      (Destroys x ∷ ms)) m) (parting p o (first_session s.cells o.name (service_of s.cells o.name).sessions) ts (at_close s))
   none_left none =
       let first = no_session p m t s typed agrees o.name fits.fit (ap (λ i. kept.first_there m.clients (kept.sessions_at m.clients i)) (sym number_is) ∙ none) in
       subst (λ f. Agrees p (with_tasks (destructed p (destructor_at p m.cells x) x (Destroys x ∷ ms)) m) (parting p o f ts (at_close s))) (sym first)
@@ -136,7 +141,8 @@ module _ (p : Image) (formed : WellFormed p) (m : Parts)
       (destructs p m (at_close s) ms ts x (destructor_of p o.thing) o (length s.items) (destructor_class p o.thing) number_is e.small e.same aside under))
 
   -- the session of that client is the first that is there: it goes
-  module _ (c r : ℕ) (first : kept.first_there m.clients (kept.sessions_at m.clients x) ≡ Some c) (its : session_of (kept.client_at m.clients c) ≡ Some r) (small : r < 65536) where
+  module _ (c r : ℕ) (first : kept.first_there m.clients (kept.sessions_at m.clients x) ≡ Some c) (its : session_of (kept.client_at m.clients c) ≡ Some r)
+      (small : r < 65536) where
     abbrev k' : kept.State
     k' = kept.after_release c m.clients
 
@@ -199,18 +205,17 @@ module _ (p : Image) (formed : WellFormed p) (m : Parts)
           entry_room = a.entry_room;
         }
 
-    pub goes_first : Agrees p (with_tasks (dying p m.cells r us) m') (parting p o (first_session s.cells o.name (service_of s.cells o.name).sessions) ts (at_close s))
+    pub goes_first : Agrees p (with_tasks (dying p m.cells r us) m')
+        (parting p o (first_session s.cells o.name (service_of s.cells o.name).sessions) ts (at_close s))
     goes_first =
         let name = seat.number in
         let deep_too = deep in
         let empty : held s.cells to ≡ None = grind (arith, nat_tests, nothing_held p m t s typed agrees, going_past) in
-        subst (λ f. Agrees p (with_tasks (dying p m.cells r us) m') (parting p o f ts (at_close s))) (sym seat.seat)
-        (begins p m' v us vs r (class_at m.cells r) y (length s.items) name (object_small_there name)
-        (ap (λ i. is_server_class p (class_at m.cells i)) name ∙ server_same p m s agrees y y_lives y_cell) (ap (λ i. destructor_at p m.cells i) name ∙ destructor_same p m s agrees y y_lives y_cell)
-        (tt, (e.small, e.same))
-        aside_then
-        (dying_shows p m' v us vs r s.cells from (value_in us m.cells m.entries.items (others m)) (word_at vs) refl old (ap (λ i. suc (suc i)) deep) refl shown empty
-        (session_released (others m) us m.cells m.entries.items c o.name client with_it) (λ q. refl)))
+        subst (λ f. Agrees p (with_tasks (dying p m.cells r us) m') (parting p o f ts (at_close s))) (sym seat.seat) (begins p m' v us vs r (class_at m.cells r)
+        y (length s.items) name (object_small_there name) (ap (λ i. is_server_class p (class_at m.cells i)) name ∙ server_same p m s agrees y y_lives y_cell)
+        (ap (λ i. destructor_at p m.cells i) name ∙ destructor_same p m s agrees y y_lives y_cell)
+        (tt, (e.small, e.same)) aside_then (dying_shows p m' v us vs r s.cells from (value_in us m.cells m.entries.items (others m)) (word_at vs) refl old
+        (ap (λ i. suc (suc i)) deep) refl shown empty (session_released (others m) us m.cells m.entries.items c o.name client with_it) (λ q. refl)))
       where
         object_small_there : r ≡ y.name → r < 4096
         object_small_there name = subst (λ i. i < 4096) (sym name) (object_small p m s formed agrees y y_lives y_cell)
@@ -231,8 +236,8 @@ module _ (p : Image) (m : Parts) (announced : m.rest.announced ≡ true) where
         ap (λ ls. record told { lines = ls }) (sym (ap (λ us. told.lines ++ written_task p s us) e.top ∙ append-nil told.lines)),
       )
 
-  pub destructor_moves : (told : LineBuffer) (n : ℕ) (ms : List Machine_task) → m.stack.tasks ≡ Closes ∷ Destroys n ∷ ms → kept.first_there m.clients (kept.sessions_at m.clients n) ≡ None
-      → Moves p m told told (with_tasks (destructed p (destructor_at p m.cells n) n (Destroys n ∷ ms)) m)
+  pub destructor_moves : (told : LineBuffer) (n : ℕ) (ms : List Machine_task) → m.stack.tasks ≡ Closes ∷ Destroys n ∷ ms → kept.first_there m.clients
+      (kept.sessions_at m.clients n) ≡ None → Moves p m told told (with_tasks (destructed p (destructor_at p m.cells n) n (Destroys n ∷ ms)) m)
   destructor_moves told n ms tasks none = by_closing _ told (subst IsClosing (sym tasks) tt) (λ t s formed typed fits agrees e.
       let same : Closes ∷ Destroys n ∷ ms ≡ Closes ∷ Destroys e.number ∷ e.held_below = sym tasks ∙ e.held_top in
       let is : n ≡ e.number = cc in
@@ -262,7 +267,8 @@ pub record Finds_server (m : Parts) : Type 0 where
   pub within : number < length m.clients.queues
   pub lives : Lives m.cells number
   -- a session that is found lives
-  pub session : (c r : ℕ) → kept.first_there m.clients (kept.sessions_at m.clients number) ≡ Some c → session_of (kept.client_at m.clients c) ≡ Some r → r < 65536 → Lives m.cells r
+  pub session : (c r : ℕ) → kept.first_there m.clients (kept.sessions_at m.clients number) ≡ Some c → session_of (kept.client_at m.clients c) ≡ Some r →
+      r < 65536 → Lives m.cells r
 
 pub finds_server : (p : Image) (m : Parts) → Stands (record { image = p; parts = m }) → m.rest.announced ≡ true → IsClosing m.stack.tasks → Finds_server m
 finds_server p m st announced closing =
@@ -299,7 +305,8 @@ none_taken : (k : kept.State) (cs : List ℕ) → session_there (kept.first_ther
 none_taken k cs none = grind (arith, nat_tests, has_session_of, first_has k cs)
 
 -- or that of a client
-one_taken : (k : kept.State) (cs : List ℕ) (r : ℕ) → session_there (kept.first_there k cs) k ≡ Some r → (c : ℕ) × (kept.first_there k cs ≡ Some c) × (session_of (kept.client_at k c) ≡ Some r)
+one_taken : (k : kept.State) (cs : List ℕ) (r : ℕ) → session_there (kept.first_there k cs) k ≡ Some r →
+    (c : ℕ) × (kept.first_there k cs ≡ Some c) × (session_of (kept.client_at k c) ≡ Some r)
 one_taken k cs r some = grind (arith, nat_tests)
 
 below_shorter : (us : List Machine_task) → length (below_first us) ≤ length us
@@ -345,7 +352,8 @@ module _ (p : Image) (m : Parts) (st : Stands (record { image = p; parts = m }))
       told_here : result ≡ session_there (kept.first_there m.clients (kept.sessions_at m.clients number)) m.clients
       told_here = told ∙ ap (λ (k : Parts). session_there (kept.first_there k.clients (kept.sessions_at k.clients number)) k.clients) drop
 
-      takes_here : taken ≡ record (with_tasks (below_first m.stack.tasks) m) { clients = released_by (kept.first_there m.clients (kept.sessions_at m.clients number)) m.clients }
+      takes_here : taken ≡ record (with_tasks (below_first m.stack.tasks) m)
+          { clients = released_by (kept.first_there m.clients (kept.sessions_at m.clients number)) m.clients }
       takes_here = grind (arith, nat_tests, number)
 
       -- all but the clients
@@ -374,9 +382,11 @@ module _ (p : Image) (m : Parts) (st : Stands (record { image = p; parts = m }))
       pub session_found : (r : ℕ) → result ≡ Some r → r < 65536 → Lives taken.cells r
       session_found r some small =
           let one = one_taken m.clients (kept.sessions_at m.clients number) r (sym told_here ∙ some) in
-          subst (λ h. Lives h r) (sym cells_taken) (found.session one.0 r (ap (λ i. kept.first_there m.clients (kept.sessions_at m.clients i)) (sym (is ∙ here)) ∙ one.1) one.2 small)
+          subst (λ h. Lives h r) (sym cells_taken)
+          (found.session one.0 r (ap (λ i. kept.first_there m.clients (kept.sessions_at m.clients i)) (sym (is ∙ here)) ∙ one.1) one.2 small)
 
-      pub moves_some : (turn : LineBuffer) (r : ℕ) (new : Parts) → result ≡ Some r → r < 65536 → new ≡ with_tasks (dying p taken.cells r (Closes ∷ taken.stack.tasks)) taken → Moves p m turn turn new
+      pub moves_some : (turn : LineBuffer) (r : ℕ) (new : Parts) → result ≡ Some r → r < 65536 →
+          new ≡ with_tasks (dying p taken.cells r (Closes ∷ taken.stack.tasks)) taken → Moves p m turn turn new
       moves_some turn r new some small new_is =
           let one = one_taken m.clients (kept.sessions_at m.clients number) r (sym told_here ∙ some) in
           let then = record m { clients = kept.after_release one.0 m.clients } in

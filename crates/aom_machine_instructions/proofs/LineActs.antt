@@ -46,8 +46,8 @@ next_class p k m e = some_given (λ q. class_destructor p q ≡ Some k) (parent_
 
 -- and is a method
 pub next_there : (p : Image) (k m : ℕ) → next_destructor p m ≡ Some k → IsSome (method_at p k)
-next_there p k m e =
-    some_given (λ q. class_destructor p q ≡ Some k) (parent_above p m) e (λ none. cc) (λ c at role. ap is_some (families_inherit.roles p c k Destruct role).there)
+next_there p k m e = some_given (λ q. class_destructor p q ≡ Some k) (parent_above p m) e (λ none. cc)
+    (λ c at role. ap is_some (families_inherit.roles p c k Destruct role).there)
 
 module _ (p : Image) (m : Parts) (refused : List ℕ) (a : ℕ) (act : Active) (is_over : IsOver p m act) where
   abbrev mid : Parts
@@ -65,24 +65,22 @@ module _ (p : Image) (m : Parts) (refused : List ℕ) (a : ℕ) (act : Active) (
   -- over a cell that goes stands a destructor of its line, which works on it and gives nothing
   line_here : (h : At_hand p m) (ts : List Task) → h.state.tasks ≡ Run h.frame ∷ Destroy ∷ ts →
       (o : Object) × (held h.state.cells (Going (length ts)) ≡ Some o) × (h.frame.home ≡ Inside o (Going (length ts))) × (gives_of p h.frame.method ≡ Nothing)
-  line_here h ts at =
-      method_layer (λ ls. Good p h.typing h.state.cells ls) h.frame (Destroy ∷ ts) h.typed.layers (sym h.typed.tasks ∙ at) h.typed.good (λ sh ls under good.
-      going_layer (λ ls. Good p h.typing h.state.cells (Method h.frame sh ∷ ls)) ts ls under good (λ o below rest good.
+  line_here h ts at = method_layer (λ ls. Good p h.typing h.state.cells ls) h.frame (Destroy ∷ ts) h.typed.layers (sym h.typed.tasks ∙ at) h.typed.good
+      (λ sh ls under good. going_layer (λ ls. Good p h.typing h.state.cells (Method h.frame sh ∷ ls)) ts ls under good (λ o below rest good.
       let d = good.stack.4 in
       (o, subst (λ us. held h.state.cells (Going (length us)) ≡ Some o) rest d.0.1, subst (λ us. h.frame.home ≡ Inside o (Going (length us))) rest d.1.1, d.1.3)))
 
-  goes_up :
-      (h : At_hand p m) (f : Machine_frame) (x : ℕ) (us : List Machine_task) (ts : List Task) → x < 4096 → SameTasks us ts → h.state.tasks ≡ Run h.frame ∷ Destroy ∷ ts →
-      Top mid (past h) h.frame (Destroy ∷ ts) f (Destroys x ∷ us) → none_owns_but h.state.cells (length (Destroy ∷ ts)) (result_source (gives_of p h.frame.method) a) ≡ true →
-      Agrees p (with_tasks (destructed p (next_destructor p f.method) x (Destroys x ∷ us)) mid) (after h (Destroy ∷ ts))
+  goes_up : (h : At_hand p m) (f : Machine_frame) (x : ℕ) (us : List Machine_task) (ts : List Task) → x < 4096 → SameTasks us ts → h.state.tasks ≡ Run
+      h.frame ∷ Destroy ∷ ts → Top mid (past h) h.frame (Destroy ∷ ts) f (Destroys x ∷ us) → none_owns_but h.state.cells (length (Destroy ∷ ts)) (result_source
+      (gives_of p h.frame.method) a) ≡ true → Agrees p (with_tasks (destructed p (next_destructor p f.method) x (Destroys x ∷ us)) mid) (after h (Destroy ∷ ts))
   goes_up h f x us ts small same at top free =
       let line = line_here h ts at in
       let agree = ended_agrees p m h act is_over in
-      let alone : (i : ℕ) → held (past h).cells (Register (length (Destroy ∷ ts)) i) ≡ None =
-      grind (arith, nat_tests, still h, none_owned h.state.cells) in
+      let alone : (i : ℕ) → held (past h).cells (Register (length (Destroy ∷ ts)) i) ≡ None = grind (arith, nat_tests, still h, none_owned h.state.cells) in
       let waits = to_waiting p mid h.typing (past h) h.frame agree f a (Destroys x ∷ us) (Destroy ∷ ts) top alone in
       let deep : length us ≡ length ts = omega (arith, top.deep) in
-      let there : value_in (Destroys x ∷ us) m.cells m.entries.items (others m) (Going (length ts)) ≡ x = ap (λ b. cond b x (going_in us (length ts))) (eq-eqb (length us) (length ts) deep) in
+      let there : value_in (Destroys x ∷ us) m.cells m.entries.items (others m) (Going (length ts)) ≡ x =
+      ap (λ b. cond b x (going_in us (length ts))) (eq-eqb (length us) (length ts) deep) in
       let name : x ≡ line.0.name = sym there ∙ waits.values (Going (length ts)) ∙ ap number (still h (Going (length ts)) ∙ line.1) in
       let pushed = destructs p mid (past h) us ts x (next_destructor p h.frame.method) line.0 h.frame.height
       (λ k e. next_class p k h.frame.method e) name small same (aside_of p mid (past h) agree) waits.values in
@@ -104,10 +102,11 @@ module _ (p : Image) (m : Parts) (refused : List ℕ) (a : ℕ) (act : Active) (
         frame = top.frame;
         below = top.below;
         deep = top.deep;
-        values = λ r. subst (Represents (value_in (Runs_frame f ∷ ms) m.cells m.entries.items (others m) r) (word_at (Run h.frame ∷ ts) r)) (sym (still h r)) (top.values r);
+        values = λ r. subst (Represents (value_in (Runs_frame f ∷ ms) m.cells m.entries.items (others m) r) (word_at (Run h.frame ∷ ts) r))
+            (sym (still h r)) (top.values r);
       }
 
-      go :
-          (h : At_hand p m) (f : Machine_frame) (ms : List Machine_task) (ts : List Task) → h.state.tasks ≡ Run h.frame ∷ ts → Top mid (past h) h.frame ts f ms → Tops A_going ms → Alike ms ts →
+      go : (h : At_hand p m) (f : Machine_frame) (ms : List Machine_task) (ts : List Task) →
+          h.state.tasks ≡ Run h.frame ∷ ts → Top mid (past h) h.frame ts f ms → Tops A_going ms → Alike ms ts →
           none_owns_but h.state.cells (length ts) (result_source (gives_of p h.frame.method) a) ≡ true → Agrees p (goes (Runs_frame f ∷ ms)) (after h ts)
       go h f _ _ at top (going_on_top x us) (both_go _ _ ts small same _) free = goes_up h f x us ts small same at top free

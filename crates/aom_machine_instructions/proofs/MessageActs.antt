@@ -59,9 +59,17 @@ module _ (m : Parts) (refused : List ℕ) where
       let mid = record m { served = null } in
       let from = Elsewhere In_service in
       let to = Register (length ts) a in
-      goes_on_with p m h mid (moved from to s.cells) s.items s.rest (put_at None h.frame.words a None) (on_top (with_register a m.served)) (with_register a m.served) (λ f ms. refl)
-      (record { stack = refl; cells = cells_moved p m.cells s.cells from to h.agrees.cells; entries = h.agrees.entries; requests = requests_moved p m.active s.cells from to h.agrees.requests; natives = natives_moved p m.sessions s.killed s.cells from to h.agrees.natives; services = services_moved p s.cells from to refl refl h.agrees.services; rest = h.agrees.rest; room = h.agrees.entry_room })
-      (λ f ms e top.
+      goes_on_with p m h mid (moved from to s.cells) s.items s.rest (put_at None h.frame.words a None) (on_top (with_register a m.served))
+      (with_register a m.served) (λ f ms. refl) (record {
+        stack = refl;
+        cells = cells_moved p m.cells s.cells from to h.agrees.cells;
+        entries = h.agrees.entries;
+        requests = requests_moved p m.active s.cells from to h.agrees.requests;
+        natives = natives_moved p m.sessions s.killed s.cells from to h.agrees.natives;
+        services = services_moved p s.cells from to refl refl h.agrees.services;
+        rest = h.agrees.rest;
+        room = h.agrees.entry_room;
+      }) (λ f ms e top.
       let wide = top.frame.wide in
       record {
         frame = framed p m h f ms _ a m.served top;
@@ -100,7 +108,8 @@ replied p h a b order =
     record h.state { cells = without (Register (length h.below) a) (redeemed_by order code h.state.cells); tasks = Run (next (set_word h.frame a None)) ∷ h.below }
 
 -- where no token is at its place it is none
-module _ (p : Image) (m : Parts) (h : At_hand p m) (a : ℕ) (x : InRegister p m h a) (place : ℕ) (name : x.object.name ≡ message_name place) (sent : class_at m.tokens place ≡ None) where
+module _ (p : Image) (m : Parts) (h : At_hand p m) (a : ℕ) (x : InRegister p m h a) (place : ℕ) (name : x.object.name ≡ message_name place)
+    (sent : class_at m.tokens place ≡ None) where
   no_token_there : (service_of h.state.cells x.object.name).token ≡ None
   no_token_there = grind (arith, nat_tests)
 
@@ -115,17 +124,16 @@ module _ (m : Parts) where
   pub reply_does : (refused : List ℕ) (a b place : ℕ) (store : Store) → a < 16 → first_number + place ≡ register_here m.stack.tasks a →
       class_at m.tokens place ≡ None → Changes m.messages store place None → count store + 1 ≡ count m.messages →
       Does refused (Reply a b) m (places.next (record (set_register a null m) { clients = after_complete place m.clients; messages = store }))
-  reply_does refused a b place store small named sent gone fewer =
-      plain_does m (places.next (record (set_register a null m) { clients = after_complete place m.clients; messages = store })) refused (Reply a b) refl (λ p h c met.
+  reply_does refused a b place store small named sent gone fewer = plain_does m
+      (places.next (record (set_register a null m) { clients = after_complete place m.clients; messages = store })) refused (Reply a b) refl (λ p h c met.
       let s = h.state in
       let x = in_register p m h a b c met in
       let g = Register (length h.below) a in
       let name : x.object.name ≡ message_name place = x.number ∙ sym named in
       let mid = record m { clients = after_complete place m.clients; messages = store } in
       subst (λ order. Agrees p (places.next (record (set_register a null m) { clients = after_complete place m.clients; messages = store }))
-      (replied p h a b order)) (sym (nothing_told p m h a x place name sent))
-      (goes_on_with p m h mid (without g s.cells) s.items s.rest (put_at None h.frame.words a None) (on_top (with_register a null)) (with_register a null) (λ f ms. refl)
-      (record {
+      (replied p h a b order)) (sym (nothing_told p m h a x place name sent)) (goes_on_with p m h mid (without g s.cells) s.items s.rest
+      (put_at None h.frame.words a None) (on_top (with_register a null)) (with_register a null) (λ f ms. refl) (record {
         stack = refl;
         cells = cells_completed p h.typing s h.typed g x.object x.there x.message place name m.cells h.agrees.cells;
         entries = h.agrees.entries;
@@ -140,7 +148,8 @@ module _ (m : Parts) where
       (completed_values (Runs_frame f ∷ ms) m.cells m.entries.items (others m) place) (held_without s.cells g))))
 
   -- its line
-  pub reply_tells : (told : LineBuffer) (a b place : ℕ) (code : ℤ) → first_number + place ≡ register_here m.stack.tasks a → code ≡ cast_signed w32 (register_here m.stack.tasks b) →
+  pub reply_tells : (told : LineBuffer) (a b place : ℕ) (code : ℤ) →
+      first_number + place ≡ register_here m.stack.tasks a → code ≡ cast_signed w32 (register_here m.stack.tasks b) →
       Tells (Reply a b) m told (record told { lines = told.lines ++ completion_lines (completion (place_at m.clients place)) code })
   reply_tells told a b place code named read p h c met =
       let s = h.state in
@@ -167,6 +176,5 @@ module _ (m mid new : Parts) (told now : LineBuffer) (n : ℕ) (code : ℤ)
 
   pub reply_told : code ≡ cast_signed w32 (register_here m.stack.tasks b) → Tells (Reply a b) m told now
   reply_told read = subst (λ x. Tells (Reply a b) m told x) (sym (completes.line ∙ ap (λ (x : Parts). record told {
-    lines = told.lines ++ completion_lines
-        (completion (place_at x.clients completes.place)) code;
+    lines = told.lines ++ completion_lines (completion (place_at x.clients completes.place)) code;
   }) emptied)) (reply_tells m told a b completes.place code (completes.number ∙ number_so) read)

@@ -20,16 +20,24 @@ use Rattle.aom_roles.specs.Tables.{put_at}
 
 module _ (m : Parts) (refused : List ℕ) where
   pub move_does : (a b : ℕ) → a < 16 → b < 16 → Does refused (Move a b) m (places.next (set_register a (register_here m.stack.tasks b) (set_register b null m)))
-  move_does a b small little = plain_does m (places.next (set_register a (register_here m.stack.tasks b) (set_register b null m))) refused (Move a b) refl (λ p h c met.
+  move_does a b small little =
+      plain_does m (places.next (set_register a (register_here m.stack.tasks b) (set_register b null m))) refused (Move a b) refl (λ p h c met.
       let s = h.state in
       let ts = h.below in
       let x = register_here m.stack.tasks b in
       let from = Register (length ts) b in
       let to = Register (length ts) a in
-      goes_on_with p m h m (moved from to s.cells) s.items s.rest (put_at None h.frame.words a None) (λ us. on_top (with_register a x) (on_top (with_register b null) us))
-      (λ f. with_register a x (with_register b null f)) (λ f ms. refl)
-      (record { stack = refl; cells = cells_moved p m.cells s.cells from to h.agrees.cells; entries = h.agrees.entries; requests = requests_moved p m.active s.cells from to h.agrees.requests; natives = natives_moved p m.sessions s.killed s.cells from to h.agrees.natives; services = services_moved p s.cells from to refl refl h.agrees.services; rest = h.agrees.rest; room = h.agrees.entry_room })
-      (λ f ms e top.
+      goes_on_with p m h m (moved from to s.cells) s.items s.rest (put_at None h.frame.words a None)
+      (λ us. on_top (with_register a x) (on_top (with_register b null) us)) (λ f. with_register a x (with_register b null f)) (λ f ms. refl) (record {
+        stack = refl;
+        cells = cells_moved p m.cells s.cells from to h.agrees.cells;
+        entries = h.agrees.entries;
+        requests = requests_moved p m.active s.cells from to h.agrees.requests;
+        natives = natives_moved p m.sessions s.killed s.cells from to h.agrees.natives;
+        services = services_moved p s.cells from to refl refl h.agrees.services;
+        rest = h.agrees.rest;
+        room = h.agrees.entry_room;
+      }) (λ f ms e top.
       let wide = top.frame.wide in
       let left = with_register b null f in
       let still : length left.registers ≡ 16 = length-set f.registers b null ∙ wide in

@@ -90,16 +90,17 @@ module _ (p : Image) (m : Parts) (h : At_hand p m) (on : OnObject p m h) (w : St
       let n = x.number in
       let cs = resessioned s.cells h.frame.home b in
       subst (λ k. Agrees p k (applied p h.frame h.below s (sets h.frame a (Some v) (Sessioned b)))) (sym x.written)
-      (goes_on_with p m h (record m { sessions = w }) cs s.items s.rest (put_at None h.frame.words a (Some v)) (on_top (with_register a n)) (with_register a n) (λ f ms. refl) beside
-      (λ f ms e top. written p m h (record m { sessions = w }) cs a n
+      (goes_on_with p m h (record m { sessions = w }) cs s.items s.rest (put_at None h.frame.words a (Some v))
+      (on_top (with_register a n)) (with_register a n) (λ f ms. refl) beside (λ f ms e top. written p m h (record m { sessions = w }) cs a n
       (Some v) None x.small x.word f ms top (λ q. refl) (λ q. (resessioned_alike s.cells h.frame.home b).held_so q ∙ still_none p m h a none q)))
 
   session_passes : Agrees p (places.next (record m { sessions = w })) (applied p h.frame h.below h.state (updates h.frame (Sessioned b)))
   session_passes = grind (arith, nat_tests, goes_on_as p m h, beside, resessioned_alike h.state.cells h.frame.home b)
 
 module _ (p : Image) (m new : Parts) (refused : List ℕ) (n : ℕ) (serves : native_of (kind_here p m) ≡ Some n) where
-  pub connect_does : (a : ℕ) (w : Standing) → Sets m.sessions w (this m) (opens (is_killed m.sessions n) (is_open m.sessions (this m)) (heard_by m))
-      → WritesWord a (connected (is_killed m.sessions n) (is_open m.sessions (this m)) (heard_by m)) (record m { sessions = w }) new → DoesIn p refused (Connect a) m new
+  pub connect_does : (a : ℕ) (w : Standing) → Sets m.sessions w (this m) (opens (is_killed m.sessions n) (is_open m.sessions (this m)) (heard_by m)) →
+      WritesWord a (connected (is_killed m.sessions n) (is_open m.sessions (this m)) (heard_by m)) (record m { sessions = w }) new →
+      DoesIn p refused (Connect a) m new
   connect_does a w set writes h here = heard_at p m new refused (Connect a) refl h (λ c hears met typed.
       let on = on_object p m h (native_listed _ met.0) in
       let flag = subst (λ b. Sets m.sessions w (this m) b) (heard_told p m h on n serves opens c hears) set in

@@ -41,8 +41,10 @@ pub shown : (p : Image) (m : Parts) (h : At_hand p m) (f : Machine_frame) (ms : 
 shown p m h f ms top a none = subst (λ w. Represents (slice_index_or f.registers a null) w (held h.state.cells (Register (length h.below) a))) none
     (register_shows m h.state h.frame h.below f ms top a)
 
-pub shown_here : (p : Image) (m : Parts) (h : At_hand p m) (a : ℕ) → word h.frame a ≡ None → register_here m.stack.tasks a ≡ number (held h.state.cells (Register (length h.below) a))
-shown_here p m h a none = by_top p m h (λ us. register_here us a ≡ number (held h.state.cells (Register (length h.below) a))) (λ f ms top. shown p m h f ms top a none)
+pub shown_here : (p : Image) (m : Parts) (h : At_hand p m) (a : ℕ) → word h.frame a ≡ None →
+    register_here m.stack.tasks a ≡ number (held h.state.cells (Register (length h.below) a))
+shown_here p m h a none =
+    by_top p m h (λ us. register_here us a ≡ number (held h.state.cells (Register (length h.below) a))) (λ f ms top. shown p m h f ms top a none)
 
 module _ (m : Parts) (refused : List ℕ) where
   -- a jump unless a place owns something, by the number of what it owns
@@ -59,18 +61,26 @@ module _ (m : Parts) (refused : List ℕ) where
       (λ p h c met. jumps_empty p h (Register (length h.below) a) to (sym (shown_here p m h a (no_word _ met.0)) ∙ is))
 
   pub jump_object_does : (a to : ℕ) → (register_here m.stack.tasks a ≡ null → ⊥) → Does refused (JumpNull a to) m (places.next m)
-  jump_object_does a to is =
-      plain_does m (places.next m) refused (JumpNull a to) refl (λ p h c met. passes_full p h (Register (length h.below) a) to (λ n. is (shown_here p m h a (no_word _ met.0) ∙ n)))
+  jump_object_does a to is = plain_does m (places.next m) refused (JumpNull a to) refl
+      (λ p h c met. passes_full p h (Register (length h.below) a) to (λ n. is (shown_here p m h a (no_word _ met.0) ∙ n)))
 
   -- null is written, where the register owns nothing
-  nulled : (p : Image) (h : At_hand p m) (a : ℕ) (r r' : Counters) → a < 16 → r ≡ r' → held h.state.cells (Register (length h.below) a) ≡ None
-      → Agrees p (places.next (set_register a null (record m { rest = r }))) (record h.state { tasks = Run (next (set_word h.frame a None)) ∷ h.below; rest = r' })
+  nulled : (p : Image) (h : At_hand p m) (a : ℕ) (r r' : Counters) → a < 16 → r ≡ r' → held h.state.cells (Register (length h.below) a) ≡ None → Agrees p
+      (places.next (set_register a null (record m { rest = r }))) (record h.state { tasks = Run (next (set_word h.frame a None)) ∷ h.below; rest = r' })
   nulled p h a r r' small rest none =
       let s = h.state in
       let mid = record m { rest = r } in
       goes_on_with p m h mid s.cells s.items r' (put_at None h.frame.words a None) (on_top (with_register a null)) (with_register a null) (λ f ms. refl)
-      (record { stack = refl; cells = h.agrees.cells; entries = h.agrees.entries; requests = h.agrees.requests; natives = h.agrees.natives; services = h.agrees.services; rest = rest; room = h.agrees.entry_room })
-      (λ f ms e top. written p m h mid s.cells a null None None small refl f ms top (λ q. refl) (still_none p m h a none))
+      (record {
+        stack = refl;
+        cells = h.agrees.cells;
+        entries = h.agrees.entries;
+        requests = h.agrees.requests;
+        natives = h.agrees.natives;
+        services = h.agrees.services;
+        rest = rest;
+        room = h.agrees.entry_room;
+      }) (λ f ms e top. written p m h mid s.cells a null None None small refl f ms top (λ q. refl) (still_none p m h a none))
 
   pub delete_null_does : (p : Image) (a : ℕ) → a < 16 → register_here m.stack.tasks a ≡ null → DoesIn p refused (Delete a) m (places.next (set_register a null m))
   delete_null_does p a small is h here = plain_at p m _ refused (Delete a) refl h (λ c needs typed.
@@ -83,8 +93,8 @@ values_kept : (ms : List Machine_task) (h h' : Heap) (es : List Item) (rest : Ot
     cell_at h n ≡ None → Changes h h' n (Some (blank class)) → (r : Place) → value_in ms h' es rest r ≡ value_in ms h es rest r
 values_kept ms h h' es rest n class none ch (Field k g) = cases (n == k) (λ e.
     let same = eqb-true n k e in
-    ap (λ i. field_of (cell_at h' i) g) (sym same) ∙ ap (λ o. field_of o g) ch.here ∙ all_same 8 g null ∙ ap (λ o. field_of o g) (sym none) ∙ ap (λ i. field_of (cell_at h i) g) same)
-    (λ e. ap (λ o. field_of o g) (ch.others k (λ d. false≢true (sym e ∙ eq-eqb n k (sym d)))))
+    ap (λ i. field_of (cell_at h' i) g) (sym same) ∙ ap (λ o. field_of o g) ch.here ∙ all_same 8 g null ∙ ap (λ o. field_of o g) (sym none)
+    ∙ ap (λ i. field_of (cell_at h i) g) same) (λ e. ap (λ o. field_of o g) (ch.others k (λ d. false≢true (sym e ∙ eq-eqb n k (sym d)))))
 values_kept ms h h' es rest n class none ch _ = refl
 
 -- the words of a new object
@@ -149,18 +159,17 @@ module _ (m : Parts) (turn : LineBuffer) where
   )
 
   -- a new cell comes to a register
-  pub made_agrees : (p : Image) (h : At_hand p m) (a class n : ℕ) (heap : Heap) (r : Counters) →
-      a < 16 → record m.rest { requests = raised m.rest.requests } ≡ r → is_none (held h.state.cells (Register (length h.below) a)) ≡ true
-      → class < 256 → cell_at m.cells n ≡ None → n ≢ null → Changes m.cells heap n (Some (blank class)) → count heap ≡ count m.cells + 1 → n < heap.limit
-      → Agrees p (places.next (set_register a n (asked heap))) (record h.state { cells = with_new n (An_object_of class) (zeros p class) (Register (length h.below) a) h.state.cells; tasks = Run (next (set_word h.frame a None)) ∷ h.below; rest = r })
+  pub made_agrees : (p : Image) (h : At_hand p m) (a class n : ℕ) (heap : Heap) (r : Counters) → a < 16 → record m.rest { requests = raised m.rest.requests }
+      ≡ r → is_none (held h.state.cells (Register (length h.below) a)) ≡ true → class < 256 → cell_at m.cells n ≡ None → n ≢ null →
+      Changes m.cells heap n (Some (blank class)) → count heap ≡ count m.cells + 1 → n < heap.limit → Agrees p (places.next (set_register a n (asked heap)))
+      (record h.state { cells = with_new n (An_object_of class) (zeros p class) (Register (length h.below) a) h.state.cells; tasks = Run (next (set_word h.frame a None)) ∷ h.below; rest = r })
   made_agrees p h a class n heap r small rest empty fits none some ch more within =
       let s = h.state in
       let here = Register (length h.below) a in
       let cs = with_new n (An_object_of class) (zeros p class) here s.cells in
       let below = new_small p m h heap n class ch within in
       let fresh = unnamed p m s n h.agrees below none in
-      goes_on_with p m h (asked heap) cs s.items r (put_at None h.frame.words a None) (on_top (with_register a n)) (with_register a n) (λ f ms. refl)
-      (record {
+      goes_on_with p m h (asked heap) cs s.items r (put_at None h.frame.words a None) (on_top (with_register a n)) (with_register a n) (λ f ms. refl) (record {
         stack = refl;
         cells = cells_made p m.cells heap s.cells n class (zeros p class) here h.agrees.cells (zeros_at (words_of p class)) fits none some ch more within;
         entries = h.agrees.entries;
@@ -187,6 +196,7 @@ module _ (m : Parts) (turn : LineBuffer) where
   pub new_does : (a class n : ℕ) (refused : Bool) (heap : Heap) →
       a < 16 → refused ≡ refuses turn m → Made class refused n m.cells heap → Does turn.refused (New a class) m (places.next (set_register a n (asked heap)))
   new_does a class n refused heap small same it = elim it [
-    | inl null_made ↦ subst (λ x. Does turn.refused (New a class) m (places.next (set_register a n (asked x)))) (sym null_made.2) (subst (λ k. Does turn.refused (New a class) m (places.next (set_register a k (asked m.cells)))) (sym null_made.1) (refused_does a class small (sym null_made.0 ∙ same)))
+    | inl null_made ↦ subst (λ x. Does turn.refused (New a class) m (places.next (set_register a n (asked x)))) (sym null_made.2) (subst (λ k. Does turn.refused
+        (New a class) m (places.next (set_register a k (asked m.cells)))) (sym null_made.1) (refused_does a class small (sym null_made.0 ∙ same)))
     | inr new_made ↦ made_does a class n heap small (sym new_made.0 ∙ same) new_made.1 new_made.2 new_made.3 new_made.4 new_made.5 new_made.6
   ]

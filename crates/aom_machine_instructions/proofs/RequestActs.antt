@@ -111,7 +111,8 @@ pub waits_active : (h : Option Machine_request) → is_waited_for h ≡ true →
 waits_active h e = grind arith
 
 -- a change that keeps the order of a request
-order_kept : (f : Request → Request) → ((r : Request) → (f r).order ≡ r.order) → (o : Option Request) → option_map (λ x. x.order) (on_request f o) ≡ option_map (λ x. x.order) o
+order_kept : (f : Request → Request) → ((r : Request) → (f r).order ≡ r.order) → (o : Option Request) →
+    option_map (λ x. x.order) (on_request f o) ≡ option_map (λ x. x.order) o
 order_kept f same x = grind arith
 
 -- and one that keeps what it waits for
@@ -211,18 +212,17 @@ module _ (p : Image) (m : Parts) (h : At_hand p m) where
 
     -- the method that cancels is the one that the machine finds
     -- what it counts as for the method that runs
-    pub counts_told : (class counted : ℕ) → class_at m.cells (this m) ≡ Some class → Some counted ≡ or_else (class_above (view_here m.stack.tasks)) (Some class) → h.frame.view ≡ Some counted
+    pub counts_told : (class counted : ℕ) → class_at m.cells (this m) ≡ Some class →
+        Some counted ≡ or_else (class_above (view_here m.stack.tasks)) (Some class) → h.frame.view ≡ Some counted
     counts_told class counted is counts = grind (arith, nat_tests, by_top p m h, thing_is x.object.thing class, thing_here)
 
-    pub cancel_told :
-        (class counted : ℕ) → class_at m.cells (this m) ≡ Some class → Some counted ≡ or_else (class_above (view_here m.stack.tasks)) (Some class) →
-        cancel_method p h.frame ≡ role_of p counted Cancels_role
+    pub cancel_told : (class counted : ℕ) → class_at m.cells (this m) ≡ Some class →
+        Some counted ≡ or_else (class_above (view_here m.stack.tasks)) (Some class) → cancel_method p h.frame ≡ role_of p counted Cancels_role
     cancel_told class counted is counts = ap (cancel_of p) (counts_told class counted is counts)
 
     -- which is of the same kind
-    pub counted_kind :
-        (class counted : ℕ) → class_at m.cells (this m) ≡ Some class → Some counted ≡ or_else (class_above (view_here m.stack.tasks)) (Some class) →
-        kind_of p (Some class) ≡ kind_of p (Some counted)
+    pub counted_kind : (class counted : ℕ) → class_at m.cells (this m) ≡ Some class →
+        Some counted ≡ or_else (class_above (view_here m.stack.tasks)) (Some class) → kind_of p (Some class) ≡ kind_of p (Some counted)
     counted_kind class counted is counts = grind (
       arith,
       nat_tests,
@@ -234,13 +234,16 @@ module _ (p : Image) (m : Parts) (h : At_hand p m) where
 
     -- what the table tells of it
     pub active_told : is_waited_for (request_at m.active.table (this m)) ≡ in_phase enlisted.is_active (own_request h.state.cells h.frame.home)
-    active_told = told_active m.active (requested h.state.cells) (queued p h.state.cells) h.agrees.requests.stands (this m) ∙ sym (ap (in_phase enlisted.is_active) own_told)
+    active_told = told_active m.active (requested h.state.cells) (queued p h.state.cells) h.agrees.requests.stands (this m)
+        ∙ sym (ap (in_phase enlisted.is_active) own_told)
 
     pub busy_told : is_busy (request_at m.active.table (this m)) ≡ in_phase enlisted.is_busy (own_request h.state.cells h.frame.home)
-    busy_told = told_busy m.active (requested h.state.cells) (queued p h.state.cells) h.agrees.requests.stands (this m) ∙ sym (ap (in_phase enlisted.is_busy) own_told)
+    busy_told = told_busy m.active (requested h.state.cells) (queued p h.state.cells) h.agrees.requests.stands (this m)
+        ∙ sym (ap (in_phase enlisted.is_busy) own_told)
 
     pub cancelling_told : is_being_cancelled (request_at m.active.table (this m)) ≡ in_phase is_cancelling (own_request h.state.cells h.frame.home)
-    cancelling_told = told_cancelling m.active (requested h.state.cells) (queued p h.state.cells) h.agrees.requests.stands (this m) ∙ sym (ap (in_phase is_cancelling) own_told)
+    cancelling_told = told_cancelling m.active (requested h.state.cells) (queued p h.state.cells) h.agrees.requests.stands (this m)
+        ∙ sym (ap (in_phase is_cancelling) own_told)
 
     pub added_told : is_some (request_at m.active.table (this m)) ≡ is_some (own_request h.state.cells h.frame.home)
     added_told = grind (arith, nat_tests, told_enlisted m.active, own_told)
@@ -249,13 +252,16 @@ module _ (p : Image) (m : Parts) (h : At_hand p m) where
     active_unqueued : is_active_kind (home_kind p h.frame.home) ≡ true → queued p h.state.cells (this m) ≡ None
     active_unqueued active = grind (arith, nat_tests, named_here, unserving)
 
-    pub state_told : is_active_kind (home_kind p h.frame.home) ≡ true → (r : Request) → own_request h.state.cells h.frame.home ≡ Some r → state_at m.active.table (this m) ≡ Some (held_state r.phase)
-    state_told active r is = told_state m.active (requested h.state.cells) (queued p h.state.cells) h.agrees.requests.stands (this m) r (sym own_told ∙ is) (active_unqueued active)
+    pub state_told : is_active_kind (home_kind p h.frame.home) ≡ true → (r : Request) → own_request h.state.cells h.frame.home ≡ Some r →
+        state_at m.active.table (this m) ≡ Some (held_state r.phase)
+    state_told active r is =
+        told_state m.active (requested h.state.cells) (queued p h.state.cells) h.agrees.requests.stands (this m) r (sym own_told ∙ is) (active_unqueued active)
 
     pub fresh_told : own_request h.state.cells h.frame.home ≡ None → request_at m.active.table (this m) ≡ None
     fresh_told none = grind (arith, nat_tests, told_fresh m.active, own_told)
 
-    pub status_told : is_active_kind (home_kind p h.frame.home) ≡ true → word_or_zero (status_at m.active.table (this m)) ≡ status_of (own_request h.state.cells h.frame.home)
+    pub status_told : is_active_kind (home_kind p h.frame.home) ≡ true →
+        word_or_zero (status_at m.active.table (this m)) ≡ status_of (own_request h.state.cells h.frame.home)
     status_told active = grind (arith, nat_tests, fresh_told, told_status m.active, own_told, active_unqueued active)
 
     -- the requests with another one of this object
@@ -268,45 +274,40 @@ module _ (p : Image) (m : Parts) (h : At_hand p m) where
     -- it becomes this of it
     pub requests_become : (a : Active) (f : Request → Request) (r : Request) → own_request h.state.cells h.frame.home ≡ Some r →
         Makes m.active a (this m) f → SameRequests p a (rerequested h.state.cells h.frame.home (on_request f (own_request h.state.cells h.frame.home)))
-    requests_become a f r is makes = subst (λ o. SameRequests p a (rerequested h.state.cells h.frame.home (on_request f o))) (sym is)
-        (requests_asked a (Some (f r)) makes.limit (makes.stands (requested h.state.cells) (queued p h.state.cells) r h.agrees.requests.stands (sym own_told ∙ is)))
+    requests_become a f r is makes = subst (λ o. SameRequests p a (rerequested h.state.cells h.frame.home (on_request f o))) (sym is) (requests_asked a
+        (Some (f r)) makes.limit (makes.stands (requested h.state.cells) (queued p h.state.cells) r h.agrees.requests.stands (sym own_told ∙ is)))
 
     pub requests_enlisted : (a : Active) (priority : ℤ) (waits : Option Bool) → queued p h.state.cells (this m) ≡ waits →
         Enlists m.active a (this m) priority waits → SameRequests p a (rerequested h.state.cells h.frame.home (Some (first_request h.state.cells priority)))
-    requests_enlisted a priority waits is enlists = requests_asked a (Some (first_request h.state.cells priority)) enlists.limit
-        (enlists.stands (requested h.state.cells) (queued p h.state.cells) (next_order h.state.cells) h.agrees.requests.stands (newest h.state.cells h.typed.good.tidy) is)
+    requests_enlisted a priority waits is enlists = requests_asked a (Some (first_request h.state.cells priority)) enlists.limit (enlists.stands
+        (requested h.state.cells) (queued p h.state.cells) (next_order h.state.cells) h.agrees.requests.stands (newest h.state.cells h.typed.good.tidy) is)
 
     -- the cells then
     abbrev pub become : (Request → Request) → List Cell
     become f = rerequested h.state.cells h.frame.home (on_request f (own_request h.state.cells h.frame.home))
 
     -- and so what clients have, where it keeps its order, and waits for a token as before
-    pub services_become :
-        (f : Request → Request) → ((r : Request) → (f r).order ≡ r.order) → awaited (on_request f (own_request h.state.cells h.frame.home)) ≡ awaited (own_request h.state.cells h.frame.home) →
-        SameServices p m.clients m.messages m.tokens m.listed (become f) h.state.clients
+    pub services_become : (f : Request → Request) → ((r : Request) → (f r).order ≡ r.order) → awaited (on_request f (own_request h.state.cells h.frame.home))
+        ≡ awaited (own_request h.state.cells h.frame.home) → SameServices p m.clients m.messages m.tokens m.listed (become f) h.state.clients
     services_become f same token = services_rerequested p h.state.cells h.frame.home (on_request f (own_request h.state.cells h.frame.home))
         (housed p m h) (order_kept f same (own_request h.state.cells h.frame.home)) token h.agrees.services
 
     -- each request but its own is as it was
     own_asked : (r : Option Request) (n : ℕ) → requested (rerequested h.state.cells h.frame.home r) n ≡ cond (this m == n) r (requested h.state.cells n)
-    own_asked r n =
-        ap (λ home. requested (rerequested h.state.cells home r) n) x.home ∙ sym (asked_set h.state.cells x.object.name r (ap is_some x.lives) n)
+    own_asked r n = ap (λ home. requested (rerequested h.state.cells home r) n) x.home ∙ sym (asked_set h.state.cells x.object.name r (ap is_some x.lives) n)
         ∙ ap (λ i. cond (i == n) r (requested h.state.cells n)) (sym x.number)
 
     -- where it waits for no token any more
-    pub services_forget :
-        (w : Kept) (f : Request → Request) → ((r : Request) → (f r).order ≡ r.order) → ((r : Request) → (f r).token ≡ None) → w.places ≡ m.tokens.places → Sets m.tokens.living w.living (this m) None →
-        SameServices p m.clients m.messages w m.listed (become f) h.state.clients
+    pub services_forget : (w : Kept) (f : Request → Request) → ((r : Request) → (f r).order ≡ r.order) → ((r : Request) → (f r).token ≡ None) →
+        w.places ≡ m.tokens.places → Sets m.tokens.living w.living (this m) None → SameServices p m.clients m.messages w m.listed (become f) h.state.clients
     services_forget w f same none places forgets =
         let own = own_request h.state.cells h.frame.home in
         services_rerequested_with p h.state.cells h.frame.home (on_request f own) (housed p m h) (order_kept f same own) w
         (tokens_forgotten p m.tokens w h.state.cells (become f) h.agrees.services.tokens (this m)
         (λ n other. ap awaited (own_asked (on_request f own) n) ∙ ap (λ b. awaited (cond b (on_request f own) (requested h.state.cells n))) other)
-        (ap awaited (own_asked (on_request f own) (this m)) ∙ ap (λ b. awaited (cond b (on_request f own) (requested h.state.cells (this m)))) (eq-eqb (this m) (this m) refl) ∙ over own)
-        (λ n. ap (λ home. (service_of (rerequested h.state.cells home (on_request f own)) (message_name n)).token) x.home
-        ∙ ap (λ (v : Service). v.token) (service_asked h.state.cells x.object.name (on_request f own) (message_name n)))
-        places forgets)
-        h.agrees.services
+        (ap awaited (own_asked (on_request f own) (this m)) ∙ ap (λ b. awaited (cond b (on_request f own) (requested h.state.cells (this m)))) (eq-eqb
+        (this m) (this m) refl) ∙ over own) (λ n. ap (λ home. (service_of (rerequested h.state.cells home (on_request f own)) (message_name n)).token) x.home
+        ∙ ap (λ (v : Service). v.token) (service_asked h.state.cells x.object.name (on_request f own) (message_name n))) places forgets) h.agrees.services
       where
         over : (o : Option Request) → awaited (on_request f o) ≡ None
         over None = refl
@@ -320,12 +321,13 @@ module _ (p : Image) (m : Parts) (h : At_hand p m) where
     abbrev pub made_with : ℤ → Asking
     made_with started = record { clock = h.state.rest.clock; order = next_timer h.state.cells; started = started }
 
-    pub requests_timed : (a : Active) (w started : ℤ) (r : Request) → own_request h.state.cells h.frame.home ≡ Some r → Times m.active a (this m) (due_after h.state.rest.clock w)
-        → SameRequests p a (rerequested h.state.cells h.frame.home (on_request (issued_by A_timer (made_with started) w) (own_request h.state.cells h.frame.home)))
+    pub requests_timed : (a : Active) (w started : ℤ) (r : Request) →
+        own_request h.state.cells h.frame.home ≡ Some r → Times m.active a (this m) (due_after h.state.rest.clock w) → SameRequests p a
+        (rerequested h.state.cells h.frame.home (on_request (issued_by A_timer (made_with started) w) (own_request h.state.cells h.frame.home)))
     requests_timed a w started r is times =
         subst (λ o. SameRequests p a (rerequested h.state.cells h.frame.home (on_request (issued_by A_timer (made_with started) w) o))) (sym is)
-        (requests_asked a (Some (issued_by A_timer (made_with started) w r)) times.limit
-        (times.stands (requested h.state.cells) (queued p h.state.cells) r (next_timer h.state.cells) h.agrees.requests.stands (sym own_told ∙ is) (newest_timer h.state.cells h.typed.good.tidy)))
+        (requests_asked a (Some (issued_by A_timer (made_with started) w r)) times.limit (times.stands (requested h.state.cells) (queued p h.state.cells) r
+        (next_timer h.state.cells) h.agrees.requests.stands (sym own_told ∙ is) (newest_timer h.state.cells h.typed.good.tidy)))
 
   -- the object's request is another, and the method goes on
   pub asks_on : (a : Active) (w : Kept) (t : Table) (r : Option Request) → SameRequests p a (rerequested h.state.cells h.frame.home r) →
@@ -333,8 +335,16 @@ module _ (p : Image) (m : Parts) (h : At_hand p m) where
       Agrees p (places.next (record m { active = a; tokens = w; listed = t })) (applied p h.frame h.below h.state (updates h.frame (Requested r)))
   asks_on a w t r requests services =
       let cs = rerequested h.state.cells h.frame.home r in
-      goes_on_as p m h (record m { active = a; tokens = w; listed = t }) cs h.state.items h.state.rest
-      (record { stack = refl; cells = cells_rerequested p m.cells h.state.cells h.frame.home r h.agrees.cells; entries = h.agrees.entries; requests = requests; natives = natives_rerequested p m.sessions h.state.killed h.state.cells h.frame.home r h.agrees.natives; services = services; rest = h.agrees.rest; room = h.agrees.entry_room })
+      goes_on_as p m h (record m { active = a; tokens = w; listed = t }) cs h.state.items h.state.rest (record {
+        stack = refl;
+        cells = cells_rerequested p m.cells h.state.cells h.frame.home r h.agrees.cells;
+        entries = h.agrees.entries;
+        requests = requests;
+        natives = natives_rerequested p m.sessions h.state.killed h.state.cells h.frame.home r h.agrees.natives;
+        services = services;
+        rest = h.agrees.rest;
+        room = h.agrees.entry_room;
+      })
       (λ f ms e top q. subst (λ o. Represents (value_in (Runs_frame f ∷ ms) m.cells m.entries.items (others m) q) (word_at (Run h.frame ∷ h.below) q) o)
       (sym ((rerequested_alike h.state.cells h.frame.home r).held_so q)) (top.values q))
 
@@ -407,9 +417,8 @@ module _ (p : Image) (m : Parts) where
   pub cancel_kind : IsNext p Cancel m → is_active_kind (kind_here p m) ≡ true
   cancel_kind next = grind (arith, nat_tests, needs_met p m Cancel next, finds_object p m Cancel next, active_listed, kind_told p)
 
-  pub cancel_there :
-      (class counted : ℕ) → IsNext p Cancel m → class_at m.cells (this m) ≡ Some class → Some counted ≡ or_else (class_above (view_here m.stack.tasks)) (Some class) →
-      role_of p counted Cancels_role ≡ None → ⊥
+  pub cancel_there : (class counted : ℕ) → IsNext p Cancel m → class_at m.cells (this m) ≡ Some class →
+      Some counted ≡ or_else (class_above (view_here m.stack.tasks)) (Some class) → role_of p counted Cancels_role ≡ None → ⊥
   cancel_there class counted next is counts none =
       let x = finds_object p m Cancel next (λ c fr ts s n. active_listed (home_kind p fr.home) n.0) in
       let kind = counted_kind p (counting next.counts m) _ x class counted is counts in
@@ -428,10 +437,13 @@ module _ (m : Parts) (refused : List ℕ) where
       here ≡ there → Agrees p (cond there (places.to_place to m) (places.next m)) (applied p h.frame h.below h.state (jumps_if h.frame here to))
   jumps_as p h x here to e = grind (arith, nat_tests, jumps m refused p h to, passes m refused p h)
 
-  pub jump_active_does : (to : ℕ) (b : Bool) → is_busy (request_at m.active.table (this m)) ≡ b → Does refused (JumpActive to) m (cond b (places.to_place to m) (places.next m))
-  jump_active_does to b is = plain_does m _ refused (JumpActive to) refl (λ p h c met. jumps_as p h b _ to (sym (busy_told p m h (on_object p m h (active_listed _ met.0))) ∙ is))
+  pub jump_active_does : (to : ℕ) (b : Bool) → is_busy (request_at m.active.table (this m)) ≡ b →
+      Does refused (JumpActive to) m (cond b (places.to_place to m) (places.next m))
+  jump_active_does to b is =
+      plain_does m _ refused (JumpActive to) refl (λ p h c met. jumps_as p h b _ to (sym (busy_told p m h (on_object p m h (active_listed _ met.0))) ∙ is))
 
-  pub jump_added_does : (to : ℕ) (b : Bool) → is_some (request_at m.active.table (this m)) ≡ b → Does refused (JumpAdded to) m (cond b (places.to_place to m) (places.next m))
+  pub jump_added_does : (to : ℕ) (b : Bool) → is_some (request_at m.active.table (this m)) ≡ b →
+      Does refused (JumpAdded to) m (cond b (places.to_place to m) (places.next m))
   jump_added_does to b is = plain_does m _ refused (JumpAdded to) refl (λ p h c met. jumps_as p h b _ to (sym (added_told p m h (on_object p m h met.0)) ∙ is))
 
   -- the status of the last request, and 0 where there was none
@@ -441,24 +453,24 @@ module _ (m : Parts) (refused : List ℕ) where
 
 module _ (m : Parts) (refused : List ℕ) (a : Active) where
   -- the request of the object that works becomes another at the same place of the list
-  becomes : (test : Phase → Bool) (f : Request → Request) (w : Kept) → Makes m.active a (this m) f → (p : Image) (h : At_hand p m)
-      → ((on : OnObject p m h) → SameServices p m.clients m.messages w m.listed (become p m h on f) h.state.clients)
-      → is_active_kind (home_kind p h.frame.home) ≡ true → in_phase test (own_request h.state.cells h.frame.home) ≡ true
-      → Agrees p (places.next (record m { active = a; tokens = w })) (applied p h.frame h.below h.state (updates h.frame (Requested (on_request f (own_request h.state.cells h.frame.home)))))
+  becomes : (test : Phase → Bool) (f : Request → Request) (w : Kept) → Makes m.active a (this m) f → (p : Image) (h : At_hand p m) →
+      ((on : OnObject p m h) → SameServices p m.clients m.messages w m.listed (become p m h on f) h.state.clients) → is_active_kind (home_kind p h.frame.home)
+      ≡ true → in_phase test (own_request h.state.cells h.frame.home) ≡ true → Agrees p (places.next (record m { active = a; tokens = w }))
+      (applied p h.frame h.below h.state (updates h.frame (Requested (on_request f (own_request h.state.cells h.frame.home)))))
   becomes test f w makes p h services kind phase =
       let r = in_one test _ phase in
       let on = on_object p m h (active_listed _ kind) in
       asks_on p m h a w m.listed _ (requests_become p m h on a f r.0 r.1 makes) (services on)
 
   pub set_active_does : Makes m.active a (this m) waits → Does refused SetActive m (places.next (record m { active = a }))
-  set_active_does makes = plain_does m _ refused SetActive refl (λ p h c met.
-      becomes is_issued waits m.tokens makes p h (λ on. services_become p m h on waits (λ r. refl) (token_kept waits (λ r. refl) (own_request h.state.cells h.frame.home))) met.0 met.1.1.1.0)
+  set_active_does makes = plain_does m _ refused SetActive refl (λ p h c met. becomes is_issued waits m.tokens makes p h
+      (λ on. services_become p m h on waits (λ r. refl) (token_kept waits (λ r. refl) (own_request h.state.cells h.frame.home))) met.0 met.1.1.1.0)
 
   -- its token, if it waits for one, is void
   pub abort_does : (w : Kept) → Makes m.active a (this m) aborted →
       w.places ≡ m.tokens.places → Sets m.tokens.living w.living (this m) None → Does refused Abort m (places.next (record m { active = a; tokens = w }))
-  abort_does w makes places forgets =
-      plain_does m _ refused Abort refl (λ p h c met. becomes is_cancelling aborted w makes p h (λ on. services_forget p m h on w aborted (λ r. refl) (λ r. refl) places forgets) met.0 met.1.0)
+  abort_does w makes places forgets = plain_does m _ refused Abort refl
+      (λ p h c met. becomes is_cancelling aborted w makes p h (λ on. services_forget p m h on w aborted (λ r. refl) (λ r. refl) places forgets) met.0 met.1.0)
 
 -- what a native has answered is what the checked machine hears
 module _ (p : Image) (m : Parts) (h : At_hand p m) (on : OnObject p m h) (n : ℕ) (serves : native_of (kind_here p m) ≡ Some n) where
@@ -473,15 +485,18 @@ module _ (p : Image) (m : Parts) (h : At_hand p m) (on : OnObject p m h) (n : �
   heard_told f c hears = grind (arith, nat_tests, dead_told, session_told)
 
 -- a request is made of a provider
-requests_made : (p : Image) (m : Parts) (h : At_hand p m) (on : OnObject p m h) (a : Active) (q : Provider) (w status : ℤ) (r : Request) → own_request h.state.cells h.frame.home ≡ Some r
-    → ((n : ℕ) → q ≡ Native n → started (is_killed m.sessions n) (is_open m.sessions (this m)) (heard_by m) ≡ status) → Issues q m.sessions (heard_by m) h.state.rest.clock w m.active a (this m)
-    → SameRequests p a (rerequested h.state.cells h.frame.home (on_request (issued_by q (made_with p m h on status) w) (own_request h.state.cells h.frame.home)))
+requests_made : (p : Image) (m : Parts) (h : At_hand p m) (on : OnObject p m h) (a : Active) (q : Provider) (w status : ℤ) (r : Request) → own_request
+    h.state.cells h.frame.home ≡ Some r → ((n : ℕ) → q ≡ Native n → started (is_killed m.sessions n) (is_open m.sessions (this m)) (heard_by m) ≡ status) →
+    Issues q m.sessions (heard_by m) h.state.rest.clock w m.active a (this m) →
+    SameRequests p a (rerequested h.state.cells h.frame.home (on_request (issued_by q (made_with p m h on status) w) (own_request h.state.cells h.frame.home)))
 requests_made p m h on a A_timer w status r is begins issues = requests_timed p m h on a w status r is issues
-requests_made p m h on a (Native n) w status r is begins issues = requests_become p m h on a (begun_with status) r is (subst (λ v. Makes m.active a (this m) (begun_with v)) (begins n refl) issues)
+requests_made p m h on a (Native n) w status r is begins issues =
+    requests_become p m h on a (begun_with status) r is (subst (λ v. Makes m.active a (this m) (begun_with v)) (begins n refl) issues)
 requests_made p m h on a _ w status r is begins issues = requests_become p m h on a (completed_at_once w) r is issues
 
-pub issue_does : (p : Image) (m : Parts) (refused : List ℕ) (a : Active) (q : Provider) (b x : ℕ) → provider_of (kind_here p m) ≡ Some q
-    → Issues q m.sessions (heard_by m) m.rest.clock (cast_signed w32 (register_here m.stack.tasks b)) m.active a (this m) → DoesIn p refused (Issue b x) m (places.next (record m { active = a }))
+pub issue_does : (p : Image) (m : Parts) (refused : List ℕ) (a : Active) (q : Provider) (b x : ℕ) →
+    provider_of (kind_here p m) ≡ Some q → Issues q m.sessions (heard_by m) m.rest.clock (cast_signed w32 (register_here m.stack.tasks b)) m.active a (this m) →
+    DoesIn p refused (Issue b x) m (places.next (record m { active = a }))
 issue_does p m refused a q b x provider issues h here = heard_at p m _ refused (Issue b x) refl h (λ c hears met typed.
     let clock = h.state.rest.clock in
     let asking = asking_with p c h.frame h.below h.state in
@@ -492,24 +507,26 @@ issue_does p m refused a q b x provider issues h here = heard_at p m _ refused (
     let same : m.rest.clock ≡ clock = ap (λ r. r.clock) h.agrees.rest in
     let it = subst (λ n. Issues q m.sessions (heard_by m) n w m.active a (this m)) same
     (subst (λ v. Issues q m.sessions (heard_by m) m.rest.clock v m.active a (this m)) (word_read p m h b met.0) issues) in
-    subst (λ f. Agrees p (places.next (record m { active = a })) (applied p h.frame h.below h.state (updates h.frame (Requested (on_request f (own_request h.state.cells h.frame.home)))))) (sym made)
-    (asks_on p m h a m.tokens m.listed _ (requests_made p m h on a q w asking.started r.0 r.1
-    (λ n native. heard_told p m h on n (native_provided (kind_here p m) n (provider ∙ ap (λ v. Some v) native)) started c hears) it)
-    (services_become p m h on (issued_by q asking w)
+    subst (λ f. Agrees p (places.next (record m { active = a }))
+    (applied p h.frame h.below h.state (updates h.frame (Requested (on_request f (own_request h.state.cells h.frame.home)))))) (sym made)
+    (asks_on p m h a m.tokens m.listed _ (requests_made p m h on a q w asking.started r.0 r.1 (λ n native. heard_told p m h on n
+    (native_provided (kind_here p m) n (provider ∙ ap (λ v. Some v) native)) started c hears) it) (services_become p m h on (issued_by q asking w)
     (issued_order q asking w) (issued_untold q asking w (own_request h.state.cells h.frame.home) ∙ sym (idle_untold p m h on met.1.1.1.1.0)))))
 
 -- a request that is not active is left alone
 pub cancel_idle_does : (m : Parts) (refused : List ℕ) → is_waited_for (request_at m.active.table (this m)) ≡ false → Does refused Cancel m (places.next m)
 cancel_idle_does m refused idle = plain_does m _ refused Cancel refl (λ p h c met.
     let on = on_object p m h (active_listed _ met.0) in
-    subst (λ b. Agrees p (places.next m) (applied p h.frame h.below h.state (cancels_if h.frame b (cancel_method p h.frame)))) (sym (sym (active_told p m h on) ∙ idle)) (passes m refused p h))
+    subst (λ b. Agrees p (places.next m) (applied p h.frame h.below h.state (cancels_if h.frame b (cancel_method p h.frame))))
+    (sym (sym (active_told p m h on) ∙ idle)) (passes m refused p h))
 
 -- and else the method that cancels begins over the one that runs
 module _ (p : Image) (m : Parts) (refused : List ℕ) (a : Active) (k : ℕ) where
   abbrev cancels : Parts
   cancels = with_tasks (Runs_frame (with_view (view_here m.stack.tasks) (fresh k (this m))) ∷ m.stack.tasks) (record m { active = a })
 
-  cancel_begins : (h : At_hand p m) → this m ≡ home_number h.frame.home → SameRequests p a (begun_cells h.frame h.state.cells) → Agrees p cancels (applied p h.frame h.below h.state (Cancels k))
+  cancel_begins : (h : At_hand p m) → this m ≡ home_number h.frame.home → SameRequests p a (begun_cells h.frame h.state.cells) →
+      Agrees p cancels (applied p h.frame h.below h.state (Cancels k))
   cancel_begins h number requests =
       let s = h.state in
       let fr = h.frame in
@@ -521,9 +538,10 @@ module _ (p : Image) (m : Parts) (refused : List ℕ) (a : Active) (k : ℕ) whe
       let cs = begun_cells fr s.cells in
       let called = frame_as k fr.home fr.view (length s.items) in
       let top_housed = by_top p m h (λ us. this_here us ≢ null → this_here us < 4096) (λ f ms top. top.frame.housed) in
-      by_top p m h (λ us. Agrees p (record m { stack = record m.stack { tasks = Runs_frame (with_view v (fresh k n)) ∷ us }; active = a }) (record s { cells = cs; tasks = Run called ∷ Run fr ∷ ts }))
-      (λ f ms top. record {
-        tasks = (subst (λ x. SameFrame (with_view v (fresh k n)) (frame_as k fr.home x (length s.items))) (sym seen) (begun_as k n fr.home v (length s.items) number top_housed), (top.frame, top.below));
+      by_top p m h (λ us. Agrees p (record m { stack = record m.stack { tasks = Runs_frame (with_view v (fresh k n)) ∷ us }; active = a })
+      (record s { cells = cs; tasks = Run called ∷ Run fr ∷ ts })) (λ f ms top. record {
+        tasks =
+            (subst (λ x. SameFrame (with_view v (fresh k n)) (frame_as k fr.home x (length s.items))) (sym seen) (begun_as k n fr.home v (length s.items) number top_housed), (top.frame, top.below));
         values = grind (
           arith,
           nat_tests,

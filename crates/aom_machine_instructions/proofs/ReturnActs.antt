@@ -102,9 +102,9 @@ pub cleared_none : (d : ℕ) (h : Place → Option Object) → ((i : ℕ) → h 
 cleared_none d h none x = grind (arith, nat_tests, eqb-true d)
 
 -- the other places stand for what they stood for
-pub beneath : (f : Machine_frame) (us : List Machine_task) (fr : Frame) (ts : List Task) (heap : Heap) (es : List Item) (rest : Others) (h : Place → Option Object) → length us ≡ length ts
-    → ((r : Place) → Represents (value_in (Runs_frame f ∷ us) heap es rest r) (word_at (Run fr ∷ ts) r) (h r))
-    → (r : Place) → Represents (value_in us heap es rest r) (word_at ts r) (cleared (length ts) h r)
+pub beneath : (f : Machine_frame) (us : List Machine_task) (fr : Frame) (ts : List Task) (heap : Heap) (es : List Item) (rest : Others) (h : Place →
+    Option Object) → length us ≡ length ts → ((r : Place) → Represents (value_in (Runs_frame f ∷ us) heap es rest r) (word_at (Run fr ∷ ts) r) (h r)) →
+    (r : Place) → Represents (value_in us heap es rest r) (word_at ts r) (cleared (length ts) h r)
 beneath f us fr ts heap es rest h deep old x = grind (arith, nat_tests, eqb-true, shows_null, register_past us, word_past ts, at_depth, going_past us)
 
 -- past the tasks at hand no register owns
@@ -124,22 +124,20 @@ pub awaiting : (g : Gives) (x : ℕ) (sh : Shape) → bears g ≡ true → Await
 awaiting g x sh b a = OnTrue_at b (awaits g x sh a)
 
 -- a register that is claimed to own nothing owns nothing
-pub awaits_none : (p : Image) (s : State) (ls : List Layer) (ts : List Task) (sh : Shape) (x : ℕ) (k : Kind) →
-    is_unowning (register sh x) ≡ true → k ≡ register sh x → Fits p (seen s.cells) (held s.cells (Register (length (tasks_of ls)) x)) k
-    → tasks_of ls ≡ ts → held s.cells (Register (length ts) x) ≡ None
+pub awaits_none : (p : Image) (s : State) (ls : List Layer) (ts : List Task) (sh : Shape) (x : ℕ) (k : Kind) → is_unowning (register sh x) ≡ true → k ≡ register
+    sh x → Fits p (seen s.cells) (held s.cells (Register (length (tasks_of ls)) x)) k → tasks_of ls ≡ ts → held s.cells (Register (length ts) x) ≡ None
 awaits_none p s ls ts sh x k quiet claims fits rest = grind (arith, nat_tests, fits_unowning p)
 
 -- under a trap stands the method that set it
 pub caught_layer : (P : List Layer → Type 0) (G : Type 0) (caller : Frame) (ts : List Task) (ls : List Layer) → tasks_of ls ≡ Trapped ∷ Run caller ∷ ts →
     P ls → ((gv : Gives) (sh : Shape) (below : List Layer) → tasks_of below ≡ ts → P (Mark gv ∷ Method caller sh ∷ below) → G) → G
-caught_layer P G caller ts ls under has gives =
-    mark_layer P (Run caller ∷ ts) ls under has (λ gv ls under has. method_layer (λ ls. P (Mark gv ∷ ls)) caller ts ls under has (λ sh ls rest has. gives gv sh ls rest has))
+caught_layer P G caller ts ls under has gives = mark_layer P (Run caller ∷ ts) ls under has
+    (λ gv ls under has. method_layer (λ ls. P (Mark gv ∷ ls)) caller ts ls under has (λ sh ls rest has. gives gv sh ls rest has))
 
-awaited : (p : Image) (t : Typing) (s : State) (fr caller : Frame) (ts : List Task) → WellTyped p t s → s.tasks ≡ Run fr ∷ Run caller ∷ ts → bears (gives_of p fr.method) ≡ true
-    → held s.cells (Register (length ts) (result_register (instr_at p caller.method caller.place))) ≡ None
-awaited p t s fr caller ts typed top some =
-    method_layer (Good p t s.cells) fr (Run caller ∷ ts) typed.layers (sym typed.tasks ∙ top) typed.good (λ sh ls under good.
-    method_layer (λ ls. Good p t s.cells (Method fr sh ∷ ls)) caller ts ls under good (λ sh' ls rest good.
+awaited : (p : Image) (t : Typing) (s : State) (fr caller : Frame) (ts : List Task) → WellTyped p t s → s.tasks ≡ Run fr ∷ Run caller ∷ ts →
+    bears (gives_of p fr.method) ≡ true → held s.cells (Register (length ts) (result_register (instr_at p caller.method caller.place))) ≡ None
+awaited p t s fr caller ts typed top some = method_layer (Good p t s.cells) fr (Run caller ∷ ts) typed.layers (sym typed.tasks ∙ top) typed.good
+    (λ sh ls under good. method_layer (λ ls. Good p t s.cells (Method fr sh ∷ ls)) caller ts ls under good (λ sh' ls rest good.
     let x = result_register (instr_at p caller.method caller.place) in
     let q = Register (length (tasks_of ls)) x in
     awaits_none p s ls ts sh' x _ (awaiting (gives_of p fr.method) x sh' some good.stack.4.0.1)
@@ -148,11 +146,10 @@ awaited p t s fr caller ts typed top some =
     (good.fits q) rest))
 
 -- the same through a trap
-awaited_trapped : (p : Image) (t : Typing) (s : State) (fr caller : Frame) (ts : List Task) → WellTyped p t s → s.tasks ≡ Run fr ∷ Trapped ∷ Run caller ∷ ts → bears (gives_of p fr.method) ≡ true
-    → held s.cells (Register (length ts) (result_register (instr_at p caller.method caller.place))) ≡ None
-awaited_trapped p t s fr caller ts typed top some =
-    method_layer (Good p t s.cells) fr (Trapped ∷ Run caller ∷ ts) typed.layers (sym typed.tasks ∙ top) typed.good (λ sh ls under good.
-    caught_layer (λ ls. Good p t s.cells (Method fr sh ∷ ls)) _ caller ts ls under good (λ gv sh' ls rest good.
+awaited_trapped : (p : Image) (t : Typing) (s : State) (fr caller : Frame) (ts : List Task) → WellTyped p t s → s.tasks ≡ Run fr ∷ Trapped ∷ Run caller ∷ ts →
+    bears (gives_of p fr.method) ≡ true → held s.cells (Register (length ts) (result_register (instr_at p caller.method caller.place))) ≡ None
+awaited_trapped p t s fr caller ts typed top some = method_layer (Good p t s.cells) fr (Trapped ∷ Run caller ∷ ts) typed.layers (sym typed.tasks ∙ top)
+    typed.good (λ sh ls under good. caught_layer (λ ls. Good p t s.cells (Method fr sh ∷ ls)) _ caller ts ls under good (λ gv sh' ls rest good.
     let x = result_register (instr_at p caller.method caller.place) in
     let d = length (tasks_of ls) in
     let mark = good.stack.4 in
@@ -167,7 +164,8 @@ pub word_alone : (p : Image) (t : Typing) (s : State) (fr : Frame) (ts : List Ta
 word_alone p t s fr ts i w typed top has = method_layer (λ ls. Good p t s.cells ls) fr ts typed.layers (sym typed.tasks ∙ top) typed.good (λ sh ls rest good.
     let q = Register (length (tasks_of ls)) i in
     let claims = claim_register p (declared p s.cells) fr sh ls i in
-    let none = kind_alone (register sh i) (word fr i) (held s.cells q) has (good.stack.1.words i) (subst (Fits p (seen s.cells) (held s.cells q)) claims (good.fits q)) in
+    let none = kind_alone (register sh i) (word fr i) (held s.cells q) has (good.stack.1.words i)
+    (subst (Fits p (seen s.cells) (held s.cells q)) claims (good.fits q)) in
     subst (λ us. held s.cells (Register (length us) i) ≡ None) rest none)
   where
     kind_alone : (k : Kind) (w' : Option ℤ) (o : Option Object) → w' ≡ Some w → WordFits w' k → Fits p (seen s.cells) o k → o ≡ None
@@ -253,7 +251,8 @@ module _ (p : Image) (m : Parts) (t : Typing) (s : State) (fr : Frame) (agrees :
     -- with nothing
     lands_bare : IsClear s.cells → Landed g.registers caller.words s.cells
     lands_bare clear = record {
-      values = λ r. subst (Represents (value_in (Runs_frame g ∷ ms) m.cells m.entries.items (others m) r) (word_at (Run caller ∷ ts) r)) (cleared_none _ (held s.cells) clear r) (base r);
+      values = λ r. subst (Represents (value_in (Runs_frame g ∷ ms) m.cells m.entries.items (others m) r) (word_at (Run caller ∷ ts) r))
+          (cleared_none _ (held s.cells) clear r) (base r);
       aside = aside_of p m s agrees;
       wide = same_frame.wide;
     }
@@ -265,21 +264,21 @@ module _ (p : Image) (m : Parts) (t : Typing) (s : State) (fr : Frame) (agrees :
         let wide = same_frame.wide in
         record {
           values = writes _ _ _ _ _ _ to n w o base shows (value_written g ms m.cells m.entries.items (others m) (length ts) x n g.place deep (omega arith))
-              (word_written caller ts x caller.place w)
-              holds;
+              (word_written caller ts x caller.place w) holds;
           aside = aside;
           wide = length-set g.registers x n ∙ wide;
         }
 
     -- with a word
     lands_word : IsClear s.cells → held s.cells to ≡ None → Landed (slice_set g.registers x n) (set_word caller x (word fr a)).words s.cells
-    lands_word clear empty = lands s.cells (word fr a) None (aside_of p m s agrees) (subst (Represents n (word fr a)) (clear a) number_shows)
-        (λ r. kept (held s.cells) to r ∙ ap (λ o. changed (held s.cells) to o r) empty ∙ ap (λ o. cond (same_place to r) None o) (sym (cleared_none _ (held s.cells) clear r)))
+    lands_word clear empty = lands s.cells (word fr a) None (aside_of p m s agrees) (subst (Represents n (word fr a)) (clear a) number_shows) (λ r. kept (held
+        s.cells) to r ∙ ap (λ o. changed (held s.cells) to o r) empty ∙ ap (λ o. cond (same_place to r) None o) (sym (cleared_none _ (held s.cells) clear r)))
 
     -- with an object
-    lands_object : IsClear (moved from to s.cells) → held s.cells to ≡ None → word fr a ≡ None → Landed (slice_set g.registers x n) (set_word caller x None).words (moved from to s.cells)
-    lands_object clear empty wordless =
-        lands (moved from to s.cells) None (held s.cells from) (aside_moved p m s from to agrees refl refl) (subst (λ w. Represents n w (held s.cells from)) wordless number_shows) holds
+    lands_object : IsClear (moved from to s.cells) → held s.cells to ≡ None → word fr a ≡ None →
+        Landed (slice_set g.registers x n) (set_word caller x None).words (moved from to s.cells)
+    lands_object clear empty wordless = lands (moved from to s.cells) None (held s.cells from) (aside_moved p m s from to agrees refl refl)
+        (subst (λ w. Represents n w (held s.cells from)) wordless number_shows) holds
       where
         elsewhere : (r : Place) → same_place from r ≡ false → under r ≡ held s.cells r → held (moved from to s.cells) r ≡ changed under to (held s.cells from) r
         elsewhere r e same = held_moved s.cells from to r empty ∙ ap (λ b. cond (same_place to r) (held s.cells from) (cond b None (held s.cells r))) e
@@ -304,9 +303,9 @@ module _ (p : Image) (m : Parts) (t : Typing) (s : State) (fr : Frame) (agrees :
     lands_next rs ws cs landed =
         let g' = record g { registers = rs } in
         let caller' = record caller { words = ws } in
-        agrees_with p m (record s { cells = cs }) (Runs_frame (record g' { place = suc g.place }) ∷ ms)
-        (Run (next caller') ∷ ts) landed.aside (moved_on g caller rs ws same_frame landed.wide, same_there.1)
-        (λ r. subst (λ k. Represents k (word_at (Run (next caller') ∷ ts) r) (held cs r)) (sym (value_kept g' ms m.cells m.entries.items (others m) (suc g.place) r))
+        agrees_with p m (record s { cells = cs }) (Runs_frame (record g' { place = suc g.place }) ∷ ms) (Run (next caller') ∷ ts) landed.aside
+        (moved_on g caller rs ws same_frame landed.wide, same_there.1) (λ r. subst (λ k. Represents k (word_at (Run (next caller') ∷ ts) r) (held cs r))
+        (sym (value_kept g' ms m.cells m.entries.items (others m) (suc g.place) r))
         (subst (λ w. Represents (value_in (Runs_frame g' ∷ ms) m.cells m.entries.items (others m) r) w (held cs r)) (sym (word_next caller' ts (suc caller.place) r)) (landed.values r)))
 
     -- through its trap, with 0 for the code
@@ -345,12 +344,14 @@ module _ (p : Image) (m : Parts) (t : Typing) (s : State) (fr : Frame) (agrees :
         → Agrees p (places.next (resulted gv y k (with_tasks (Runs_frame g ∷ ms) m))) (returned p fr (Run caller ∷ ts) s gv a (Run caller ∷ ts))
 
     to_method : (gv : Gives) → Goes gv
-    to_method A_word met same typed = lands_next false g ms caller ts top small _ _ _ (lands_word false g ms caller ts top small (λ i. none_above p t _ _ i typed (omega arith)) (empty (sym same)))
+    to_method A_word met same typed = lands_next false g ms caller ts top small _ _ _
+        (lands_word false g ms caller ts top small (λ i. none_above p t _ _ i typed (omega arith)) (empty (sym same)))
     to_method (An_own z) met same typed = lands_next false g ms caller ts top small _ _ _
         (lands_object false g ms caller ts top small (λ i. none_above p t _ _ i typed (omega arith)) (empty (sym same)) met)
     to_method (A_maybe z) met same typed = lands_next false g ms caller ts top small _ _ _
         (lands_object false g ms caller ts top small (λ i. none_above p t _ _ i typed (omega arith)) (empty (sym same)) met)
-    to_method _ met same typed = lands_next false g ms caller ts top small _ _ _ (lands_bare false g ms caller ts top small (λ i. none_above p t _ _ i typed (omega arith)))
+    to_method _ met same typed =
+        lands_next false g ms caller ts top small _ _ _ (lands_bare false g ms caller ts top small (λ i. none_above p t _ _ i typed (omega arith)))
 
   -- through a trap
   module _ (es : Machine_items) (marked : m.entries ≡ record es { items = Is_mark ∷ es.items }) (g : Machine_frame)
@@ -449,7 +450,8 @@ owned_number p m s few agrees r n y object tidy some thing shows = go (held s.ce
         (object_lives_at p m s agrees o lives is) (λ none. cc) (λ c there some. cell_small p m.cells s.cells agrees.cells few o.name c there))
 
 -- and below that of cells
-pub lives_within : (p : Image) (m : Parts) (s : State) → Agrees p m s → (o : Object) → named s.cells o.name ≡ Some o → is_object o.thing ≡ true → o.name < p.header.cells
+pub lives_within : (p : Image) (m : Parts) (s : State) → Agrees p m s → (o : Object) → named s.cells o.name ≡ Some o →
+    is_object o.thing ≡ true → o.name < p.header.cells
 lives_within p m s agrees o lives object = some_given (λ c. IsSome c) (cell_at m.cells o.name)
     (object_lives_at p m s agrees o lives object) (λ none. cc) (λ c there some. subst (λ k. o.name < k) agrees.cells.limit (agrees.cells.below o.name c there))
 
@@ -509,14 +511,16 @@ module _ (p : Image) (m : Parts) (refused : List ℕ) (a : ℕ) (act : Active) (
       (after h h.below) → P (Runs_frame f ∷ ms) → Agrees p (G (Runs_frame f ∷ ms)) (after h h.below)) → DoesIn p refused (Return a) m (G m.stack.tasks)
   by_return P G has each h here = plain_at p m (G m.stack.tasks) refused (Return a) refl h (λ c needs typed.
       let met = all_parts (result_needs p h.frame h.below h.state (gives_of p h.frame.method) a) _ needs in
-      by_top p m h (λ us. P us → Agrees p (G us) (after h h.below)) (λ f ms top has. each h f ms (top_over h h.below f ms top) (alike ms h.below top.below) met.0 met.1.1.1.1 typed has) has)
+      by_top p m h (λ us. P us → Agrees p (G us) (after h h.below))
+      (λ f ms top has. each h f ms (top_over h h.below f ms top) (alike ms h.below top.below) met.0 met.1.1.1.1 typed has) has)
 
-  pub return_to_method : (x : ℕ) → Runs (below_first m.stack.tasks) → x < 16 → x ≡ result_register (instr_at p (method_here (below_first m.stack.tasks)) (place_here (below_first m.stack.tasks)))
-      → DoesIn p refused (Return a) m (places.next (resulted (gives_of p (method_here m.stack.tasks)) x (register_here m.stack.tasks a) (with_tasks (below_first m.stack.tasks) mid)))
-  return_to_method x runs small is =
-      by_return (λ us. Runs (below_first us) × (x ≡ result_register (instr_at p (method_here (below_first us)) (place_here (below_first us)))))
-      (λ us. places.next (resulted (gives_of p (method_here us)) x (register_here us a) (with_tasks (below_first us) mid))) (runs, is)
-      (λ h f ms top same met last typed has. go h f ms h.below h.top top (tops A_method ms has.0) same has.1 (wordless p h.frame h.below h.state (gives_of p h.frame.method) a met) typed)
+  pub return_to_method : (x : ℕ) → Runs (below_first m.stack.tasks) → x < 16 →
+      x ≡ result_register (instr_at p (method_here (below_first m.stack.tasks)) (place_here (below_first m.stack.tasks))) → DoesIn p refused (Return a) m
+      (places.next (resulted (gives_of p (method_here m.stack.tasks)) x (register_here m.stack.tasks a) (with_tasks (below_first m.stack.tasks) mid)))
+  return_to_method x runs small is = by_return
+      (λ us. Runs (below_first us) × (x ≡ result_register (instr_at p (method_here (below_first us)) (place_here (below_first us))))) (λ us. places.next
+      (resulted (gives_of p (method_here us)) x (register_here us a) (with_tasks (below_first us) mid))) (runs, is) (λ h f ms top same met last typed has. go h
+      f ms h.below h.top top (tops A_method ms has.0) same has.1 (wordless p h.frame h.below h.state (gives_of p h.frame.method) a met) typed)
     where
       go : (h : At_hand p m) (f : Machine_frame) (ms : List Machine_task) (ts : List Task) → h.state.tasks ≡ Run h.frame ∷ ts → Top mid (past h) h.frame ts f ms
           → Tops A_method ms → Alike ms ts → x ≡ result_register (instr_at p (method_here ms) (place_here ms))
@@ -525,20 +529,21 @@ module _ (p : Image) (m : Parts) (refused : List ℕ) (a : ℕ) (act : Active) (
       go h f _ _ e top (method_on_top g ms) (both_run _ caller _ ts frame _ _) is wordless typed =
           let at : x ≡ result_register (instr_at p caller.method caller.place) =
           is ∙ ap (λ k. result_register (instr_at p k g.place)) frame.method ∙ ap (λ k. result_register (instr_at p caller.method k)) frame.place in
-          subst (λ k. Agrees p (places.next (resulted (gives_of p k) x (slice_index_or f.registers a null) (with_tasks (Runs_frame g ∷ ms) mid))) (after h (Run caller ∷ ts))) (sym top.frame.method)
-          (subst (λ k. Agrees p (places.next (resulted (gives_of p h.frame.method) k (slice_index_or f.registers a null) (with_tasks (Runs_frame g ∷ ms) mid))) (after h (Run caller ∷ ts))) (sym at)
-          (to_method p mid h.typing (past h) h.frame (agree h) f a g ms caller ts top (λ some. still h _ ∙ awaited p h.typing h.state h.frame caller ts h.typed e some)
-          (subst (λ k. k < 16) at small) (gives_of p h.frame.method) wordless refl typed))
+          subst (λ k. Agrees p (places.next (resulted (gives_of p k) x (slice_index_or f.registers a null) (with_tasks (Runs_frame g ∷ ms) mid)))
+          (after h (Run caller ∷ ts))) (sym top.frame.method)
+          (subst (λ k. Agrees p (places.next (resulted (gives_of p h.frame.method) k (slice_index_or f.registers a null) (with_tasks (Runs_frame g ∷ ms) mid)))
+          (after h (Run caller ∷ ts))) (sym at) (to_method p mid h.typing (past h) h.frame (agree h) f a g ms caller ts top (λ some. still h _
+          ∙ awaited p h.typing h.state h.frame caller ts h.typed e some) (subst (λ k. k < 16) at small) (gives_of p h.frame.method) wordless refl typed))
 
   pub return_through : (es : Machine_items) (x : ℕ) → IsTrapped (below_first m.stack.tasks) → Runs (below_first (below_first m.stack.tasks)) → m.entries
       ≡ record es { items = Is_mark ∷ es.items } → suc x < 16 → x ≡ result_register (instr_at p (method_here (below_first (below_first m.stack.tasks)))
       (place_here (below_first (below_first m.stack.tasks)))) → DoesIn p refused (Return a) m (places.next (places.set_register (suc x) 0 (resulted (gives_of p
       (method_here m.stack.tasks)) x (register_here m.stack.tasks a) (record (with_tasks (below_first (below_first m.stack.tasks)) mid) { entries = es }))))
-  return_through es x trapped runs marked small is = by_return (λ us. IsTrapped (below_first us) × Runs (below_first (below_first us)) ×
-      (x ≡ result_register (instr_at p (method_here (below_first (below_first us))) (place_here (below_first (below_first us))))))
-      (λ us. places.next (places.set_register (suc x) 0 (resulted
-      (gives_of p (method_here us)) x (register_here us a) (record (with_tasks (below_first (below_first us)) mid) { entries = es })))) (trapped, runs, is)
-      (λ h f ms top same met last typed has. go h f ms h.below h.top top (tops A_catcher ms (has.0, has.1)) same has.2 (wordless p h.frame h.below h.state (gives_of p h.frame.method) a met) typed)
+  return_through es x trapped runs marked small is = by_return (λ us. IsTrapped (below_first us) × Runs (below_first (below_first us))
+      × (x ≡ result_register (instr_at p (method_here (below_first (below_first us))) (place_here (below_first (below_first us))))))
+      (λ us. places.next (places.set_register (suc x) 0 (resulted (gives_of p (method_here us)) x (register_here us a)
+      (record (with_tasks (below_first (below_first us)) mid) { entries = es })))) (trapped, runs, is) (λ h f ms top same met last typed has. go h f ms h.below
+      h.top top (tops A_catcher ms (has.0, has.1)) same has.2 (wordless p h.frame h.below h.state (gives_of p h.frame.method) a met) typed)
     where
       go : (h : At_hand p m) (f : Machine_frame) (ms : List Machine_task) (ts : List Task) → h.state.tasks ≡ Run h.frame ∷ ts → Top mid (past h) h.frame ts f ms
           → Tops A_catcher ms → Alike ms ts → x ≡ result_register (instr_at p (method_here (below_first ms)) (place_here (below_first ms)))
@@ -552,8 +557,8 @@ module _ (p : Image) (m : Parts) (refused : List ℕ) (a : ℕ) (act : Active) (
           (record (with_tasks (Runs_frame g ∷ ms) mid) { entries = es })))) (after h (Trapped ∷ Run caller ∷ ts))) (sym top.frame.method)
           (subst (λ k. Agrees p (places.next (places.set_register (suc k) 0 (resulted (gives_of p h.frame.method) k (slice_index_or f.registers a null)
           (record (with_tasks (Runs_frame g ∷ ms) mid) { entries = es })))) (after h (Trapped ∷ Run caller ∷ ts))) (sym at)
-          (through p mid h.typing (past h) h.frame (agree h) f a es marked g ms caller ts top (λ some. still h _ ∙ awaited_trapped p h.typing h.state h.frame caller ts h.typed e some)
-          (subst (λ k. suc k < 16) at small) (gives_of p h.frame.method) wordless refl typed))
+          (through p mid h.typing (past h) h.frame (agree h) f a es marked g ms caller ts top (λ some. still h _ ∙ awaited_trapped p h.typing h.state h.frame
+          caller ts h.typed e some) (subst (λ k. suc k < 16) at small) (gives_of p h.frame.method) wordless refl typed))
 
   -- to what waits: nothing goes over
   to_waits : (P : List Machine_task → Type 0) → ((ms : List Machine_task) (ts : List Task) → P ms → Alike ms ts → (h : At_hand p m) →
@@ -572,25 +577,27 @@ module _ (p : Image) (m : Parts) (refused : List ℕ) (a : ℕ) (act : Active) (
 
   pub return_to_dispatch : (g : Gives) (d : Machine_dispatch) → gives_of p (method_here m.stack.tasks) ≡ g → ending_here (below_first m.stack.tasks) ≡ Some d
       → DoesIn p refused (Return a) m (with_tasks (Ends (heard (told_by g (register_here m.stack.tasks a)) d) ∷ below_first (below_first m.stack.tasks)) mid)
-  return_to_dispatch g d gives ending =
-      by_return (λ us. ending_here (below_first us) ≡ Some d) (λ us. with_tasks (Ends (heard answer d) ∷ below_first (below_first us)) mid) ending
-      (λ h f ms top same met last typed has.
-      let told = ap (λ k. told_by k (register_here m.stack.tasks a)) (sym gives ∙ ap (gives_of p) (method_is p m h)) ∙ told_same p m h (gives_of p h.frame.method) a met in
+  return_to_dispatch g d gives ending = by_return (λ us. ending_here (below_first us) ≡ Some d)
+      (λ us. with_tasks (Ends (heard answer d) ∷ below_first (below_first us)) mid) ending (λ h f ms top same met last typed has.
+      let told = ap (λ k. told_by k (register_here m.stack.tasks a)) (sym gives ∙ ap (gives_of p) (method_is p m h))
+      ∙ told_same p m h (gives_of p h.frame.method) a met in
       go h f ms h.below top (tops An_end ms (ending_of ms has)) same has told typed)
     where
       answer : ℤ
       answer = told_by g (register_here m.stack.tasks a)
 
-      go : (h : At_hand p m) (f : Machine_frame) (ms : List Machine_task) (ts : List Task) → Top mid (past h) h.frame ts f ms → Tops An_end ms → Alike ms ts → ending_here ms ≡ Some d
-          → answer ≡ told_answer (gives_of p h.frame.method) h.frame a → WellTyped p h.typing (after h ts) → Agrees p (with_tasks (Ends (heard answer d) ∷ below_first ms) mid) (after h ts)
+      go : (h : At_hand p m) (f : Machine_frame) (ms : List Machine_task) (ts : List Task) → Top mid (past h) h.frame ts f ms → Tops An_end ms →
+          Alike ms ts → ending_here ms ≡ Some d → answer ≡ told_answer (gives_of p h.frame.method) h.frame a → WellTyped p h.typing (after h ts) →
+          Agrees p (with_tasks (Ends (heard answer d) ∷ below_first ms) mid) (after h ts)
       go h f _ _ top (end_on_top x ms) (both_end _ e _ ts same below _) is told typed =
           let at : x ≡ d = cc in
           let waits = to_waiting p mid h.typing (past h) h.frame (agree h) f a (Ends x ∷ ms) (Dispatched e ∷ ts) top
           (λ i. none_above p h.typing (after h (Dispatched e ∷ ts)) _ i typed (omega arith)) in
           redispatched p mid (past h) x (heard answer d) ms e _ ts (heard_same answer _ d e told (subst (λ x. SameDispatch x e) at same)) waits
 
-  pub return_to_end : (es : Machine_items) → IsEnding (below_first (below_first m.stack.tasks)) → IsTrapped (below_first m.stack.tasks) → m.entries ≡ record es { items = Is_mark ∷ es.items }
-      → DoesIn p refused (Return a) m (served (register_here m.stack.tasks a) (record (with_tasks (below_first (below_first m.stack.tasks)) mid) { entries = es }))
+  pub return_to_end : (es : Machine_items) → IsEnding (below_first (below_first m.stack.tasks)) →
+      IsTrapped (below_first m.stack.tasks) → m.entries ≡ record es { items = Is_mark ∷ es.items } → DoesIn p refused (Return a) m
+      (served (register_here m.stack.tasks a) (record (with_tasks (below_first (below_first m.stack.tasks)) mid) { entries = es }))
   return_to_end es ending trapped marked = by_return (λ us. IsTrapped (below_first us) × IsEnding (below_first (below_first us)))
       (λ us. served (register_here us a) (record (with_tasks (below_first (below_first us)) mid) { entries = es })) (trapped, ending)
       (λ h f ms top same met last typed has. go h f ms h.below top h.top (tops A_last_trap ms has) same met last typed)
@@ -612,7 +619,8 @@ module _ (p : Image) (m : Parts) (refused : List ℕ) (a : ℕ) (act : Active) (
           (sym (opened_plain (slice_index_or f.registers a null) x [] m.clients plain))
           (ended p mid es (past h) (ends.served x) (dispatch_of q (ends.served x)) (agree h) marked (q, refl) shut))
 
-      opens : (h : At_hand p m) (f : Machine_frame) (y : Subject) (c : ℕ) (q : Place) → Ended h f (Of_one_served y c stages.Accepts) [] (Of_server (seat_of q y) c Accepts) []
+      opens : (h : At_hand p m) (f : Machine_frame) (y : Subject) (c : ℕ) (q : Place) →
+          Ended h f (Of_one_served y c stages.Accepts) [] (Of_server (seat_of q y) c Accepts) []
       opens h f y c q top tasks met last typed =
           let n = slice_index_or f.registers a null in
           let from = Register 2 a in
@@ -633,16 +641,17 @@ module _ (p : Image) (m : Parts) (refused : List ℕ) (a : ℕ) (act : Active) (
           let small = owned_number p mid (past h) few (agree h) from n g.thing g.object tidy
           (ap is_some (over.held_so from) ∙ owned.1.0) (ap (is_thing p g.thing) (over.held_so from) ∙ owned.1.1.0) shows in
           let empty : held (past h).cells (Elsewhere (Session y.number c)) ≡ None = over.held_so (Elsewhere (Session y.number c)) ∙ free _ last.1.0 in
-          accepts p few mid (past h) tidy fit (agree h) y q c there (lives_within p mid (past h) (agree h) (subject_of y) there refl) connects 2 a n (omega arith) shows empty es marked
-          (closing p h.typing _ (Of_server (seat_of q y) c Accepted) typed refl)
+          accepts p few mid (past h) tidy fit (agree h) y q c there (lives_within p mid (past h) (agree h) (subject_of y) there refl) connects 2 a n
+          (omega arith) shows empty es marked (closing p h.typing _ (Of_server (seat_of q y) c Accepted) typed refl)
 
       by_kind : (h : At_hand p m) (f : Machine_frame) (x : Machine_dispatch) (q : Place) → Accepting x → Ended h f x [] (dispatch_of q x) []
       by_kind h f x q (inl plain) = plainly h f x q plain
       by_kind h f x q (inr y) = subst (λ x. Ended h f x [] (dispatch_of q x) []) (sym y.2) (opens h f y.0 y.1 q)
 
-      go : (h : At_hand p m) (f : Machine_frame) (ms : List Machine_task) (ts : List Task) → Top mid (past h) h.frame ts f ms → h.state.tasks ≡ Run h.frame ∷ ts → Tops A_last_trap ms → Alike ms ts
-          → AllTrue (result_needs p h.frame ts h.state (gives_of p h.frame.method) a) → AllTrue (end_needs p h.frame ts h.state ts) → WellTyped p h.typing (after h ts)
-          → Agrees p (served (slice_index_or f.registers a null) (record (with_tasks (below_first ms) mid) { entries = es })) (after h ts)
+      go : (h : At_hand p m) (f : Machine_frame) (ms : List Machine_task) (ts : List Task) → Top mid (past h) h.frame ts f ms →
+          h.state.tasks ≡ Run h.frame ∷ ts → Tops A_last_trap ms → Alike ms ts → AllTrue (result_needs p h.frame ts h.state (gives_of p h.frame.method) a) →
+          AllTrue (end_needs p h.frame ts h.state ts) → WellTyped p h.typing (after h ts) →
+          Agrees p (served (slice_index_or f.registers a null) (record (with_tasks (below_first ms) mid) { entries = es })) (after h ts)
       go h f _ _ top tasks (last_trap_on_top x ms) (both_trapped _ _ _ (both_end _ d _ ts same below _)) met last typed =
           let none = under_dispatch p h.typing (after h (Trapped ∷ Dispatched d ∷ ts)) (ended_well d) ts typed refl in
           (subst (λ us. Ended h f x us d ts) (sym (none_alike ms ts below none)) (subst (λ us. Ended h f x [] d us)
@@ -655,11 +664,12 @@ can_plain n x us plain = grind arith
 
 module _ (p : Image) (m : Parts) (h : At_hand p m) (a : ℕ) where
   abbrev Can : Machine_frame → Machine_dispatch → List Machine_task → Dispatch → List Task → Type 0
-  Can f x ms d ts =
-      Top m h.state h.frame (Trapped ∷ Dispatched d ∷ ts) f (Is_trap ∷ Ends x ∷ ms) → h.state.tasks ≡ Run h.frame ∷ Trapped ∷ Dispatched d ∷ ts
-      → AllTrue (result_needs p h.frame (Trapped ∷ Dispatched d ∷ ts) h.state (gives_of p h.frame.method) a) → CanServe (slice_index_or f.registers a null) (Ends x ∷ ms)
+  Can f x ms d ts = Top m h.state h.frame (Trapped ∷ Dispatched d ∷ ts) f (Is_trap ∷ Ends x ∷ ms) → h.state.tasks ≡ Run h.frame ∷ Trapped ∷ Dispatched d ∷ ts →
+      AllTrue (result_needs p h.frame (Trapped ∷ Dispatched d ∷ ts) h.state (gives_of p h.frame.method) a) →
+      CanServe (slice_index_or f.registers a null) (Ends x ∷ ms)
 
-  accepts_one : (f : Machine_frame) (y : Subject) (c : ℕ) (ms : List Machine_task) (q : Place) (ts : List Task) → Can f (Of_one_served y c stages.Accepts) ms (Of_server (seat_of q y) c Accepts) ts
+  accepts_one : (f : Machine_frame) (y : Subject) (c : ℕ) (ms : List Machine_task) (q : Place) (ts : List Task) →
+      Can f (Of_one_served y c stages.Accepts) ms (Of_server (seat_of q y) c Accepts) ts
   accepts_one f y c ms q ts top tasks met =
       let d = suc (length ts) in
       let from = Register (suc d) a in
@@ -683,8 +693,9 @@ module _ (p : Image) (m : Parts) (h : At_hand p m) (a : ℕ) where
       by_top p m h (λ us. (IsTrapped (below_first us) × IsEnding (below_first (below_first us))) → CanServe (register_here us a) (below_first (below_first us)))
       (λ f ms top has. go f ms h.below top h.top (tops A_last_trap ms has) (alike ms h.below top.below) met) (trapped, ending)
     where
-      go : (f : Machine_frame) (ms : List Machine_task) (ts : List Task) → Top m h.state h.frame ts f ms → h.state.tasks ≡ Run h.frame ∷ ts → Tops A_last_trap ms → Alike ms ts
-          → AllTrue (result_needs p h.frame ts h.state (gives_of p h.frame.method) a) → CanServe (slice_index_or f.registers a null) (below_first ms)
+      go : (f : Machine_frame) (ms : List Machine_task) (ts : List Task) → Top m h.state h.frame ts f ms →
+          h.state.tasks ≡ Run h.frame ∷ ts → Tops A_last_trap ms → Alike ms ts → AllTrue (result_needs p h.frame ts h.state (gives_of p h.frame.method) a) →
+          CanServe (slice_index_or f.registers a null) (below_first ms)
       go f _ _ top tasks (last_trap_on_top x ms) (both_trapped _ _ _ (both_end _ d _ ts same below _)) met =
           (subst (λ e. Can f x ms e ts) same.1 (can_by_kind f x ms same.0 ts (accepting_or x))) top tasks met
 

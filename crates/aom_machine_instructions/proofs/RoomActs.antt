@@ -80,7 +80,8 @@ own_destructs p o m e = go o.thing e
     go Message e = cc
 
 -- what comes to no entries calls nothing that may
-pushes_from : (quiet quiet' leave leave' : Bool) → (quiet ≡ true → quiet' ≡ true) → (leave' ≡ true → leave ≡ true) → (not quiet' || leave') ≡ true → (not quiet || leave) ≡ true
+pushes_from : (quiet quiet' leave leave' : Bool) → (quiet ≡ true → quiet' ≡ true) → (leave' ≡ true → leave ≡ true) → (not quiet' || leave') ≡ true →
+    (not quiet || leave) ≡ true
 pushes_from x quiet' leave leave' q l may = grind arith
 
 pushes_where : (quiet leave : Bool) → leave ≡ true → (not quiet || leave) ≡ true
@@ -113,7 +114,8 @@ IsDealt (Going k) = Unit {0}
 IsDealt _ = ⊥
 
 -- what goes from another place goes there
-pub goes_there_now : (cs : List Cell) (q : Place) (d : ℕ) → held cs (Going d) ≡ None → same_place q (Going d) ≡ false → held (moved q (Going d) cs) (Going d) ≡ held cs q
+pub goes_there_now : (cs : List Cell) (q : Place) (d : ℕ) → held cs (Going d) ≡ None → same_place q (Going d) ≡ false →
+    held (moved q (Going d) cs) (Going d) ≡ held cs q
 goes_there_now cs q d free apart = grind (arith, nat_tests, held_moved cs q (Going d) (Going d) free, same_place_refl (Going d))
 
 -- where all these are as they were
@@ -134,14 +136,16 @@ passed_same p fr ts s d (Takes_word ∷ xs) first to cs e dealt = passed_same p 
 passed_same p fr ts s d (Takes_own t ∷ xs) first to cs e dealt =
     grind (arith, nat_tests, passed_same p fr ts s d xs, held_apart cs, register_apart d to e dealt)
 
-result_same : (p : Image) (fr : Frame) (ts : List Task) (s : State) (g : Gives) (a x : ℕ) (below : List Task) (e : Place) → IsDealt e → held (result_cells p fr ts s g a x below) e ≡ held s.cells e
+result_same : (p : Image) (fr : Frame) (ts : List Task) (s : State) (g : Gives) (a x : ℕ) (below : List Task) (e : Place) → IsDealt e →
+    held (result_cells p fr ts s g a x below) e ≡ held s.cells e
 result_same p fr ts s x a y below e dealt = grind (arith, nat_tests, held_apart s.cells, register_apart)
 
 -- a session moves to its place
 pub session_apart : (n c : ℕ) (e : Place) → IsDealt e → same_place (Elsewhere (Session n c)) e ≡ false
 session_apart n c e dealt = grind arith
 
-accepted_same : (d : Dispatch) (from : Place) (cs : List Cell) → ((e : Place) → IsDealt e → same_place from e ≡ false) → (e : Place) → IsDealt e → held (accepted_cells d from cs) e ≡ held cs e
+accepted_same : (d : Dispatch) (from : Place) (cs : List Cell) → ((e : Place) → IsDealt e → same_place from e ≡ false) → (e : Place) → IsDealt e →
+    held (accepted_cells d from cs) e ≡ held cs e
 accepted_same (Of_server x c Accepts) from cs apart e dealt = grind (arith, nat_tests, held_served, held_apart cs from, session_apart x.object.name c e dealt)
 accepted_same _ from cs apart e dealt = refl
 
@@ -167,9 +171,8 @@ module _ (p : Image) (t : Typing) (depth heights : ℕ → ℕ) (tables : Tables
   -- ---- what leaves the cleanup stack is dealt with
 
   -- its destructor begins, if it has one
-  pub destructed_over :
-      (cs : List Cell) (items : List Item) (o : Object) (ts : List Task) → ((m : ℕ) → Destructs p (Some o) m → IsUnder depth (depth m) ts) → Roomy p depth heights cs items (Destroy ∷ ts) →
-      Roomy p depth heights cs items (destructed p o (length items) ts)
+  pub destructed_over : (cs : List Cell) (items : List Item) (o : Object) (ts : List Task) → ((m : ℕ) → Destructs p (Some o) m → IsUnder depth (depth m) ts) →
+      Roomy p depth heights cs items (Destroy ∷ ts) → Roomy p depth heights cs items (destructed p o (length items) ts)
   destructed_over cs items o ts under w = go (destructor_of p o.thing) refl
     where
       go : (d : Option ℕ) → destructor_of p o.thing ≡ d → Roomy p depth heights cs items (begun_by p d o (length items) ts)
@@ -206,8 +209,8 @@ module _ (p : Image) (t : Typing) (depth heights : ℕ → ℕ) (tables : Tables
         λ k lt. held_apart cs (Entry (length items)) (Going (length ts)) (Going k) refl (going_apart (length ts) k lt),
       ) (popped p depth heights cs An_object items ts low w))
 
-  pub undoes : (cs : List Cell) (items : List Item) (m : ℕ) (w : ℤ) (ts : List Task) → IsUndo p m → AllLow (length items) ts → Roomy p depth heights cs (An_operation m w ∷ items) ts
-      → Roomy p depth heights cs items (Run (operation_frame m w (length items)) ∷ ts)
+  pub undoes : (cs : List Cell) (items : List Item) (m : ℕ) (w : ℤ) (ts : List Task) → IsUndo p m → AllLow (length items) ts →
+      Roomy p depth heights cs (An_operation m w ∷ items) ts → Roomy p depth heights cs items (Run (operation_frame m w (length items)) ∷ ts)
   undoes cs items m w ts undo low room = begins p depth heights cs items (operation_frame m w (length items)) ts refl
       (top_under p depth heights cs (An_operation m w) items ts m low refl room.1)
       (λ may. absurd (pushes_none (is_quiet p m) (leaves p m) undo.quiet undo.leaves may)) (popped p depth heights cs (An_operation m w) items ts low room)
@@ -270,31 +273,31 @@ module _ (p : Image) (t : Typing) (depth heights : ℕ → ℕ) (tables : Tables
         let fit = w.2.0 may in
         omega (arith, more, fit, counted_own)
 
-    call_room :
-        (target : Target) (m first x : ℕ) → instr_at p fr.method fr.place ≡ Some (Call target m first x) → AllTrue (rule_needs p fr.method fr.place h.shape (Call target m first x)) →
-        R (applied p fr ts s (Calls target m first))
+    call_room : (target : Target) (m first x : ℕ) → instr_at p fr.method fr.place ≡ Some (Call target m first x) →
+        AllTrue (rule_needs p fr.method fr.place h.shape (Call target m first x)) → R (applied p fr ts s (Calls target m first))
     call_room target m first x stands n =
         let parts = all_parts (rule_target p fr.method h.shape target m (method_class p m) (is_construct (method_role p m)) first (length (arguments_of p m))) _ n in
         let more = all_parts (each_argument p h.shape (arguments_of p m) first) _ parts.1.1 in
         let view = target_view p fr ts s target (method_class p m) in
         let k = run_by p fr ts s target m in
         let there = (tables.wired.called fr.method fr.place target m first x stands).there in
-        begins p depth heights (given_cells p fr ts s (over_caller p fr ts s) m first) s.items (entered p fr ts s target m first (length s.items)) (Run fr ∷ ts) refl
-        (may_call fr h.shape h.there (Call target m first x) k stands (run_among p m k (body_runs p m view)))
+        begins p depth heights (given_cells p fr ts s (over_caller p fr ts s) m first) s.items (entered p fr ts s target m first (length s.items))
+        (Run fr ∷ ts) refl (may_call fr h.shape h.there (Call target m first x) k stands (run_among p m k (body_runs p m view)))
         (λ may. finds (Call target m first x) k stands (body_runs p m view) (pushes_from (is_quiet p fr.method) (is_quiet p k) (leaves p fr.method) (leaves p k)
         (λ q. body_quiet p tables.wired.overriders m view (only_then (is_quiet p fr.method) (is_quiet p m) more.1.1.0 q))
         (λ l. only_then (leaves p m) (leaves p fr.method) more.1.1.1.1.0 (body_leaves p tables.wired.overriders m view there l)) may))
         (moves (given_cells p fr ts s (over_caller p fr ts s) m first) (λ e dealt. passed_same p fr ts s _ (arguments_of p m) first 0 s.cells e dealt))
 
-    trap_room : (target : Target) (m first x : ℕ) → instr_at p fr.method fr.place ≡ Some (Trap target m first x) → not (is_quiet p fr.method) ≡ true → R (applied p fr ts s (Sets_trap target m first))
+    trap_room : (target : Target) (m first x : ℕ) → instr_at p fr.method fr.place ≡ Some (Trap target m first x) → not (is_quiet p fr.method) ≡ true →
+        R (applied p fr ts s (Sets_trap target m first))
     trap_room target m first x stands loud =
         let cells' = given_cells p fr ts s (over_trap p fr ts s) m first in
         let may = pushes_loud (is_quiet p fr.method) (leaves p fr.method) loud in
         begins p depth heights cells' (A_mark ∷ s.items) (entered p fr ts s target m first (length (A_mark ∷ s.items))) (Trapped ∷ Run fr ∷ ts) refl
-        (may_call fr h.shape h.there (Trap target m first x)
-        (run_by p fr ts s target m) stands (run_among p m (run_by p fr ts s target m) (body_runs p m (target_view p fr ts s target (method_class p m)))))
-        (λ _. finds (Trap target m first x) (run_by p fr ts s target m) stands (body_runs p m (target_view p fr ts s target (method_class p m))) may)
-        (item_pushed p depth heights cells' A_mark s.items (Run fr ∷ ts) all_low (λ k e. absurd e) w.3 (moves cells' (λ e dealt. passed_same p fr ts s _ (arguments_of p m) first 0 s.cells e dealt)))
+        (may_call fr h.shape h.there (Trap target m first x) (run_by p fr ts s target m) stands
+        (run_among p m (run_by p fr ts s target m) (body_runs p m (target_view p fr ts s target (method_class p m))))) (λ _. finds (Trap target m first x)
+        (run_by p fr ts s target m) stands (body_runs p m (target_view p fr ts s target (method_class p m))) may) (item_pushed p depth heights cells' A_mark
+        s.items (Run fr ∷ ts) all_low (λ k e. absurd e) w.3 (moves cells' (λ e dealt. passed_same p fr ts s _ (arguments_of p m) first 0 s.cells e dealt)))
 
     -- ---- returns
 
@@ -302,9 +305,8 @@ module _ (p : Image) (t : Typing) (depth heights : ℕ → ℕ) (tables : Tables
         Roomy p depth heights cs items (Run caller ∷ below) → Roomy p depth heights cs items (Run (next (received p fr ts s g a x caller)) ∷ below)
     goes_back cs items x a y caller below v = grind arith
 
-    goes_back_trapped : (cs : List Cell) (items : List Item) (g : Gives) (a x : ℕ) (caller : Frame) (below : List Task) (v : Option ℤ) →
-        Roomy p depth heights cs items (Run caller ∷ below) →
-        Roomy p depth heights cs items (Run (next (set_word (received p fr ts s g a x caller) (suc x) v)) ∷ below)
+    goes_back_trapped : (cs : List Cell) (items : List Item) (g : Gives) (a x : ℕ) (caller : Frame) (below : List Task) (v : Option ℤ) → Roomy p depth heights
+        cs items (Run caller ∷ below) → Roomy p depth heights cs items (Run (next (set_word (received p fr ts s g a x caller) (suc x) v)) ∷ below)
     goes_back_trapped cs items x a y caller below u v = grind arith
 
     -- the mark is gone
@@ -321,7 +323,8 @@ module _ (p : Image) (t : Typing) (depth heights : ℕ → ℕ) (tables : Tables
     -- these tasks find the cells as they were
     again : (cs' : List Cell) (items : List Item) (us : List Task) →
         ((e : Place) → IsDealt e → held cs' e ≡ held over.cells e) → Roomy p depth heights s.cells items us → Roomy p depth heights cs' items us
-    again cs' items us same v = recelled p depth heights s.cells cs' items us (same_all s.cells cs' (length items) (length us) (λ e dealt. same e dealt ∙ ended_same e)) v
+    again cs' items us same v =
+        recelled p depth heights s.cells cs' items us (same_all s.cells cs' (length items) (length us) (λ e dealt. same e dealt ∙ ended_same e)) v
 
     -- at its end a method has no items of its own
     ended_high : no_entry h.shape.entries ≡ true → length s.items ≡ fr.height
@@ -332,9 +335,8 @@ module _ (p : Image) (t : Typing) (depth heights : ℕ → ℕ) (tables : Tables
         go (e ∷ es) same none = absurd cc
 
     -- the next destructor of a line begins, or the cell goes next
-    line_room :
-        (below : List Task) → NextGoes p s.cells fr.method below → (gives_of p fr.method ≡ Nothing → length s.items ≡ fr.height) → Roomy p depth heights s.cells s.items (Destroy ∷ below) →
-        Roomy p depth heights over.cells s.items (line_on p fr.method fr.home fr.height below)
+    line_room : (below : List Task) → NextGoes p s.cells fr.method below → (gives_of p fr.method ≡ Nothing → length s.items ≡ fr.height) →
+        Roomy p depth heights s.cells s.items (Destroy ∷ below) → Roomy p depth heights over.cells s.items (line_on p fr.method fr.home fr.height below)
     line_room below goes ended v = on fr.home
       where
         there : Roomy p depth heights over.cells s.items (Destroy ∷ below)
@@ -344,16 +346,15 @@ module _ (p : Image) (t : Typing) (depth heights : ℕ → ℕ) (tables : Tables
         by o None e = there
         by o (Some m) e =
             let next = goes.next m e in
-            begins p depth heights over.cells s.items (destructor_frame p m o (length below) fr.height) (Destroy ∷ below) (sym (ended goes.gives)) (v.1.0 m next.0)
-            (λ may. absurd (pushes_none (is_quiet p m) (leaves p m) next.1 next.2 may)) there
+            begins p depth heights over.cells s.items (destructor_frame p m o (length below) fr.height) (Destroy ∷ below) (sym (ended goes.gives))
+            (v.1.0 m next.0) (λ may. absurd (pushes_none (is_quiet p m) (leaves p m) next.1 next.2 may)) there
 
         on : (home : Home) → Roomy p depth heights over.cells s.items (line_on p fr.method home fr.height below)
         on (Inside o from) = by o (next_destructor p fr.method) refl
         on _ = there
 
-    return_room :
-        (g : Gives) (a : ℕ) (below : List Task) → LowUnder fr.height below → LineGoes p s.cells fr.method below → (gives_of p fr.method ≡ Nothing → length s.items ≡ fr.height) →
-        Roomy p depth heights s.cells s.items below → R (returned p fr ts over g a below)
+    return_room : (g : Gives) (a : ℕ) (below : List Task) → LowUnder fr.height below → LineGoes p s.cells fr.method below →
+        (gives_of p fr.method ≡ Nothing → length s.items ≡ fr.height) → Roomy p depth heights s.cells s.items below → R (returned p fr ts over g a below)
     return_room g a (Run caller ∷ below) low goes ended v =
         let x = result_register (instr_at p caller.method caller.place) in
         let cells' = result_cells p fr ts over g a x below in
@@ -361,8 +362,8 @@ module _ (p : Image) (t : Typing) (depth heights : ℕ → ℕ) (tables : Tables
     return_room g a (Trapped ∷ Run caller ∷ below) low goes ended v =
         let x = result_register (instr_at p caller.method caller.place) in
         let cells' = result_cells p fr ts over g a x below in
-        goes_back_trapped cells' (below_top s.items) g a x caller below (Some (pos 0))
-        (popped_top p depth heights cells' s.items (Run caller ∷ below) (low_top (Run caller ∷ below) low) (again cells' s.items (Run caller ∷ below) (result_same p fr ts over g a x below) v))
+        goes_back_trapped cells' (below_top s.items) g a x caller below (Some (pos 0)) (popped_top p depth heights cells' s.items (Run caller ∷ below)
+        (low_top (Run caller ∷ below) low) (again cells' s.items (Run caller ∷ below) (result_same p fr ts over g a x below) v))
     return_room g a (Trapped ∷ Dispatched d ∷ below) low goes ended v =
         let cells' = accepted_cells d (here fr ts over a) over.cells in
         popped_top p depth heights cells' s.items (Dispatched (ended_well d) ∷ below) (low_top (Dispatched d ∷ below) low)
@@ -380,7 +381,8 @@ module _ (p : Image) (t : Typing) (depth heights : ℕ → ℕ) (tables : Tables
         let its = cancel_family p fr m h.view e in
         let quiet = cancel_quiet p tables.wired fr m e in
         let stays : leaves p m ≡ false = grind (arith, nat_tests, false_given) in
-        let among : Among m (cancels p (method_class p fr.method)) = subst (λ o. Among m (cancels p o)) (sym its.2) (cancel_among p (Some its.1) m (its.0, its.3, its.4)) in
+        let among : Among m (cancels p (method_class p fr.method)) =
+        subst (λ o. Among m (cancels p o)) (sym its.2) (cancel_among p (Some its.1) m (its.0, its.3, its.4)) in
         begins p depth heights (begun_cells fr s.cells) s.items (frame_as m fr.home fr.view (length s.items)) (Run fr ∷ ts) refl
         (may_call fr h.shape h.there Cancel m stands among) (λ may. absurd (pushes_none (is_quiet p m) (leaves p m) quiet stays may))
         (moves (begun_cells fr s.cells) (λ e dealt. (rerequested_alike s.cells fr.home (on_request cancelling (own_request s.cells fr.home))).held_so e))
@@ -417,19 +419,18 @@ module _ (p : Image) (t : Typing) (depth heights : ℕ → ℕ) (tables : Tables
         there_now = held_moved s.cells (here fr ts s a) (Entry (length s.items)) (Entry (length s.items)) h.free
             ∙ ap (λ b. cond b (held s.cells (here fr ts s a)) (held s.cells (Entry (length s.items)))) (same_place_refl (Entry (length s.items)))
 
-    push_operation_room :
-        (a m : ℕ) (v : ℤ) → instr_at p fr.method fr.place ≡ Some (PushOperation a m) → leaves p fr.method ≡ true → Leads t fr.method (suc fr.place) (with_entry Operation h.shape) →
-        After (Pushed_operation m v)
+    push_operation_room : (a m : ℕ) (v : ℤ) → instr_at p fr.method fr.place ≡ Some (PushOperation a m) → leaves p fr.method ≡ true →
+        Leads t fr.method (suc fr.place) (with_entry Operation h.shape) → After (Pushed_operation m v)
     push_operation_room a m v stands leave leads = item_pushed p depth heights s.cells (An_operation m v) s.items (Run fr ∷ ts) all_low
         (λ k e. subst (λ x. depth x < depth fr.method) (sym e) (may_call fr h.shape h.there (PushOperation a m) m stands (inl refl)))
-        (let few = pushes (PushOperation a m) (with_entry Operation h.shape) stands leave leads refl in omega (arith, few))
-        w
+        (let few = pushes (PushOperation a m) (with_entry Operation h.shape) stands leave leads refl in omega (arith, few)) w
 
     -- the last item is the method's own
     low_below : not (no_entry h.shape.entries) ≡ true → AllLow (length (below_top s.items)) (Run fr ∷ ts)
     low_below some = go h.shape.entries s.items high some
       where
-        go : (es : List CleanupEntry) (items : List Item) → length items ≡ length (objects es h.below) → not (no_entry es) ≡ true → AllLow (length (below_top items)) (Run fr ∷ ts)
+        go : (es : List CleanupEntry) (items : List Item) → length items ≡ length (objects es h.below) → not (no_entry es) ≡ true →
+            AllLow (length (below_top items)) (Run fr ∷ ts)
         go (e ∷ es) (i ∷ items) same some =
             let le : fr.height ≤ length items = omega (arith, same, h.height, length_objects es h.below) in
             (le, lower fr.height (length items) ts le h.low)
@@ -442,9 +443,10 @@ module _ (p : Image) (t : Typing) (depth heights : ℕ → ℕ) (tables : Tables
             Roomy p depth heights (moved (top_place items) (here fr ts s a) s.cells) (below_top items) (Run fr ∷ ts)
         go items low room =
             let cells' = moved (top_place items) (here fr ts s a) s.cells in
-            recelled p depth heights s.cells cells' (below_top items) (Run fr ∷ ts)
-            (λ k lt. held_apart s.cells (top_place items) (here fr ts s a) (Entry k) (entry_apart (length (below_top items)) k lt) refl, λ k lt. held_apart s.cells (top_place items) (here fr ts s a) (Going k) refl refl)
-            (popped_top p depth heights s.cells items (Run fr ∷ ts) low room)
+            recelled p depth heights s.cells cells' (below_top items) (Run fr ∷ ts) (
+              λ k lt. held_apart s.cells (top_place items) (here fr ts s a) (Entry k) (entry_apart (length (below_top items)) k lt) refl,
+              λ k lt. held_apart s.cells (top_place items) (here fr ts s a) (Going k) refl refl,
+            ) (popped_top p depth heights s.cells items (Run fr ∷ ts) low room)
 
     -- ---- the effects
 
@@ -496,9 +498,8 @@ module _ (p : Image) (t : Typing) (depth heights : ℕ → ℕ) (tables : Tables
     -- an object of a register goes
     delete_room : (o : Object) (a : ℕ) (words : List (Option ℤ)) → instr_at p fr.method fr.place ≡ Some (Delete a) →
         held s.cells (here fr ts s a) ≡ Some o → Fits p (seen s.cells) (Some o) (register h.shape a) → R (applied p fr ts s (Destroys o a words))
-    delete_room o a words stands there fits =
-        begins_over (moved (here fr ts s a) (Going (length (Run fr ∷ ts))) s.cells) s.items o (Run (with_words fr words) ∷ ts)
-        (goes_there_now s.cells (here fr ts s a) (length (Run fr ∷ ts)) unheld refl ∙ there)
+    delete_room o a words stands there fits = begins_over (moved (here fr ts s a) (Going (length (Run fr ∷ ts))) s.cells) s.items o
+        (Run (with_words fr words) ∷ ts) (goes_there_now s.cells (here fr ts s a) (length (Run fr ∷ ts)) unheld refl ∙ there)
         (λ m e. may_call fr h.shape h.there (Delete a) m stands (destructs_as p (seen s.cells) o (register h.shape a) m fits e)) (λ server. tt)
         (recelled p depth heights s.cells (moved (here fr ts s a) (Going (length (Run fr ∷ ts))) s.cells) s.items (Run fr ∷ ts) (
           λ k lt. held_apart s.cells (here fr ts s a) (Going (length (Run fr ∷ ts))) (Entry k) refl refl,
@@ -519,7 +520,8 @@ module _ (p : Image) (t : Typing) (depth heights : ℕ → ℕ) (tables : Tables
         let cs = cells_after p fr ts s u in
         let items = items_after u s.items in
         off_to_trap p depth heights cs items ts (dropped p depth heights cs items fr ts (updated_room i stands r n u f.2))
-    acts_room i stands r n (Destroys o a words) f = delete_room o a words (stands_as i _ stands f.0) f.1 (subst (λ x. Fits p (seen s.cells) x (register h.shape a)) f.1 (h.fits a))
+    acts_room i stands r n (Destroys o a words) f =
+        delete_room o a words (stands_as i _ stands f.0) f.1 (subst (λ x. Fits p (seen s.cells) x (register h.shape a)) f.1 (h.fits a))
     acts_room i stands r n (Destroys_last o) f = clears s.cells
         (below_top s.items) o (Run fr ∷ ts) f.2 unheld tt (low_below (subst Ruled f.0 r).0) (subst (λ is. Roomy p depth heights s.cells is (Run fr ∷ ts)) f.1 w)
     acts_room i stands r n (Operates m v) f = undoes s.cells (below_top s.items) m v (Run fr ∷ ts)

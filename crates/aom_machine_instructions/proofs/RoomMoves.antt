@@ -76,8 +76,8 @@ session_so p wired o so class has is = go o.thing has
           let same : w.0 ≡ class = wired.family.alone k class w.0 has w.1 in
           let own : Among m (lines_of p (Some class) ++ []) =
           subst (λ j. Among m (lines_of p (Some class) ++ lines_of p j)) (none k has) (subst (λ y. Among m (gone_with p y)) same w.2) in
-          below_lists p (gone_with p) k k m (itself p k)
-          (among_right m (lines_of p (Some k)) (lines_of p (sessions_at p k)) (subst (λ j. Among m (lines_of p j)) (sym has) (subst (Among m) (append-nil (lines_of p (Some class))) own)));
+          below_lists p (gone_with p) k k m (itself p k) (among_right m (lines_of p (Some k)) (lines_of p (sessions_at p k))
+          (subst (λ j. Among m (lines_of p j)) (sym has) (subst (Among m) (append-nil (lines_of p (Some class))) own)));
       plain = ap (is_server p) is ∙ ap is_some (none k has);
     }
     go Message has = absurd (none-some class has)
@@ -101,7 +101,8 @@ pub session_told : (p : Image) (t : Typing) → IsWired p → (s : State) → We
     held s.cells (Going (length ts)) ≡ Some o → (c : ℕ) (so : Object) → held s.cells (Elsewhere (Session o.name c)) ≡ Some so → SessionOf p o so
 session_told p t wired s w ts o at there c so holds = closing_layer (λ ls. Good p t s.cells ls) (Destroy ∷ ts) w.layers (sym w.tasks ∙ at) w.good over
   where
-    its_thing : (x : Option ℕ) → session_class p o.thing ≡ x → (b : Bool) → Fits_kind p (seen s.cells) (Some so) (cond b (filled (of_class x) Full) Null) → SessionOf p o so
+    its_thing : (x : Option ℕ) → session_class p o.thing ≡ x → (b : Bool) →
+        Fits_kind p (seen s.cells) (Some so) (cond b (filled (of_class x) Full) Null) → SessionOf p o so
     its_thing (Some class) e true f = session_so p wired o so class e (stands_session_of p wired.family o.thing class e so.thing f.0)
     its_thing None e true f = absurd f
     its_thing x e false f = absurd f
@@ -109,10 +110,11 @@ session_told p t wired s w ts o at there c so holds = closing_layer (λ ls. Good
     of_server : (left : List ℕ) (ls : List Layer) → Good p t s.cells (Ending o left ∷ ls) → SessionOf p o so
     of_server left ls good = its_thing (session_class p o.thing) refl (is_among c left)
         (subst (λ b. Fits_kind p (seen s.cells) (Some so) (cond b (cond (is_among c left) (filled (of_class (session_class p o.thing)) Full) Null)
-        (claim p (declared p s.cells) ls (Elsewhere (Session o.name c))))) (eq-eqb o.name o.name refl)
-        (subst (λ y. Fits_kind p (seen s.cells) y (claim p (declared p s.cells) (Ending o left ∷ ls) (Elsewhere (Session o.name c)))) holds (good.fits (Elsewhere (Session o.name c)))))
+        (claim p (declared p s.cells) ls (Elsewhere (Session o.name c))))) (eq-eqb o.name o.name refl) (subst (λ y. Fits_kind p (seen s.cells) y
+        (claim p (declared p s.cells) (Ending o left ∷ ls) (Elsewhere (Session o.name c)))) holds (good.fits (Elsewhere (Session o.name c)))))
 
-    right_under : (x : Object) (left : List ℕ) (ls : List Layer) → tasks_of ls ≡ Destroy ∷ ts → Good p t s.cells (Ending x left ∷ ls) → IsOverDying x ls → SessionOf p o so
+    right_under : (x : Object) (left : List ℕ) (ls : List Layer) → tasks_of ls ≡ Destroy ∷ ts → Good p t s.cells (Ending x left ∷ ls) →
+        IsOverDying x ls → SessionOf p o so
     right_under x left (Dying y ∷ ls) under good same =
         let below : tasks_of ls ≡ ts = cc in
         let held_there : held s.cells (Going (length ts)) ≡ Some y = ap (λ us. held s.cells (Going (length us))) (sym below) ∙ good.stack.3.0.1 in
@@ -126,9 +128,8 @@ session_told p t wired s w ts o at there c so holds = closing_layer (λ ls. Good
 -- ---- lines
 
 -- what follows a destructor in the line of a cell that goes is a destructor of the cell's line too
-next_goes :
-    (p : Image) → IsWired p → (cs : List Cell) (m c : ℕ) (below : List Task) (o : Object) → held cs (Going (length below)) ≡ Some o → o.thing ≡ An_object_of c → gives_of p m ≡ Nothing →
-    IsOfFamily p c m → NextGoes p cs m below
+next_goes : (p : Image) → IsWired p → (cs : List Cell) (m c : ℕ) (below : List Task) (o : Object) → held cs (Going (length below)) ≡ Some o →
+    o.thing ≡ An_object_of c → gives_of p m ≡ Nothing → IsOfFamily p c m → NextGoes p cs m below
 next_goes p wired cs m c below o there is nothing family = record {
   gives = nothing;
   next = λ k e. some_given (λ q. class_destructor p q ≡ Some k) (parent_above p m) e (λ none. cc) (λ up at role.
@@ -141,9 +142,10 @@ next_goes p wired cs m c below o there is nothing family = record {
       (subst (λ x. Destructs p x k) (sym there) here, its.quiet, its.stays));
 }
 
-pub line_goes : (p : Image) (t : Typing) → IsWired p → (s : State) → WellTyped p t s → (fr : Frame) (ts : List Task) → s.tasks ≡ Run fr ∷ ts → LineGoes p s.cells fr.method ts
-line_goes p t wired s w fr ts at =
-    method_layer (λ ls. Good p t s.cells ls) fr ts w.layers (sym w.tasks ∙ at) w.good (λ sh ls under good. subst (LineGoes p s.cells fr.method) under (go sh ls good))
+pub line_goes : (p : Image) (t : Typing) → IsWired p → (s : State) → WellTyped p t s → (fr : Frame) (ts : List Task) → s.tasks ≡ Run fr ∷ ts →
+    LineGoes p s.cells fr.method ts
+line_goes p t wired s w fr ts at = method_layer (λ ls. Good p t s.cells ls) fr ts w.layers (sym w.tasks ∙ at) w.good
+    (λ sh ls under good. subst (LineGoes p s.cells fr.method) under (go sh ls good))
   where
     go : (sh : Shape) (ls : List Layer) → Good p t s.cells (Method fr sh ∷ ls) → LineGoes p s.cells fr.method (tasks_of ls)
     go sh (Dying o ∷ ls) good =
@@ -159,12 +161,12 @@ none_formed [] e = refl
 none_formed (i ∷ items) e = cc
 
 pub bare_end : (p : Image) (t : Typing) (s : State) (d : Dispatch) (ts : List Task) → WellTyped p t s → s.tasks ≡ Dispatched d ∷ ts → s.items ≡ []
-bare_end p t s d ts typed at = dispatch_layer (λ ls. (forms s.items ≡ items_of ls) × Good p t s.cells ls) d ts typed.layers (sym typed.tasks ∙ at) (typed.items, typed.good)
-    (λ seats ls _ h. none_formed s.items (h.0 ∙ ap (λ b. items_of (Dispatching d seats ∷ b)) h.1.stack.1))
+bare_end p t s d ts typed at = dispatch_layer (λ ls. (forms s.items ≡ items_of ls) × Good p t s.cells ls) d ts typed.layers (sym typed.tasks ∙ at)
+    (typed.items, typed.good) (λ seats ls _ h. none_formed s.items (h.0 ∙ ap (λ b. items_of (Dispatching d seats ∷ b)) h.1.stack.1))
 
 pub lone_end : (p : Image) (t : Typing) (s : State) (d : Dispatch) (ts : List Task) → WellTyped p t s → s.tasks ≡ Dispatched d ∷ ts → length s.tasks ≡ 1
-lone_end p t s d ts typed at = dispatch_layer (λ ls. (length s.tasks ≡ length (tasks_of ls)) × Good p t s.cells ls) d ts typed.layers (sym typed.tasks ∙ at) (ap length typed.tasks, typed.good)
-    (λ seats ls _ h. h.0 ∙ ap (λ b. length (tasks_of (Dispatching d seats ∷ b))) h.1.stack.1)
+lone_end p t s d ts typed at = dispatch_layer (λ ls. (length s.tasks ≡ length (tasks_of ls)) × Good p t s.cells ls) d ts typed.layers (sym typed.tasks ∙ at)
+    (ap length typed.tasks, typed.good) (λ seats ls _ h. h.0 ∙ ap (λ b. length (tasks_of (Dispatching d seats ∷ b))) h.1.stack.1)
 
 -- nothing is at hand to go past the tasks
 pub none_going_there : (p : Image) (t : Typing) (s : State) → WellTyped p t s → (k : ℕ) → length s.tasks ≡ k → held s.cells (Going k) ≡ None
@@ -185,7 +187,8 @@ module _ (p : Image) (t : Typing) (depth heights : ℕ → ℕ) (tables : Tables
 
   -- a dispatch ends, and its method that answers finds all the room that there is
   module _ (within : (m : ℕ) → heights m ≤ 1024) (s : State) (bare : s.items ≡ []) (free : held s.cells (Going 1) ≡ None) where
-    root_roomy : (v : State) → v.cells ≡ s.cells → v.items ≡ s.items → (b : Bool) (root : Option Object) → held s.cells (Elsewhere Root) ≡ root → RoomyState (main_ends p b root v)
+    root_roomy : (v : State) → v.cells ≡ s.cells → v.items ≡ s.items → (b : Bool) (root : Option Object) → held s.cells (Elsewhere Root) ≡ root →
+        RoomyState (main_ends p b root v)
     root_roomy v cells items x root holds =
         grind (arith, nat_tests, begins_over p t depth heights tables, goes_there_now v.cells (Elsewhere Root) 1, few v (items ∙ bare))
 
@@ -199,26 +202,37 @@ module _ (p : Image) (t : Typing) (depth heights : ℕ → ℕ) (tables : Tables
     ends x = grind (arith, nat_tests, few s bare, root_roomy s, asking_roomy, answer_roomy)
 
   -- a method's move
-  acts :
-      IsTyped p t → (c : Choice) (s : State) → WellTyped p t s → RoomyState s → (fr : Frame) (ts : List Task) (i : Instr) (e : Effect) → s.tasks ≡ Run fr ∷ ts →
-      instr_at p fr.method fr.place ≡ Some i → Fits p c fr ts (counted p s) i e → RoomyState (applied p fr ts (counted p s) e)
+  acts : IsTyped p t → (c : Choice) (s : State) → WellTyped p t s → RoomyState s → (fr : Frame) (ts : List Task) (i : Instr) (e : Effect) →
+      s.tasks ≡ Run fr ∷ ts → instr_at p fr.method fr.place ≡ Some i → Fits p c fr ts (counted p s) i e → RoomyState (applied p fr ts (counted p s) e)
   acts typed c s w room fr ts i e at there fits =
       let h = stands_here p t s fr ts w at in
       let x = typed.each fr.method fr.place h.shape h.there in
       let is : x.instr ≡ i = same_Some x.instr i (sym x.stands ∙ there) in
-      acts_room p t depth heights tables c fr ts (counted p s) w.undos at (again h)
-      (none_going_there p t s w (length (Run fr ∷ ts)) (ap length at)) (subst (λ us. Roomy p depth heights s.cells s.items us) at room)
-      (line_goes p t tables.wired s w fr ts at) i there
-      (subst (λ j. AllTrue (rule_needs p fr.method fr.place h.shape j)) is x.needs) (subst (λ j. AllLead t fr.method (flows p fr.method fr.place h.shape j)) is x.flows) e fits
+      acts_room p t depth heights tables c fr ts (counted p s) w.undos at (again h) (none_going_there p t s w (length (Run fr ∷ ts)) (ap length at))
+      (subst (λ us. Roomy p depth heights s.cells s.items us) at room) (line_goes p t tables.wired s w fr ts at) i there (subst (λ j. AllTrue
+      (rule_needs p fr.method fr.place h.shape j)) is x.needs) (subst (λ j. AllLead t fr.method (flows p fr.method fr.place h.shape j)) is x.flows) e fits
     where
       -- what a move counts is no part of it
       again : Stands_here p t s fr ts → Stands_here p t (counted p s) fr ts
-      again h = record { shape = h.shape; below = h.below; there = h.there; items = h.items; height = h.height; holder = h.holder; view = h.view; low = h.low; low_under = h.low_under; fits = h.fits; free = h.free }
+      again h = record {
+        shape = h.shape;
+        below = h.below;
+        there = h.there;
+        items = h.items;
+        height = h.height;
+        holder = h.holder;
+        view = h.view;
+        low = h.low;
+        low_under = h.low_under;
+        fits = h.fits;
+        free = h.free;
+      }
 
   -- under a leave, with its last item
   with_top : (code : ℤ) (ts : List Task) (i : Item) (items : List Item) (s : State) → RoomyState s → s.tasks ≡ Unwind code ∷ ts → s.items ≡ i ∷ items →
       Roomy p depth heights s.cells (i ∷ items) (Unwind code ∷ ts)
-  with_top code ts i items s room at top = subst (λ is. Roomy p depth heights s.cells is (Unwind code ∷ ts)) top (subst (λ us. Roomy p depth heights s.cells s.items us) at room)
+  with_top code ts i items s room at top =
+      subst (λ is. Roomy p depth heights s.cells is (Unwind code ∷ ts)) top (subst (λ us. Roomy p depth heights s.cells s.items us) at room)
 
   -- a server lets go of a session, or its destructor begins
   emptied : (c : Choice) (s : State) → WellTyped p t s → (ts : List Task) (o : Object) →
@@ -273,8 +287,10 @@ module _ (p : Image) (t : Typing) (depth heights : ℕ → ℕ) (tables : Tables
       subst RoomyState (sym same) (ends within (counted p s) (bare_end p t s d ts w at) (none_going_there p t s w 1 (lone_end p t s d ts w at)) d)
 
 -- the tables of an accepted image
-pub tables_of : (p : Image) (t : Typing) → IsWired p → IsStrongest p t → (depths : HasDepths p) (heights : HasHeights p) → Tables p t (at 0 depths.depths) (at 0 heights.heights)
-tables_of p t wired strongest depths heights = record { wired = wired; strongest = strongest; less = depths.are.less; own = heights.are.own; under = heights.are.under }
+pub tables_of : (p : Image) (t : Typing) → IsWired p → IsStrongest p t → (depths : HasDepths p) (heights : HasHeights p) →
+    Tables p t (at 0 depths.depths) (at 0 heights.heights)
+tables_of p t wired strongest depths heights =
+    record { wired = wired; strongest = strongest; less = depths.are.less; own = heights.are.own; under = heights.are.under }
 
 -- each move keeps it
 pub keeps_room : (p : Image) (t : Typing) →
@@ -289,12 +305,11 @@ pub boots_with_room : (p : Image) (depth : ℕ → ℕ) (heights : HasHeights p)
 boots_with_room p depth heights = grind (arith, nat_tests)
 
 -- and so has a dispatch that begins
-pub dispatches_with_room :
-    (p : Image) (depth : ℕ → ℕ) (heights : HasHeights p) (cs : List Cell) (m : ℕ) (home : Home) (d : Dispatch) (items : List Item) (r : Counters) (dead : List ℕ) (clients : List Client) → items ≡ [] →
-    HasRoom p depth (at 0 heights.heights) (record { cells = cs; tasks = Run (frame_of m home (length (A_mark ∷ items))) ∷ Trapped ∷ Dispatched d ∷ []; items = A_mark ∷ items; rest = r; killed = dead; clients = clients })
-dispatches_with_room p depth heights cs m home d items r dead clients bare =
-    subst (λ is. HasRoom p depth (at 0 heights.heights) (record { cells = cs; tasks = Run (frame_of m home (length (A_mark ∷ is))) ∷ Trapped ∷ Dispatched d ∷ []; items = A_mark ∷ is; rest = r; killed = dead; clients = clients })) (sym bare)
-    (record {
+pub dispatches_with_room : (p : Image) (depth : ℕ → ℕ) (heights : HasHeights p) (cs : List Cell) (m : ℕ) (home : Home)
+    (d : Dispatch) (items : List Item) (r : Counters) (dead : List ℕ) (clients : List Client) → items ≡ [] → HasRoom p depth (at 0 heights.heights)
+    (record { cells = cs; tasks = Run (frame_of m home (length (A_mark ∷ items))) ∷ Trapped ∷ Dispatched d ∷ []; items = A_mark ∷ items; rest = r; killed = dead; clients = clients })
+dispatches_with_room p depth heights cs m home d items r dead clients bare = subst (λ is. HasRoom p depth (at 0 heights.heights)
+    (record { cells = cs; tasks = Run (frame_of m home (length (A_mark ∷ is))) ∷ Trapped ∷ Dispatched d ∷ []; items = A_mark ∷ is; rest = r; killed = dead; clients = clients })) (sym bare) (record {
       under = (tt, tt);
       runs = ((λ le k e. absurd e, tt), tt);
       fit = (λ may. let most = heights.are.within m in omega (arith, most), tt);

@@ -73,14 +73,16 @@ push_room p m a next =
     let st = next.stands in
     let sound = st.1.sound in
     let f = at_hand p (counting next.counts m) st next.runs (Push a) next.here in
-    entry_room p (counting next.counts m) st (push_at_hand p st.1.typing sound.wired sound.typed sound.strongest sound.depths sound.heights st.0 f.0 f.1 st.1.typed f.2 st.1.room a f.3)
+    entry_room p (counting next.counts m) st
+    (push_at_hand p st.1.typing sound.wired sound.typed sound.strongest sound.depths sound.heights st.0 f.0 f.1 st.1.typed f.2 st.1.room a f.3)
 
 pub push_operation_room : (p : Image) (m : Parts) (a k : ℕ) → IsNext p (PushOperation a k) m → entries_in m.entries.items < m.entries.depth
 push_operation_room p m a k next =
     let st = next.stands in
     let sound = st.1.sound in
     let f = at_hand p (counting next.counts m) st next.runs (PushOperation a k) next.here in
-    entry_room p (counting next.counts m) st (push_operation_at_hand p st.1.typing sound.wired sound.typed sound.strongest sound.depths sound.heights st.0 f.0 f.1 st.1.typed f.2 st.1.room a k f.3)
+    entry_room p (counting next.counts m) st
+    (push_operation_at_hand p st.1.typing sound.wired sound.typed sound.strongest sound.depths sound.heights st.0 f.0 f.1 st.1.typed f.2 st.1.room a k f.3)
 
 -- and for a mark where a trap is set
 pub mark_room : (p : Image) (m : Parts) (target : Target) (k first x : ℕ) → IsNext p (Trap target k first x) m → marks_in m.entries.items < 256
@@ -88,6 +90,7 @@ mark_room p m target k first x next =
     let st = next.stands in
     let sound = st.1.sound in
     let f = at_hand p (counting next.counts m) st next.runs (Trap target k first x) next.here in
-    let few = marks_at_hand p st.1.typing sound.wired sound.typed sound.strongest sound.depths sound.heights st.0 f.0 f.1 st.1.typed f.2 st.1.room target k first x f.3 in
+    let few = marks_at_hand p st.1.typing sound.wired sound.typed sound.strongest sound.depths sound.heights st.0 f.0 f.1 st.1.typed f.2
+    st.1.room target k first x f.3 in
     let same = same_marks m.entries.items st.0.items st.1.agrees.entries in
     omega (arith, few, same)

@@ -33,8 +33,9 @@ use Rattle.aom_machine_instructions.proofs.CallActs.{Closing, shows_null}
 
 -- ---- what `accept` gave is the session of the client
 
-module _ (p : Image) (few : p.header.cells ≤ 4096) (m : Parts) (s : State) (tidy : Tidy s.cells) (fit : ClientsFit p s.clients s.cells) (agrees : Agrees p m s) (x : Subject) (q : Place) (c : ℕ)
-    (lives : named s.cells x.number ≡ Some (subject_of x)) (below : x.number < p.header.cells) (kept_so : StageKept p s.clients s.cells (subject_of x) c Accepts) where
+module _ (p : Image) (few : p.header.cells ≤ 4096) (m : Parts) (s : State) (tidy : Tidy s.cells) (fit : ClientsFit p s.clients s.cells)
+    (agrees : Agrees p m s) (x : Subject) (q : Place) (c : ℕ) (lives : named s.cells x.number ≡ Some (subject_of x)) (below : x.number < p.header.cells)
+    (kept_so : StageKept p s.clients s.cells (subject_of x) c Accepts) where
   -- the place of the session
   abbrev to : Place
   to = Elsewhere (Session x.number c)
@@ -60,8 +61,9 @@ module _ (p : Image) (few : p.header.cells ≤ 4096) (m : Parts) (s : State) (ti
         let none = connects_nowhere p s.clients s.cells fit x.number c kept_so.0 kept_so.1 in
         let room = subst (λ i. x.number < i) (sym agrees.services.sized.sessions) below in
         let now : SameClients k (reserved (opened c) x.number s.cells) (with_client c (at_opening 0 (client_at s.clients c)) s.clients) =
-        subst (λ y. SameClients (kept.opened y (Some n) c m.clients) (reserved (opened c) x.number s.cells) (with_client c (at_opening 0 (client_at s.clients c)) s.clients)) (sym at.1)
-        (same_opened m.clients s.cells s.clients same (subject_of x) lives c (connecting_below s.cells s.clients m.clients same c x.number kept_so.0) at.0 n at.1 none room) in
+        subst (λ y. SameClients (kept.opened y (Some n) c m.clients) (reserved (opened c) x.number s.cells)
+        (with_client c (at_opening 0 (client_at s.clients c)) s.clients)) (sym at.1) (same_opened m.clients s.cells s.clients same (subject_of x) lives c
+        (connecting_below s.cells s.clients m.clients same c x.number kept_so.0) at.0 n at.1 none room) in
         subst (λ l. SameClients k l (with_client c (at_opening 0 (client_at s.clients c)) s.clients)) (sym (reserved_moved (opened c) s.cells from to x.number))
         (same_still k (reserved (opened c) x.number s.cells) _ _ (still_moved (reserved (opened c) x.number s.cells) from to refl) now)
 
@@ -81,18 +83,24 @@ module _ (p : Image) (few : p.header.cells ≤ 4096) (m : Parts) (s : State) (ti
         (subst (λ o. Represents (cond (same_place to r) n (value_in us m.cells m.entries.items (others m) r)) (cond (same_place to r) None (word_at ts r)) o)
         (sym (holds r ∙ ap (λ b. cond (same_place to r) (held s.cells from) (cond b None (held s.cells r))) apart)) (go (same_place to r)))
       where
-        go : (b : Bool) → Represents (cond b n (value_in us m.cells m.entries.items (others m) r)) (cond b None (word_at ts r)) (cond b (held s.cells from) (held s.cells r))
+        go : (b : Bool) →
+            Represents (cond b n (value_in us m.cells m.entries.items (others m) r)) (cond b None (word_at ts r)) (cond b (held s.cells from) (held s.cells r))
         go true = shows
         go false = old
 
     -- all of the machine, once the method and its trap are gone
-    pub accepts : (es : Machine_items) → m.entries ≡ record es { items = Is_mark ∷ es.items }
-        → let u = record s { cells = accepted_cells (Of_server (seat_of q x) c Accepts) from s.cells; tasks = Dispatched (Of_server (seat_of q x) c Accepted) ∷ []; items = below_top s.items; clients = accepted_clients (Of_server (seat_of q x) c Accepts) s.clients } in
+    pub accepts : (es : Machine_items) → m.entries ≡ record es { items = Is_mark ∷ es.items } → let u = record s {
+      cells = accepted_cells (Of_server (seat_of q x) c Accepts) from s.cells;
+      tasks = Dispatched (Of_server (seat_of q x) c Accepted) ∷ [];
+      items = below_top s.items;
+      clients = accepted_clients (Of_server (seat_of q x) c Accepts) s.clients;
+    } in
         Closing u → Agrees p (record m { stack = record m.stack { tasks = Ends (Of_one_served x c stages.Accepted) ∷ [] }; entries = es; clients = k }) u
     accepts es marked shut = record {
       tasks = ((q, refl), tt);
       values = shown;
-      cells = cells_beside p m.cells between after (beside_served between x.number (opened c (service_of between x.number))) (cells_moved p m.cells s.cells from to agrees.cells);
+      cells = cells_beside p m.cells between after (beside_served between x.number (opened c (service_of between x.number)))
+          (cells_moved p m.cells s.cells from to agrees.cells);
       entries = unmarked m.entries.items es.items s.items (ap (λ (e : Machine_items). e.items) marked) agrees.entries;
       requests = requests_kept p m.active between x.number (opened c (service_of between x.number)) refl (requests_moved p m.active s.cells from to agrees.requests);
       natives = natives_beside p m.sessions s.killed between after few
@@ -100,10 +108,12 @@ module _ (p : Image) (few : p.header.cells ≤ 4096) (m : Parts) (s : State) (ti
       services = record {
         clients = same_clients;
         sized = sized_connected p.header.cells m.clients agrees.services.sized c (Some n);
-        messages = messages_served p m.messages between x.number (opened c (service_of between x.number)) (messages_moved p m.messages s.cells from to agrees.services.messages);
+        messages = messages_served p m.messages between x.number (opened c (service_of between x.number))
+            (messages_moved p m.messages s.cells from to agrees.services.messages);
         tokens = tokens_beside p m.tokens between after (beside_served between x.number (opened c (service_of between x.number)))
             (told_served between x.number (opened c (service_of between x.number)) refl) ((services_moved p s.cells from to refl refl agrees.services).tokens);
-        listed = listed_beside p m.listed between after (beside_served between x.number (opened c (service_of between x.number))) ((services_moved p s.cells from to refl refl agrees.services).listed);
+        listed = listed_beside p m.listed between after (beside_served between x.number (opened c (service_of between x.number)))
+            ((services_moved p s.cells from to refl refl agrees.services).listed);
       };
       rest = agrees.rest;
       room = agrees.room;

@@ -1,6 +1,7 @@
 -- The end of a stage of a server's dispatch: what becomes of its client, and of the message that a service left.
 use Rattle.std.proofs.lemmas.Bool.Decides.{nat_tests}
-use Rattle.std.proofs.Common.{List, None, Option, Some, [], ap, append-nil, arith, cond, length, refl, subst, sym, true, ℕ, ℤ, ◌&&◌, ◌++◌, ◌+◌, ◌<◌, ◌==◌, ◌∙◌, ◌∷◌, ◌≡◌, ◌≤◌}
+use Rattle.std.proofs.Common.{List, None, Option, Some, [], ap, append-nil, arith, cond, length, refl, subst, sym, true, ℕ, ℤ, ◌&&◌, ◌++◌, ◌+◌, ◌<◌, ◌==◌, ◌∙◌}
+use Rattle.std.proofs.Common.{◌∷◌, ◌≡◌, ◌≤◌}
 use Rattle.std.specs.Prelude.{is_some}
 use Rattle.std.proofs.lemmas.Bool.{eq-eqb}
 use Rattle.aom_cells.specs.Heap.{null}
@@ -80,7 +81,8 @@ pub record InService (p : Image) (s : State) : Type 0 where
   pub there : held s.cells (Elsewhere In_service) ≡ Some object
   pub message : object.thing ≡ Message
 
-pub in_service : (p : Image) (t : Typing) (s : State) (x : Seat) (c : ℕ) (code : ℤ) → WellTyped p t s → s.tasks ≡ Dispatched (Of_server x c (Service_left code)) ∷ [] → InService p s
+pub in_service : (p : Image) (t : Typing) (s : State) (x : Seat) (c : ℕ) (code : ℤ) → WellTyped p t s →
+    s.tasks ≡ Dispatched (Of_server x c (Service_left code)) ∷ [] → InService p s
 in_service p t s x c code typed top =
     dispatch_layer (Good p t s.cells) (Of_server x c (Service_left code)) [] typed.layers (sym typed.tasks ∙ top) typed.good (λ seats ls _ good.
     let own = own_held p (seen s.cells) (held s.cells (Elsewhere In_service)) Message (good.fits (Elsewhere In_service)) in
@@ -141,7 +143,8 @@ module _ (p : Image) (formed : WellFormed p) (m : Parts) (announced : m.rest.ann
     stage_kept = subst (λ us. TasksKept p s.clients s.cells us) e.top fits.stage
 
     -- places of tasks show nothing
-    base : (q : Place) → Represents (value_in (Ends (Of_one x) ∷ []) m.cells m.entries.items (others m) q) (word_at (Dispatched (Of_object seat) ∷ []) q) (held s.cells q)
+    base : (q : Place) →
+        Represents (value_in (Ends (Of_one x) ∷ []) m.cells m.entries.items (others m) q) (word_at (Dispatched (Of_object seat) ∷ []) q) (held s.cells q)
     base q = grind (arith, nat_tests, end_value (Of_one_served x c stage) (Of_one x) m.cells m.entries.items, end_word)
 
     -- nothing else changes
@@ -162,7 +165,8 @@ module _ (p : Image) (formed : WellFormed p) (m : Parts) (announced : m.rest.ann
         requests = agrees.requests;
         natives = agrees.natives;
         services = record {
-          clients = same_unaccepted p t wired s typed fits.fit m.clients same p.header.cells agrees.services.sized (seat_of e.place x) c (lives stage e) (below stage e) connects;
+          clients = same_unaccepted p t wired s typed fits.fit m.clients same p.header.cells agrees.services.sized (seat_of e.place x) c (lives stage e)
+              (below stage e) connects;
           sized = sized_connected p.header.cells m.clients agrees.services.sized c None;
           messages = agrees.services.messages;
           tokens = agrees.services.tokens;
@@ -241,8 +245,8 @@ module _ (p : Image) (formed : WellFormed p) (m : Parts) (announced : m.rest.ann
 
       told : completion_lines (completion (kept.place_at m.clients does.place)) code ≡ message_line s.cells (held s.cells q) code
       told = same_lines (completion (kept.place_at m.clients does.place))
-          ∙ sym (ap (λ o. message_line s.cells o code) its.there ∙ message_told m.clients s.cells s.clients agrees.services.clients its.object does.place code name
-          (was_taken p t s typed q its.object its.there its.message does.place name wired fits refl m.clients agrees.services.clients))
+          ∙ sym (ap (λ o. message_line s.cells o code) its.there ∙ message_told m.clients s.cells s.clients agrees.services.clients its.object does.place code
+          name (was_taken p t s typed q its.object its.there its.message does.place name wired fits refl m.clients agrees.services.clients))
         where
           same_lines : (o : Option Completion) → completion_lines o code ≡ completed_lines code o
           same_lines None = refl
@@ -301,7 +305,8 @@ module _ (p : Image) (formed : WellFormed p) (m : Parts) (announced : m.rest.ann
   )
 
   -- what a service that left needs is met
-  needs_met : (stage : Machine_stage) (e : AtStage p m s x c stage) (v : State) → guarded (needs_end (Of_server (seat_of e.place x) c (stage_of stage)) s.cells) v ≡ Goes v
+  needs_met : (stage : Machine_stage) (e : AtStage p m s x c stage) (v : State) →
+      guarded (needs_end (Of_server (seat_of e.place x) c (stage_of stage)) s.cells) v ≡ Goes v
   needs_met (stages.ServiceLeft code) e v = ap (λ o. guarded ((is_some o, CompletedTwice) ∷ []) v) (its code e).there
   needs_met _ e v = refl
 
@@ -325,7 +330,8 @@ stage_moves p m before now announced x c stage mid ending does t s sound typed f
     let o = an_open p before.refused m s agrees in
     let seat = seat_of e.place x in
     let after = stage_ends seat c (stage_of stage) (at_close s) in
-    let is = step_of_end p o.0 s (Of_server seat c (stage_of stage)) e.top ∙ needs_met p sound.formed m announced t s sound.wired typed fits agrees x c stage e after in
+    let is = step_of_end p o.0 s (Of_server seat c (stage_of stage)) e.top
+    ∙ needs_met p sound.formed m announced t s sound.wired typed fits agrees x c stage e after in
     let ends = ends_stage p sound.formed m announced t s sound.wired typed fits agrees x c stage mid before now e does in (
       moved_so p m (with_tasks (Ends (Of_one x) ∷ below_first mid.stack.tasks) mid) before.refused t s after sound typed o is ends.0,
       ends.1 ∙ ap (λ ls. record before { lines = before.lines ++ ls }) (sym (ap (λ us. written_task p s us) e.top)),

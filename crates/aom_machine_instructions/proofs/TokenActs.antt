@@ -102,9 +102,9 @@ module _ (m : Parts) (a b place : ℕ) (store : Store) (active : Active) (w : Ke
     abbrev left : List Cell
     left = redeemed_left p h.typing h.state h.typed g it.object it.there it.message place name h.kept refl m.tokens h.agrees.services.tokens told code
 
-    redeem_agrees :
-        a < 16 → Changes m.messages store place None → count store + 1 ≡ count m.messages → Sets m.tokens.places w.places place None → LetsGo (redeemed m.tokens place) m.tokens w →
-        meant.Redeems (redeemed m.tokens place) code m.active active → Agrees p (places.next (set_register a null mid)) (replied p h a b (token_of h.state.cells (held h.state.cells g)))
+    redeem_agrees : a < 16 → Changes m.messages store place None → count store + 1 ≡ count m.messages →
+        Sets m.tokens.places w.places place None → LetsGo (redeemed m.tokens place) m.tokens w → meant.Redeems (redeemed m.tokens place) code m.active active →
+        Agrees p (places.next (set_register a null mid)) (replied p h a b (token_of h.state.cells (held h.state.cells g)))
     redeem_agrees small gone fewer freed lets answers =
         let s = h.state in
         subst (λ o. Agrees p (places.next (set_register a null mid)) (replied p h a b o)) (sym its_order_so)
@@ -113,7 +113,8 @@ module _ (m : Parts) (a b place : ℕ) (store : Store) (active : Active) (w : Ke
         (goes_on_with p m h mid left s.items s.rest (put_at None h.frame.words a None) (on_top (with_register a null)) (with_register a null) (λ f ms. refl)
         (record {
           stack = refl;
-          cells = cells_answered p h.typing s h.typed g it.object it.there it.message place name h.kept refl m.tokens h.agrees.services.tokens told code m.cells h.agrees.cells;
+          cells = cells_answered p h.typing s h.typed g it.object it.there it.message place name h.kept refl m.tokens h.agrees.services.tokens told
+              code m.cells h.agrees.cells;
           entries = h.agrees.entries;
           requests = requests_answered p h.typing s h.typed
               g it.object it.there it.message place name h.kept refl m.tokens h.agrees.services.tokens told code m.active active answers h.agrees.requests;
@@ -180,7 +181,8 @@ module _ (p : Image) (m : Parts) where
           let waits = waits_here p m.tokens s.cells agrees.services.tokens place told kept.tokens o.0 o.1 n e in
           let is : awaits o.0 (requested s.cells n) ≡ true = ap (is_order o.0) waits ∙ eq-eqb o.0 o.0 refl in
           let x = asked_lives s.cells n (some_asked o.0 (requested s.cells n) waits) in
-          let suits = subst (λ i. Suits (thing_kind p x.0.thing) (states_claim p x.0 typed.layers) (requested s.cells i)) x.2 (typed.good.suits x.0 (ap (named s.cells) x.2 ∙ x.1)) in
+          let suits = subst (λ i. Suits (thing_kind p x.0.thing) (states_claim p x.0 typed.layers) (requested s.cells i)) x.2
+          (typed.good.suits x.0 (ap (named s.cells) x.2 ∙ x.1)) in
           pending_told (request_at m.active.table n) (requested s.cells n) (queued p s.cells n)
           (agrees.requests.stands.tells n) (awaits_answered o.0 _ _ (requested s.cells n) suits is) (awaits_owed o.0 _ _ (requested s.cells n) suits is)
         where
@@ -242,9 +244,9 @@ module _ (m : Parts) (refused : List ℕ) (a class : ℕ) (small : a < 16) (clas
       let many = h.agrees.services.messages.count in
       let full = does.full in
       let crowded : is_crowded p s.cells ≡ true = le-leb p.header.messages (count_messages s.cells) (omega (arith, limit, many, full)) in
-      subst (λ b. Agrees p (places.next (set_register a null mid)) (applied p h.frame h.below s (sets h.frame a None (hands_unless b c.name a own)))) (sym crowded)
-      (goes_on_with p m h mid cs s.items s.rest (put_at None h.frame.words a None) (on_top (with_register a null)) (with_register a null) (λ f ms. refl)
-      (record {
+      subst (λ b. Agrees p (places.next (set_register a null mid)) (applied p h.frame h.below s (sets h.frame a None (hands_unless b c.name a own))))
+      (sym crowded) (goes_on_with p m h mid cs s.items s.rest (put_at None h.frame.words a None) (on_top (with_register a null)) (with_register a null)
+      (λ f ms. refl) (record {
         stack = refl;
         cells = cells_rerequested p m.cells s.cells h.frame.home (on_request (completed_at_once busy) own) h.agrees.cells;
         entries = h.agrees.entries;
@@ -257,7 +259,8 @@ module _ (m : Parts) (refused : List ℕ) (a class : ℕ) (small : a < 16) (clas
       (λ q. (rerequested_alike s.cells h.frame.home (on_request (completed_at_once busy) own)).held_so q ∙ still_none p m h a (free _ met.0) q)))))
 
   -- there is
-  module _ (n : ℕ) (new : Parts) (does : HandsOne n (this m) class m new) (p : Image) (h : At_hand p m) (met : AllTrue (needs_hand p h.frame h.below h.state a)) where
+  module _ (n : ℕ) (new : Parts) (does : HandsOne n (this m) class m new) (p : Image) (h : At_hand p m)
+      (met : AllTrue (needs_hand p h.frame h.below h.state a)) where
     abbrev s : State
     s = h.state
 
@@ -287,15 +290,17 @@ module _ (m : Parts) (refused : List ℕ) (a class : ℕ) (small : a < 16) (clas
     class_here = ap home_class on.home ∙ ap class_of_thing (thing_is on.object.thing class (cell_at m.cells (this m)) class_so (thing_here p m h on))
 
     handed_so : handed_cells (message_name does.place) h.frame.home here s.cells ≡ then
-    handed_so = ap (λ k. with_token (message_name does.place) (record { class = k; order = next_order }) here (rerequested s.cells h.frame.home
-        (on_request (promised next_order) (own_request s.cells h.frame.home)))) class_here ∙ ap (λ home. with_token (message_name does.place)
-        (record { class = class; order = next_order }) here (rerequested s.cells home (on_request (promised next_order) (own_request s.cells home)))) on.home
-        ∙ ap (λ q. with_token (message_name does.place) (record { class = class; order = next_order }) here (set_request on.object.name (on_request (promised next_order) q) s.cells)) asks.1
+    handed_so = ap (λ k. with_token (message_name does.place) (record { class = k; order = next_order }) here
+        (rerequested s.cells h.frame.home (on_request (promised next_order) (own_request s.cells h.frame.home)))) class_here
+        ∙ ap (λ home. with_token (message_name does.place) (record { class = class; order = next_order }) here
+        (rerequested s.cells home (on_request (promised next_order) (own_request s.cells home)))) on.home ∙ ap (λ q. with_token (message_name does.place)
+        (record { class = class; order = next_order }) here (set_request on.object.name (on_request (promised next_order) q) s.cells)) asks.1
 
     table_then : SameRequests p new.active (set_request on.object.name (Some (promised next_order asks.0)) s.cells)
     table_then = requests_set p m.active new.active s.cells on.object (Some (promised next_order asks.0)) on.lives (does.makes next_order).limit
         (subst (λ i. StandsFor new.active (asked_anew i (Some (promised next_order asks.0)) (requested s.cells)) (queued p s.cells)) on.number
-        ((does.makes next_order).stands (requested s.cells) (queued p s.cells) asks.0 h.agrees.requests.stands (ap (requested s.cells) on.number ∙ asks.1))) h.agrees.requests
+        ((does.makes next_order).stands (requested s.cells) (queued p s.cells) asks.0 h.agrees.requests.stands (ap (requested s.cells) on.number ∙ asks.1)))
+        h.agrees.requests
 
     token_then : Sets m.tokens.places new.tokens.places does.place (Some (record { class = class; object = on.object.name }))
     token_then = subst (λ i. Sets m.tokens.places new.tokens.places does.place (Some (record { class = class; object = i }))) on.number does.token
@@ -305,32 +310,30 @@ module _ (m : Parts) (refused : List ℕ) (a class : ℕ) (small : a < 16) (clas
 
     hand_agrees : Agrees p (places.next (set_register a n hand_mid))
         (record s { cells = handed_cells (message_name does.place) h.frame.home here s.cells; tasks = Run (next (set_word h.frame a None)) ∷ h.below })
-    hand_agrees =
-        subst (λ cs. Agrees p (places.next (set_register a n hand_mid)) (record s { cells = cs; tasks = Run (next (set_word h.frame a None)) ∷ h.below })) (sym handed_so)
-        (goes_on_with p m h hand_mid then s.items s.rest (put_at None h.frame.words a None) (on_top (with_register a n)) (with_register a n) (λ f ms. refl)
-        (record {
+    hand_agrees = subst (λ cs. Agrees p (places.next (set_register a n hand_mid))
+        (record s { cells = cs; tasks = Run (next (set_word h.frame a None)) ∷ h.below })) (sym handed_so) (goes_on_with p m h hand_mid then s.items s.rest
+        (put_at None h.frame.words a None) (on_top (with_register a n)) (with_register a n) (λ f ms. refl) (record {
           stack = refl;
           cells = cells_handed p s.cells on.object on.lives asks.0 asks.1 does.place class next_order here free_place refl m.cells h.agrees.cells;
           entries = h.agrees.entries;
           requests = requests_handed p s.cells on.object on.lives asks.0 asks.1 does.place class next_order here free_place refl new.active table_then;
-          natives = natives_handed p s.cells on.object on.lives asks.0 asks.1 does.place class next_order here free_place refl m.sessions s.killed h.formed.header.cells h.agrees.natives;
+          natives = natives_handed p s.cells on.object on.lives asks.0 asks.1 does.place class next_order here free_place refl m.sessions s.killed
+              h.formed.header.cells h.agrees.natives;
           services = services_handed p s.cells on.object on.lives asks.0 asks.1 does.place class next_order here free_place refl
               m.clients m.messages new.messages m.tokens new.tokens m.listed s.clients does.below does.kept does.count token_then living_then h.agrees.services;
           rest = h.agrees.rest;
           room = h.agrees.entry_room;
-        })
-        (λ f ms e top. written p m h hand_mid then a n None (Some (record { name = message_name does.place; thing = Message })) small does.number f ms top (λ q. refl)
-        (λ q. ap (λ o. cond (same_place here q) (Some (record { name = message_name does.place; thing = Message })) o)
+        }) (λ f ms e top. written p m h hand_mid then a n None (Some (record { name = message_name does.place; thing = Message })) small does.number f ms top
+        (λ q. refl) (λ q. ap (λ o. cond (same_place here q) (Some (record { name = message_name does.place; thing = Message })) o)
         ((rerequested_alike s.cells (Inside on.object (Elsewhere Root)) (Some (promised next_order asks.0))).held_so q))))
 
   hand_one : (n : ℕ) (new : Parts) → HandsOne n (this m) class m new → Does refused (Hand a) m (places.next (set_register a n new))
-  hand_one n new does =
-      subst (λ x. Does refused (Hand a) m (places.next (set_register a n x))) (sym does.rest) (λ p h at_it. (
-        record { name = message_name does.place; refused = is_refused p refused h.state; answer = heard_by m },
-        record { name = place_unnamed p m h does.place does.free; refusal = refl; answer = heard_fits m },
-        refl,
-        grind (arith, nat_tests, lt-leb p.header.messages, hand_agrees n new does p h),
-      ))
+  hand_one n new does = subst (λ x. Does refused (Hand a) m (places.next (set_register a n x))) (sym does.rest) (λ p h at_it. (
+    record { name = message_name does.place; refused = is_refused p refused h.state; answer = heard_by m },
+    record { name = place_unnamed p m h does.place does.free; refusal = refl; answer = heard_fits m },
+    refl,
+    grind (arith, nat_tests, lt-leb p.header.messages, hand_agrees n new does p h),
+  ))
 
   pub hand_does : (n : ℕ) (new : Parts) → Hands n (this m) class m new → Does refused (Hand a) m (places.next (set_register a n new))
   hand_does n new (inl does) = grind (arith, nat_tests, hand_none new)

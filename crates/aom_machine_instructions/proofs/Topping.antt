@@ -42,7 +42,8 @@ use Rattle.aom_machine_instructions.proofs.Stepping.{at_step}
 -- ---- what is last
 
 -- what a test of the state's items tells of the machine's
-true_tops : (test : List Item → Bool) (Q : List Machine_item → Type 0) (is : List Machine_item) (js : List Item) → (OnFalse (test js) ⊥ → Q is) → test js ≡ true → Q is
+true_tops : (test : List Item → Bool) (Q : List Machine_item → Type 0) (is : List Machine_item) (js : List Item) →
+    (OnFalse (test js) ⊥ → Q is) → test js ≡ true → Q is
 true_tops test Q is js says e = says (subst (λ b. OnFalse b ⊥) (sym e) tt)
 
 pub entry_tops : (is : List Machine_item) (js : List Item) → SameItems is js → tops_entry js ≡ true → IsAboveMark is
@@ -56,10 +57,10 @@ pub top_lives : (p : Image) (m : Parts) (t : Typing) (s : State) → WellTyped p
 top_lives p m t s typed agrees whole = go refl (items_alike m.entries.items s.items agrees.entries) whole
   where
     go : {is : List Machine_item} {js : List Item} → m.entries.items ≡ is → Alike_items is js → top_is_whole s.cells js ≡ true → ItemLives m.cells is
-    go was (both_objects n is js same) whole =
-        some_given (λ o. is_some o ≡ true) (held s.cells (Entry (length js))) whole (λ none. false≢true none) (λ o e _.
+    go was (both_objects n is js same) whole = some_given (λ o. is_some o ≡ true) (held s.cells (Entry (length js))) whole (λ none. false≢true none) (λ o e _.
         let value_here = ap (λ es. value_in m.stack.tasks m.cells es (others m) (Entry (length js))) was in
-        let name : n ≡ o.name = sym (top_value m.stack.tasks m.cells is (others m) n (length js) (same_items_length is js same)) ∙ sym value_here ∙ agrees.values (Entry (length js)) ∙ ap number e in
+        let name : n ≡ o.name = sym (top_value m.stack.tasks m.cells is (others m) n (length js) (same_items_length is js same)) ∙ sym value_here
+        ∙ agrees.values (Entry (length js)) ∙ ap number e in
         (object_lives p m t s typed agrees (Entry (length js)) o n e (entry_object p t s typed o (length js) e) name, class_fits p m s agrees n))
     go was _ whole = tt
 
@@ -96,8 +97,8 @@ level p fr ts s x none e = grind (arith, nat_tests, eqb-true)
 marked_under : (p : Image) (t : Typing) (s : State) (fr : Frame) (ts : List Task) (is : List Machine_item) →
     WellTyped p t s → s.tasks ≡ Run fr ∷ Trapped ∷ ts → SameItems is s.items → is_level p fr (Trapped ∷ ts) s (gives_of p fr.method) ≡ true → IsMarked is
 marked_under p t s fr ts is typed top same flat =
-    method_layer (λ ls. (forms s.items ≡ items_of ls) × Good p t s.cells ls) fr (Trapped ∷ ts) typed.layers (sym typed.tasks ∙ top) (typed.items, typed.good) (λ sh ls under h.
-    mark_layer (λ ls. (forms s.items ≡ items_of (Method fr sh ∷ ls)) × Good p t s.cells (Method fr sh ∷ ls)) ts ls under h (λ gv ls _ h.
+    method_layer (λ ls. (forms s.items ≡ items_of ls) × Good p t s.cells ls) fr (Trapped ∷ ts) typed.layers (sym typed.tasks ∙ top) (typed.items, typed.good)
+    (λ sh ls under h. mark_layer (λ ls. (forms s.items ≡ items_of (Method fr sh ∷ ls)) × Good p t s.cells (Method fr sh ∷ ls)) ts ls under h (λ gv ls _ h.
     let mark = h.1.stack.4.0 in
     let none : LeavesNone (gives_of p fr.method) = subst LeavesNone (sym mark.0) mark.1 in
     let even = sym (ap length h.0) ∙ length_forms s.items ∙ level p fr (Trapped ∷ ts) s (gives_of p fr.method) none flat ∙ h.1.stack.1.height in
@@ -111,11 +112,13 @@ finds_mark p m a next trapped =
     let s = requested (Return a) (at_step h.state) in
     let flat = (all_parts (result_needs p h.frame h.below s (gives_of p h.frame.method) a) _ n.1).1.0 in
     let same = subst (SameTasks m.stack.tasks) h.top next.stands.1.agrees.tasks in
-    go h.frame h.below h.top flat (tops A_trap (below_first m.stack.tasks) trapped) (alike (below_first m.stack.tasks) h.below (same_below m.stack.tasks (Run h.frame) h.below same))
+    go h.frame h.below h.top flat (tops A_trap (below_first m.stack.tasks) trapped)
+    (alike (below_first m.stack.tasks) h.below (same_below m.stack.tasks (Run h.frame) h.below same))
   where
-    go : (fr : Frame) (ts : List Task) → next.stands.0.tasks ≡ Run fr ∷ ts → is_level p fr ts (requested (Return a) (at_step next.stands.0)) (gives_of p fr.method) ≡ true
-        → {ms : List Machine_task} → Tops A_trap ms → Alike ms ts → IsMarked m.entries.items
-    go fr _ top flat (trap_on_top _) (both_trapped _ ts _ _) = marked_under p next.stands.1.typing next.stands.0 fr ts m.entries.items next.stands.1.typed top next.stands.1.agrees.entries flat
+    go : (fr : Frame) (ts : List Task) → next.stands.0.tasks ≡ Run fr ∷ ts → is_level p fr ts (requested (Return a) (at_step next.stands.0))
+        (gives_of p fr.method) ≡ true → {ms : List Machine_task} → Tops A_trap ms → Alike ms ts → IsMarked m.entries.items
+    go fr _ top flat (trap_on_top _) (both_trapped _ ts _ _) =
+        marked_under p next.stands.1.typing next.stands.0 fr ts m.entries.items next.stands.1.typed top next.stands.1.agrees.entries flat
 
 -- an entry is last or not
 pub not_both : (is : List Machine_item) → IsAboveMark is → IsNotAboveMark is → ⊥
@@ -143,11 +146,13 @@ ends_under p ms to trapped stops = go to (tops A_trap ms trapped) stops
     go to (trap_on_top ms) stops = under ms to stops
 
 -- it goes on there
-pub returns_within : (p : Image) (ms : List Machine_task) → ReturnsTo p ms → Runs ms → IsSome (instr_at p (method_here ms) (place_here ms)) × ((place_here ms + 1) < 2 ^ 64)
+pub returns_within : (p : Image) (ms : List Machine_task) → ReturnsTo p ms → Runs ms →
+    IsSome (instr_at p (method_here ms) (place_here ms)) × ((place_here ms + 1) < 2 ^ 64)
 returns_within p ms to runs = go to (tops A_method ms runs)
   where
     go : {ms : List Machine_task} → ReturnsTo p ms → Tops A_method ms → IsSome (instr_at p (method_here ms) (place_here ms)) × ((place_here ms + 1) < 2 ^ 64)
     go to (method_on_top f ms) = to
 
-pub returns_within_through : (p : Image) (ms : List Machine_task) → ReturnsTo p ms → IsTrapped ms → Runs (below_first ms) → (place_here (below_first ms) + 1) < 2 ^ 64
+pub returns_within_through : (p : Image) (ms : List Machine_task) → ReturnsTo p ms → IsTrapped ms → Runs (below_first ms) →
+    (place_here (below_first ms) + 1) < 2 ^ 64
 returns_within_through p ms to trapped runs = (caught_within p to (tops A_catcher ms (trapped, runs))).0

@@ -20,5 +20,6 @@ instr_fits p formed m place i e =
     let d = all_there (MethodFits p.header.version (length p.classes) (length p.methods)) p.methods m w.0 formed.methods.each w.1 in
     (w.0, all_there (InstrFits (limits p.header.version (length p.classes) (length p.methods) (length w.0.code))) w.0.code place i d.code w.2)
 
-pub code_register : (p : Image) → WellFormed p → (fr : Frame) (ts : List Task) → IsAtTrap p (Run fr ∷ ts) → suc (result_register (instr_at p fr.method fr.place)) < 16
+pub code_register : (p : Image) → WellFormed p → (fr : Frame) (ts : List Task) → IsAtTrap p (Run fr ∷ ts) →
+    suc (result_register (instr_at p fr.method fr.place)) < 16
 code_register p formed fr ts at = grind (arith, nat_tests, instr_fits p formed fr.method fr.place)

@@ -92,7 +92,8 @@ module _ (p : Image) (m : Parts) (st : Stands (record { image = p; parts = m }))
       let s = st.0 in
       let f = unwinding_of m.stack.tasks s.tasks unwinding st.1.agrees.tasks in
       let c = an_open p [] m s st.1.agrees in
-      let k = goes_somewhere p t (unwound p f.0 f.1 (at_rest s) s.items) (subst (Keeps p t) (step_of_unwinding p c.0 s f.0 f.1 f.2) (st.1.sound.keeps c.0 s st.1.typed c.1.name)) in
+      let k = goes_somewhere p t (unwound p f.0 f.1 (at_rest s) s.items)
+      (subst (Keeps p t) (step_of_unwinding p c.0 s f.0 f.1 f.2) (st.1.sound.keeps c.0 s st.1.typed c.1.name)) in
       (f.0, f.1, k.0, f.2, k.1)
 
   pub unwinds_whole : TopLives m
@@ -131,9 +132,8 @@ calls_there p wired x = grind (arith, nat_tests, callee_there p wired)
 awaited_caught : (p : Image) (t : Typing) (s : State) (code : ℤ) (caller : Frame) (ts : List Task) →
     WellTyped p t s → s.tasks ≡ Unwind code ∷ Trapped ∷ Run caller ∷ ts → bears (called p (instr_at p caller.method caller.place)) ≡ true
     → held s.cells (Register (length ts) (result_register (instr_at p caller.method caller.place))) ≡ None
-awaited_caught p t s code caller ts typed top some =
-    leave_layer (Good p t s.cells) code (Trapped ∷ Run caller ∷ ts) typed.layers (sym typed.tasks ∙ top) typed.good (λ es ls under good.
-    caught_layer (λ ls. Good p t s.cells (Unwinding code es ∷ ls)) _ caller ts ls under good (λ gv sh' ls rest good.
+awaited_caught p t s code caller ts typed top some = leave_layer (Good p t s.cells) code (Trapped ∷ Run caller ∷ ts) typed.layers (sym typed.tasks ∙ top)
+    typed.good (λ es ls under good. caught_layer (λ ls. Good p t s.cells (Unwinding code es ∷ ls)) _ caller ts ls under good (λ gv sh' ls rest good.
     let caught = good.stack.1.1.0 in
     awaits_none p s ls ts sh' _ _ (awaiting gv _ sh' (ap bears (sym caught.0) ∙ some) caught.2) (claim_register p (declared p s.cells) caller sh' ls _)
     (good.fits (Register (length (tasks_of ls)) (result_register (instr_at p caller.method caller.place)))) rest))
@@ -151,10 +151,12 @@ module _ (p : Image)
 
   -- the result's register is cleared
   record Cleared (rs : List ℕ) (ws : List (Option ℤ)) : Type 0 where
-    values : (r : Place) → Represents (value_in (Runs_frame (record g { registers = rs }) ∷ ms) m.cells es.items (others m) r) (word_at (Run (record caller { words = ws }) ∷ ts) r) (held s.cells r)
+    values : (r : Place) → Represents (value_in (Runs_frame (record g { registers = rs }) ∷ ms) m.cells es.items (others m) r)
+        (word_at (Run (record caller { words = ws }) ∷ ts) r) (held s.cells r)
     wide : length rs ≡ 16
 
-  clears : (n : ℕ) (w : Option ℤ) → Represents n w None → held s.cells (Register (length ts) x) ≡ None → Cleared (slice_set g.registers x n) (set_word caller x w).words
+  clears : (n : ℕ) (w : Option ℤ) → Represents n w None → held s.cells (Register (length ts) x) ≡ None →
+      Cleared (slice_set g.registers x n) (set_word caller x w).words
   clears n w shows none =
       let q = Register (length ts) x in
       let wide = same_frame.wide in
@@ -182,8 +184,9 @@ module _ (p : Image)
       (word_written caller' ts (suc x) (suc caller.place) (Some code)) (λ r. kept (held s.cells) q r ∙ ap (λ o. changed (held s.cells) q o r) none))
 
   -- by what the method gives
-  tells : (code : ℤ) (gv : Gives) → FitsSigned w32 code → (bears gv ≡ true → held s.cells (Register (length ts) x) ≡ None) → held s.cells (Register (length ts) (suc x)) ≡ None
-      → Agrees p (places.next (places.set_register (suc x) (cast_unsigned w32 code) (lost gv x (record (with_tasks (Runs_frame g ∷ ms) m) { entries = es }))))
+  tells : (code : ℤ) (gv : Gives) →
+      FitsSigned w32 code → (bears gv ≡ true → held s.cells (Register (length ts) x) ≡ None) → held s.cells (Register (length ts) (suc x)) ≡ None →
+      Agrees p (places.next (places.set_register (suc x) (cast_unsigned w32 code) (lost gv x (record (with_tasks (Runs_frame g ∷ ms) m) { entries = es }))))
       (record s { tasks = Run (next (code_told gv x code caller)) ∷ ts; items = below_top s.items })
   tells code A_word fits free none = codes code _ _ fits none (clears 0 (Some (pos 0)) refl (free refl))
   tells code (An_own t) fits free none = codes code _ _ fits none (clears null None refl (free refl))
@@ -208,7 +211,8 @@ code_alone p t gv x code caller ts s typed top = word_alone p t s (next (code_to
 pub told_code : (k code : ℤ) → FitsSigned w32 k → k ≡ code → (to_z w32 (of_z w32 k) ≡ code) × FitsSigned w32 code
 told_code k code fits is = (to_z-of_z w32 k fits ∙ is, subst (FitsSigned w32) is fits)
 
-module _ (p : Image) (m : Parts) (es : Machine_items) (marked : m.entries ≡ record es { items = Is_mark ∷ es.items }) (t : LineBuffer) (fits : FitsSigned w32 (code_here m.stack.tasks)) where
+module _ (p : Image) (m : Parts) (es : Machine_items) (marked : m.entries ≡ record es { items = Is_mark ∷ es.items }) (t : LineBuffer)
+    (fits : FitsSigned w32 (code_here m.stack.tasks)) where
   abbrev under : List Machine_task
   under = below_first (below_first m.stack.tasks)
 
@@ -218,14 +222,15 @@ module _ (p : Image) (m : Parts) (es : Machine_items) (marked : m.entries ≡ re
   top_mark : (js : List Item) → SameItems m.entries.items js → (ks : List Item) × (js ≡ A_mark ∷ ks)
   top_mark js same = grind (arith, nat_tests, items_alike (Is_mark ∷ es.items) js, Alike_items (Is_mark ∷ es.items) js, both_marks)
 
-  pub arrives_method : IsUnwinding m.stack.tasks → IsTrapped (below_first m.stack.tasks) → Runs under → suc (result_register (instr_at p (method_here under) (place_here under))) < 16
-      → Unwinds_by p m (told p (instr_at p (method_here under) (place_here under)) (code_here m.stack.tasks) (record (with_tasks under m) { entries = es })) t said
+  pub arrives_method : IsUnwinding m.stack.tasks →
+      IsTrapped (below_first m.stack.tasks) → Runs under → suc (result_register (instr_at p (method_here under) (place_here under))) < 16 → Unwinds_by p m
+      (told p (instr_at p (method_here under) (place_here under)) (code_here m.stack.tasks) (record (with_tasks under m) { entries = es })) t said
   arrives_method unwinding trapped runs coded h u e typed =
       let k = top_mark h.state.items h.agrees.entries in
       go m.stack.tasks h.code h.below refl h.top (tops A_caught_leave m.stack.tasks (unwinding, trapped, runs)) coded fits
       (alike m.stack.tasks (Unwind h.code ∷ h.below) (subst (SameTasks m.stack.tasks) h.top h.agrees.tasks))
-      (λ r. subst (λ us. Represents (value_in m.stack.tasks m.cells m.entries.items (others m) r) (word_at us r) (held h.state.cells r)) h.top (h.agrees.values r))
-      k.0 k.1 (subst (λ is. unwound p h.code h.below h.state is ≡ Goes u) k.1 e)
+      (λ r. subst (λ us. Represents (value_in m.stack.tasks m.cells m.entries.items (others m) r) (word_at us r) (held h.state.cells r)) h.top
+      (h.agrees.values r)) k.0 k.1 (subst (λ is. unwound p h.code h.below h.state is ≡ Goes u) k.1 e)
     where
       s : State
       s = h.state
@@ -240,7 +245,8 @@ module _ (p : Image) (m : Parts) (es : Machine_items) (marked : m.entries ≡ re
           suc (result_register (instr_at p (method_here (below_first (below_first us))) (place_here (below_first (below_first us))))) < 16 →
           FitsSigned w32 (code_here us) → Alike us (Unwind code ∷ below) → ((r : Place) → Represents (value_in us m.cells m.entries.items (others m) r) (word_at
           (Unwind code ∷ below) r) (held s.cells r)) → (ks : List Item) → s.items ≡ A_mark ∷ ks → unwound p code below s (A_mark ∷ ks) ≡ Goes u → Done us code
-      go _ code _ held_tasks top (caught_leave_on_top c g ms) coded fits (both_unwind _ _ _ _ same _ (both_trapped _ _ _ (both_run _ caller _ ts frame rest _))) values ks items e =
+      go _ code _ held_tasks top (caught_leave_on_top c g ms) coded fits
+          (both_unwind _ _ _ _ same _ (both_trapped _ _ _ (both_run _ caller _ ts frame rest _))) values ks items e =
           let i = instr_at p caller.method caller.place in
           let x = result_register i in
           let gv = called p i in
@@ -270,8 +276,8 @@ module _ (p : Image) (m : Parts) (es : Machine_items) (marked : m.entries ≡ re
       IsEnding under → Unwinds_by p m (record (with_tasks (left_by (code_here m.stack.tasks) under) m) { entries = es }) t said
   arrives_end unwinding trapped ending h u e typed =
       let k = top_mark h.state.items h.agrees.entries in
-      go m.stack.tasks h.code h.below h.top (tops A_last_leave m.stack.tasks (unwinding, trapped, ending))
-      (alike m.stack.tasks (Unwind h.code ∷ h.below) (subst (SameTasks m.stack.tasks) h.top h.agrees.tasks)) k.0 k.1 (subst (λ is. unwound p h.code h.below h.state is ≡ Goes u) k.1 e)
+      go m.stack.tasks h.code h.below h.top (tops A_last_leave m.stack.tasks (unwinding, trapped, ending)) (alike m.stack.tasks (Unwind h.code ∷ h.below)
+      (subst (SameTasks m.stack.tasks) h.top h.agrees.tasks)) k.0 k.1 (subst (λ is. unwound p h.code h.below h.state is ≡ Goes u) k.1 e)
     where
       s : State
       s = h.state
@@ -291,7 +297,8 @@ module _ (p : Image) (m : Parts) (es : Machine_items) (marked : m.entries ≡ re
           let bare = none_alike ms ts rest none in
           let items_too : v ≡ record s { tasks = Dispatched d' ∷ []; items = below_top s.items } = ap (λ us. record s
           { tasks = Dispatched d' ∷ us; items = ks }) none ∙ ap (λ js. record s { tasks = Dispatched d' ∷ []; items = below_top js }) (sym items) in
-          let shut = closing p h.typing (record s { tasks = Dispatched d' ∷ []; items = below_top s.items }) d' (subst (WellTyped p h.typing) items_too fresh) refl in
+          let shut = closing p h.typing (record s { tasks = Dispatched d' ∷ []; items = below_top s.items }) d'
+          (subst (WellTyped p h.typing) items_too fresh) refl in
           let as_left : dispatch_of ends.0 (left c y) ≡ d' = left_alike c ends.0 y ∙ ap (ended_by c) ends.1 ∙ ap (λ w. ended_by w d) same in
           let end = ended p m es s (left c y) d' h.agrees marked (ends.0, as_left) shut in (
             subst (λ us. Agrees p (record (with_tasks (Ends (left c y) ∷ us) m) { entries = es }) u)

@@ -1,6 +1,7 @@
 -- What goes with a server: entry by entry of its queue, and session by session.
 use Rattle.std.proofs.lemmas.Bool.Decides.{nat_tests}
-use Rattle.std.proofs.Common.{Bool, List, None, Some, [], ap, append_assoc, arith, false, length, refl, slice_index_or, subst, sym, true, ℕ, ◌+◌, ◌++◌, ◌<◌, ◌==◌, ◌∙◌, ◌∷◌, ◌≡◌, ◌≤◌}
+use Rattle.std.proofs.Common.{Bool, List, None, Some, [], ap, append_assoc, arith, false, length, refl, slice_index_or, subst, sym, true, ℕ, ◌+◌, ◌++◌, ◌<◌}
+use Rattle.std.proofs.Common.{◌==◌, ◌∙◌, ◌∷◌, ◌≡◌, ◌≤◌}
 use Rattle.std.specs.Prelude.{◌||◌}
 use Rattle.std.proofs.lemmas.Bool.{eq-eqb, ne_eqb, false≢true}
 use Rattle.std.proofs.lemmas.List.{get_or-set_other, get_or-set_same, length-append, length-set}
@@ -44,13 +45,12 @@ counts (_ ∷ xs) ys = counts xs ys
 
 -- one more is dropped
 drops_more : (done : List QueueEntry) (e : QueueEntry) (old mid new : Store) → Drops done old mid → Drops (e ∷ []) mid new → Drops (done ++ e ∷ []) old new
-drops_more done e old mid new before last =
-    record {
-      gone = λ m is. split m (has_message m done) (has_message m (e ∷ [])) refl refl (sym (list_any-append (is_message m) done (e ∷ [])) ∙ is);
-      others = grind (arith, nat_tests, front_false, list_any-append);
-      count = let a = before.count in let b = last.count in let c = counts done (e ∷ []) in omega (arith, a, b, c);
-      limit = last.limit ∙ before.limit;
-    }
+drops_more done e old mid new before last = record {
+  gone = λ m is. split m (has_message m done) (has_message m (e ∷ [])) refl refl (sym (list_any-append (is_message m) done (e ∷ [])) ∙ is);
+  others = grind (arith, nat_tests, front_false, list_any-append);
+  count = let a = before.count in let b = last.count in let c = counts done (e ∷ []) in omega (arith, a, b, c);
+  limit = last.limit ∙ before.limit;
+}
   where
     split : (m : ℕ) (a b : Bool) → has_message m done ≡ a → has_message m (e ∷ []) ≡ b → (a || b) ≡ true → message_at new m ≡ None
     split m a x is_a is_b is = grind arith
@@ -91,9 +91,9 @@ pub record Going (n : ℕ) (old now : Parts) (told line : LineBuffer) : Type 0 w
   pub room : length line.lines + answers (queue_at now.clients n) ≤ told.room
 
 -- one entry more
-pub goes_on : (n : ℕ) (old mid new : Parts) (told line line' : LineBuffer) (t : Taken) → Going n old mid told line → Some t ≡ first_entry mid.clients (queue_at mid.clients n)
-    → new ≡ record mid { clients = after_next_gone n mid.clients; messages = new.messages } → Drops (t.entry ∷ []) mid.messages new.messages → line' ≡ record line { lines = line.lines ++ gone_line t }
-    → Going n old new told line'
+pub goes_on : (n : ℕ) (old mid new : Parts) (told line line' : LineBuffer) (t : Taken) → Going n old mid told line →
+    Some t ≡ first_entry mid.clients (queue_at mid.clients n) → new ≡ record mid { clients = after_next_gone n mid.clients; messages = new.messages } →
+    Drops (t.entry ∷ []) mid.messages new.messages → line' ≡ record line { lines = line.lines ++ gone_line t } → Going n old new told line'
 goes_on n old mid new told line line' t so first is drops written = go (queue_at mid.clients n) refl first
   where
     s : State
@@ -106,7 +106,8 @@ goes_on n old mid new told line line' t so first is drops written = go (queue_at
         let entry : t.entry ≡ f = ap (λ (x : Taken). x.entry) taken ∙ entry_taken s f in
         let clients : new.clients ≡ going f (with_queue n es s) = ap (λ (m : Parts). m.clients) is ∙ ap (λ q. gone n q s) e in
         let set : queue_at (with_queue n es s) n ≡ es = get_or-set_same s.queues n es [] so.within in
-        let queue : queue_at new.clients n ≡ es = ap (λ (c : State). queue_at c n) clients ∙ ap (λ qs. slice_index_or qs n []) (queues_still f (with_queue n es s)) ∙ set in
+        let queue : queue_at new.clients n ≡ es = ap (λ (c : State). queue_at c n) clients
+        ∙ ap (λ qs. slice_index_or qs n []) (queues_still f (with_queue n es s)) ∙ set in
         let dropped : Drops (f ∷ []) mid.messages new.messages = subst (λ x. Drops (x ∷ []) mid.messages new.messages) entry drops in
         let kept : AllKept mid.messages (f ∷ es) = subst (AllKept mid.messages) e so.kept in
         let still : gone_lines new.clients es ≡ gone_lines s es = ap (λ c. gone_lines c es) clients ∙ lines_still f (with_queue n es s) es kept.1 in
@@ -114,7 +115,8 @@ goes_on n old mid new told line line' t so first is drops written = go (queue_at
         record {
           done = so.done ++ f ∷ [];
           split = append_assoc so.done (f ∷ []) (queue_at new.clients n) ∙ ap (λ q. so.done ++ f ∷ q) queue ∙ ap (λ q. so.done ++ q) (sym e) ∙ so.split;
-          within = subst (λ k. n < k) (sym (ap (λ (c : State). length c.queues) clients ∙ ap length (queues_still f (with_queue n es s)) ∙ length-set s.queues n es)) so.within;
+          within = subst (λ k. n < k)
+              (sym (ap (λ (c : State). length c.queues) clients ∙ ap length (queues_still f (with_queue n es s)) ∙ length-set s.queues n es)) so.within;
           clients = ap (λ q. queue_gone n q new.clients) queue ∙ ap (queue_gone n es) clients ∙ sym (ap (λ q. queue_gone n q s) e) ∙ so.clients;
           kept = subst (AllKept new.messages) (sym queue) (kept_still f mid.messages new.messages dropped es kept.1 kept.2);
           drops = drops_more so.done f old.messages mid.messages new.messages so.drops dropped;
@@ -122,7 +124,8 @@ goes_on n old mid new told line line' t so first is drops written = go (queue_at
               ∙ ap (λ c. record old { clients = c; messages = new.messages }) (sym (ap (λ (m : Parts). m.clients) is));
           lines = ap (λ q. line'.lines ++ gone_lines new.clients q) queue ∙ ap (λ ls. line'.lines ++ ls) still ∙ ap (λ ls. ls ++ gone_lines s es) said
               ∙ append_assoc line.lines (gone_line (taken_entry s f)) (gone_lines s es) ∙ sym (ap (λ q. line.lines ++ gone_lines s q) e) ∙ so.lines;
-          turn = written ∙ ap (λ (x : LineBuffer). record x { lines = line.lines ++ gone_line t }) so.turn ∙ ap (λ ls. record told { lines = ls }) (sym (ap (λ (x : LineBuffer). x.lines) written));
+          turn = written ∙ ap (λ (x : LineBuffer). record x { lines = line.lines ++ gone_line t }) so.turn
+              ∙ ap (λ ls. record told { lines = ls }) (sym (ap (λ (x : LineBuffer). x.lines) written));
           room =
               let many = ap length said ∙ length-append line.lines (gone_line (taken_entry s f)) in
               let one = line_counted s f es in

@@ -49,12 +49,14 @@ by_items P none more _ _ same = absurd same
 
 pub data Alike : List Machine_task → List Task → Type 0 where
   no_tasks : Alike [] []
-  both_run : (f : Machine_frame) (fr : Frame) (ms : List Machine_task) (ts : List Task) → SameFrame f fr → SameTasks ms ts → Alike ms ts → Alike (Runs_frame f ∷ ms) (Run fr ∷ ts)
+  both_run : (f : Machine_frame) (fr : Frame) (ms : List Machine_task) (ts : List Task) → SameFrame f fr → SameTasks ms ts → Alike ms ts →
+      Alike (Runs_frame f ∷ ms) (Run fr ∷ ts)
   both_trapped : (ms : List Machine_task) (ts : List Task) → SameTasks ms ts → Alike ms ts → Alike (Is_trap ∷ ms) (Trapped ∷ ts)
   both_go : (x : ℕ) (ms : List Machine_task) (ts : List Task) → x < 4096 → SameTasks ms ts → Alike ms ts → Alike (Destroys x ∷ ms) (Destroy ∷ ts)
   both_close : (ms : List Machine_task) (ts : List Task) → SameTasks ms ts → Alike ms ts → Alike (Closes ∷ ms) (Closing ∷ ts)
   both_unwind : (code c : ℤ) (ms : List Machine_task) (ts : List Task) → code ≡ c → SameTasks ms ts → Alike ms ts → Alike (Unwinds code ∷ ms) (Unwind c ∷ ts)
-  both_end : (x : Machine_dispatch) (d : Dispatch) (ms : List Machine_task) (ts : List Task) → SameDispatch x d → SameTasks ms ts → Alike ms ts → Alike (Ends x ∷ ms) (Dispatched d ∷ ts)
+  both_end : (x : Machine_dispatch) (d : Dispatch) (ms : List Machine_task) (ts : List Task) → SameDispatch x d → SameTasks ms ts → Alike ms ts →
+      Alike (Ends x ∷ ms) (Dispatched d ∷ ts)
 
 pub alike : (ms : List Machine_task) (us : List Task) → SameTasks ms us → Alike ms us
 alike = by_tasks Alike no_tasks (λ m u ms us same below more. by_task (λ m u. Alike (m ∷ ms) (u ∷ us)) (record {
@@ -73,7 +75,8 @@ same_below ms u ts same = grind (arith, nat_tests, cons_given)
 pub data Alike_items : List Machine_item → List Item → Type 0 where
   no_items : Alike_items [] []
   both_objects : (n : ℕ) (is : List Machine_item) (js : List Item) → SameItems is js → Alike_items (Holds_object n ∷ is) (An_object ∷ js)
-  both_operations : (m n k : ℕ) (w : ℤ) (is : List Machine_item) (js : List Item) → m ≡ k → cast_signed w32 n ≡ w → SameItems is js → Alike_items (Holds_operation m n ∷ is) (An_operation k w ∷ js)
+  both_operations : (m n k : ℕ) (w : ℤ) (is : List Machine_item) (js : List Item) → m ≡ k → cast_signed w32 n ≡ w → SameItems is js →
+      Alike_items (Holds_operation m n ∷ is) (An_operation k w ∷ js)
   both_marks : (is : List Machine_item) (js : List Item) → SameItems is js → Alike_items (Is_mark ∷ is) (A_mark ∷ js)
 
 pub items_alike : (is : List Machine_item) (js : List Item) → SameItems is js → Alike_items is js
@@ -82,7 +85,8 @@ items_alike = grind (arith, nat_tests, by_items Alike_items no_items, no_items, 
 -- where the last item is an entry
 pub data Entries_alike : List Machine_item → List Item → Type 0 where
   entries_own : (n : ℕ) (is : List Machine_item) (js : List Item) → SameItems is js → Entries_alike (Holds_object n ∷ is) (An_object ∷ js)
-  entries_run : (m n k : ℕ) (w : ℤ) (is : List Machine_item) (js : List Item) → m ≡ k → cast_signed w32 n ≡ w → SameItems is js → Entries_alike (Holds_operation m n ∷ is) (An_operation k w ∷ js)
+  entries_run : (m n k : ℕ) (w : ℤ) (is : List Machine_item) (js : List Item) → m ≡ k → cast_signed w32 n ≡ w → SameItems is js →
+      Entries_alike (Holds_operation m n ∷ is) (An_operation k w ∷ js)
 
 pub entries_alike : (is : List Machine_item) (js : List Item) → SameItems is js → IsAboveMark is → Entries_alike is js
 entries_alike x y same above = grind (arith, nat_tests, entries_own, entries_run)

@@ -32,7 +32,8 @@ module _ (p : Image) (a : Active) where
   -- it does not matter by which cells the requests and the queues are told
   pub requests_as : (cs ds : List Cell) → ((n : ℕ) → requested cs n ≡ requested ds n) →
       ((n : ℕ) → is_some (requested ds n) ≡ true → queued p cs n ≡ queued p ds n) → SameRequests p a cs → SameRequests p a ds
-  requests_as cs ds same queues h = record { stands = standing_follows a (requested cs) (requested ds) (queued p cs) (queued p ds) same queues h.stands; limit = h.limit }
+  requests_as cs ds same queues h =
+      record { stands = standing_follows a (requested cs) (requested ds) (queued p cs) (queued p ds) same queues h.stands; limit = h.limit }
 
   -- where the cells and what waits at them are as they were
   pub requests_alike : (cs ds : List Cell) → ((n : ℕ) → requested ds n ≡ requested cs n) →
@@ -40,16 +41,19 @@ module _ (p : Image) (a : Active) where
   requests_alike cs ds same names queues h = requests_as cs ds (λ n. sym (same n)) (λ n there. sym (queued_same p cs ds names queues n)) h
 
   pub requests_moved : (cs : List Cell) (q r : Place) → SameRequests p a cs → SameRequests p a (moved q r cs)
-  requests_moved cs q r h = requests_alike cs (moved q r cs) (requested_moved cs q r) (named_moved cs q r) (λ n. ap (λ (v : Service). v.queue) (service_moved cs q r n)) h
+  requests_moved cs q r h =
+      requests_alike cs (moved q r cs) (requested_moved cs q r) (named_moved cs q r) (λ n. ap (λ (v : Service). v.queue) (service_moved cs q r n)) h
 
   requests_written : (cs : List Cell) (n w : ℕ) (v : ℤ) → SameRequests p a cs → SameRequests p a (set_word_field n w v cs)
-  requests_written cs n w v h = requests_alike cs (set_word_field n w v cs) (asked_written cs n w v) (named_set_word cs n w v) (λ k. ap (λ (x : Service). x.queue) (service_stored cs n w v k)) h
+  requests_written cs n w v h = requests_alike cs (set_word_field n w v cs) (asked_written cs n w v) (named_set_word cs n w v)
+      (λ k. ap (λ (x : Service). x.queue) (service_stored cs n w v k)) h
 
   pub requests_stored : (cs : List Cell) (home : Home) (w : ℕ) (v : ℤ) → SameRequests p a cs → SameRequests p a (stored cs home w v)
   requests_stored cs (Inside o from) w v h = requests_written cs o.name w v h
   requests_stored cs _ w v h = h
 
-  pub requests_made : (cs : List Cell) (n : ℕ) (thing : Thing) (words : List ℤ) (owner : Place) → named cs n ≡ None → SameRequests p a cs → SameRequests p a (with_new n thing words owner cs)
+  pub requests_made : (cs : List Cell) (n : ℕ) (thing : Thing) (words : List ℤ) (owner : Place) → named cs n ≡ None → SameRequests p a cs →
+      SameRequests p a (with_new n thing words owner cs)
   requests_made cs n thing words owner fresh h = grind (arith, nat_tests, requests_as cs, asked_new cs n thing words owner fresh)
 
   -- what clients have at a cell changes, but for its queue
@@ -70,11 +74,12 @@ module _ (p : Image) (a : Active) where
   requests_unslotted clients cs h = grind (arith, nat_tests, each_unslotted_alike clients cs, requests_alike cs, each_unslotted_requests clients cs)
 
 module _ (p : Image) (fr : Frame) (ts : List Task) (s : State) (a : Active) where
-  pub requests_passed : (depth : ℕ) (xs : List Argument) (first to : ℕ) (cs : List Cell) → SameRequests p a cs → SameRequests p a (passed_cells p fr ts s depth xs first to cs)
+  pub requests_passed : (depth : ℕ) (xs : List Argument) (first to : ℕ) (cs : List Cell) → SameRequests p a cs →
+      SameRequests p a (passed_cells p fr ts s depth xs first to cs)
   requests_passed depth [] first to cs h = h
   requests_passed depth (Takes_word ∷ xs) first to cs h = requests_passed depth xs (suc first) (suc to) cs h
-  requests_passed depth (Takes_own t ∷ xs) first to cs h =
-      requests_passed depth xs (suc first) (suc to) (moved (here fr ts s first) (Register depth to) cs) (requests_moved p a cs (here fr ts s first) (Register depth to) h)
+  requests_passed depth (Takes_own t ∷ xs) first to cs h = requests_passed depth xs (suc first) (suc to) (moved (here fr ts s first) (Register depth to) cs)
+      (requests_moved p a cs (here fr ts s first) (Register depth to) h)
 
 -- a cell that goes is enlisted no more
 no_request : (r : Option Request) (waits : Option Bool) → Tells None r waits → r ≡ None

@@ -47,7 +47,8 @@ first_sent cells c = all_same 64 c []
 
 first_sized : (cells : ℕ) → AreSized cells (at_first cells)
 unfolding at_first
-first_sized cells = record { places = length-replicate 1024 Free; queues = length-replicate {A = List QueueEntry} cells []; sessions = length-replicate {A = List ℕ} cells [] }
+first_sized cells =
+    record { places = length-replicate 1024 Free; queues = length-replicate {A = List QueueEntry} cells []; sessions = length-replicate {A = List ℕ} cells [] }
 
 first_many : (cells : ℕ) → length (at_first cells).clients ≡ 64
 unfolding at_first
@@ -81,7 +82,8 @@ messages_begin p = record { there = λ m. refl; within = λ m high. refl; past =
 listed_begin : (p : Image) → SameListed p (no_list p.header.cells 256) []
 listed_begin p = record {
   there = λ n class. ap (is_among n) (all_same 256 class []);
-  order = λ class. subst (λ ns. AllPairs (λ a b. order_in (requested [] a) < order_in (requested [] b)) ns) (sym (all_same 256 class [])) (λ i j d less within. absurd (omega (arith, within)));
+  order = λ class. subst (λ ns. AllPairs (λ a b. order_in (requested [] a) < order_in (requested [] b)) ns) (sym (all_same 256 class []))
+      (λ i j d less within. absurd (omega (arith, within)));
   classes = length-replicate {A = List ℕ} 256 [];
   nodes = refl;
 }

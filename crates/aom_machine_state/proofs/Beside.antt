@@ -62,7 +62,8 @@ beside_then cs ds es a b = record {
 pub cells_beside : (p : Image) (h : Heap) (cs ds : List Cell) → Beside cs ds → SameCells p h cs → SameCells p h ds
 cells_beside p h cs ds b = grind (arith, nat_tests, cells_as p h cs ds)
 
-pub natives_beside : (p : Image) (w : Standing) (killed : List ℕ) (cs ds : List Cell) → p.header.cells ≤ 4096 → Beside cs ds → SameNatives p w cs killed → SameNatives p w ds killed
+pub natives_beside : (p : Image) (w : Standing) (killed : List ℕ) (cs ds : List Cell) → p.header.cells ≤ 4096 → Beside cs ds → SameNatives p w cs killed →
+    SameNatives p w ds killed
 natives_beside p w killed cs ds few b same = record { sessions = λ n. sessions n (b.sessions n); dead = same.dead; limit = same.limit }
   where
     sessions : (n : ℕ) → (in_session ds n ≡ in_session cs n) ⊎ ((in_session ds n ≡ false) × (4096 ≤ n)) → is_open w n ≡ in_session ds n
@@ -192,7 +193,8 @@ module _ (drops : Cell → Bool) (f : Cell → Service) (cs : List Cell) (tidy :
 -- what is owned by no queue stays, where what goes is owned by queues
 pub holds_sifted : (drops : Cell → Bool) (f : Cell → Service) (cs : List Cell) → Tidy cs → ((n : ℕ) (x : Cell) →
     cell_of cs n ≡ Some x → drops x ≡ true → is_queue x.owner ≡ true) → (r : Place) → is_queue r ≡ false → held (sifted drops f cs) r ≡ held cs r
-holds_sifted drops f cs tidy queues r apart = held_cell (sifted drops f cs) r ∙ ap object_in (cell_in_sifted drops f cs r tidy) ∙ go (cell_in cs r) refl ∙ sym (held_cell cs r)
+holds_sifted drops f cs tidy queues r apart = held_cell (sifted drops f cs) r ∙ ap object_in (cell_in_sifted drops f cs r tidy)
+    ∙ go (cell_in cs r) refl ∙ sym (held_cell cs r)
   where
     go : (x : Option Cell) → cell_in cs r ≡ x → object_in (left_cell drops f x) ≡ object_in x
     go None e = refl
@@ -204,7 +206,8 @@ holds_sifted drops f cs tidy queues r apart = held_cell (sifted drops f cs) r �
 
 -- ---- a message comes
 
-pub beside_message : (cs : List Cell) (c : Cell) → named cs c.object.name ≡ None → c.object.thing ≡ Message → 4096 ≤ c.object.name → c.request ≡ None → c.session ≡ false → Beside cs (c ∷ cs)
+pub beside_message : (cs : List Cell) (c : Cell) → named cs c.object.name ≡ None → c.object.thing ≡ Message → 4096 ≤ c.object.name → c.request ≡ None →
+    c.session ≡ false → Beside cs (c ∷ cs)
 beside_message cs c free message past unasked closed = record {
   names = λ n. names n (c.object.name == n) refl;
   requests = λ n. requests n (c.object.name == n) refl;

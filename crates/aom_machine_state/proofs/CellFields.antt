@@ -56,13 +56,15 @@ pub word_put_elsewhere : (us : List Machine_task) (h h' : Heap) (es : List Item)
 word_put_elsewhere us h h' es others n w v puts x = grind (arith, nat_tests, eqb-true n, fields_left, eq-eqb n)
 
 -- the machine has a cell of that name
-pub cell_of : (p : Image) (h : Heap) (cs : List Cell) (n : ℕ) (o : Object) → SameCells p h cs → named cs n ≡ Some o → is_object o.thing ≡ true → (c : Machine_cell) × (cell_at h n ≡ Some c)
-cell_of p h cs n o same lives object = some_given (λ c. thing_in c ≡ Some o.thing) (cell_at h n) (class_told p h cs n o same lives object) (λ f. cc) (λ c e f. (c, e))
+pub cell_of : (p : Image) (h : Heap) (cs : List Cell) (n : ℕ) (o : Object) → SameCells p h cs → named cs n ≡ Some o → is_object o.thing ≡ true →
+    (c : Machine_cell) × (cell_at h n ≡ Some c)
+cell_of p h cs n o same lives object =
+    some_given (λ c. thing_in c ≡ Some o.thing) (cell_at h n) (class_told p h cs n o same lives object) (λ f. cc) (λ c e f. (c, e))
 
 -- a cell has other words and fields, of the same class and as many
-cells_rewritten : (p : Image) (h h' : Heap) (cs cs' : List Cell) (n : ℕ) (c c' : Machine_cell) →
-    SameCells p h cs → cell_at h n ≡ Some c → Changes h h' n (Some c') → c'.class ≡ c.class → length c'.fields ≡ length c.fields → count h' ≡ count h
-    → ((k : ℕ) → named cs' k ≡ named cs k) → count_cells cs' ≡ count_cells cs → ((k w : ℕ) → k < 4096 → cell_word h' k w ≡ word_field cs' k w) → SameCells p h' cs'
+cells_rewritten : (p : Image) (h h' : Heap) (cs cs' : List Cell) (n : ℕ) (c c' : Machine_cell) → SameCells p h cs → cell_at h n ≡ Some c →
+    Changes h h' n (Some c') → c'.class ≡ c.class → length c'.fields ≡ length c.fields → count h' ≡ count h → ((k : ℕ) → named cs' k ≡ named cs k) →
+    count_cells cs' ≡ count_cells cs → ((k w : ℕ) → k < 4096 → cell_word h' k w ≡ word_field cs' k w) → SameCells p h' cs'
 cells_rewritten p h h' cs cs' n c c' same at ch class as_wide as_many names as_long words = record {
   things = λ k. things k ∙ same.things k ∙ ap thing_of (sym (names k));
   words = words;
@@ -85,7 +87,8 @@ cells_rewritten p h h' cs cs' n c c' same at ch class as_wide as_many names as_l
     things k = grind (arith, nat_tests, eqb-true n k, other k)
 
 -- a field is written
-pub cells_put : (p : Image) (h h' : Heap) (cs : List Cell) (n f x : ℕ) (o : Object) → SameCells p h cs → named cs n ≡ Some o → is_object o.thing ≡ true → PutsField n f x h h' → SameCells p h' cs
+pub cells_put : (p : Image) (h h' : Heap) (cs : List Cell) (n f x : ℕ) (o : Object) → SameCells p h cs → named cs n ≡ Some o → is_object o.thing ≡ true →
+    PutsField n f x h h' → SameCells p h' cs
 cells_put p h h' cs n f x o same lives object puts =
     grind (arith, nat_tests, cell_of p h cs n o same lives object, cells_rewritten p h h' cs cs n, length-set, eqb-true n, eq-eqb n)
 

@@ -14,7 +14,8 @@ use Rattle.aom_machine_state.proofs.SemanticsLemmas.{at-put_at, front_free}
 
 -- a list of equal elements has that element everywhere, if it also stands for those past the end
 pub all_same : {A : Type 0} (n i : ℕ) (x : A) → slice_index_or (replicate n x) i x ≡ x
-all_same n i x = elim (cases_lt i n) [ inl within ↦ get_or-replicate n i x x within | inr past ↦ get_or_past (replicate n x) i x (let l = length-replicate n x in omega (arith, l, past)) ]
+all_same n i x = elim (cases_lt i
+    n) [ inl within ↦ get_or-replicate n i x x within | inr past ↦ get_or_past (replicate n x) i x (let l = length-replicate n x in omega (arith, l, past)) ]
 
 pub zeros_at : (n w : ℕ) → at (pos 0) (replicate n (pos 0)) w ≡ pos 0
 zeros_at zero w = refl
@@ -35,7 +36,8 @@ pub words_other : (cs : List Cell) (n w : ℕ) (v : ℤ) (k x : ℕ) → (n == k
 words_other [] n w v k x d = refl
 words_other (c ∷ cs) n w v k x d = grind (arith, nat_tests, words_other cs n w v k x d, eqb-true c.object.name n)
 
-pub words_here : (cs : List Cell) (n w : ℕ) (v : ℤ) (x : ℕ) → word_field (set_word_field n w v cs) n x ≡ cond (is_some (named cs n) && (w == x)) v (word_field cs n x)
+pub words_here : (cs : List Cell) (n w : ℕ) (v : ℤ) (x : ℕ) →
+    word_field (set_word_field n w v cs) n x ≡ cond (is_some (named cs n) && (w == x)) v (word_field cs n x)
 words_here [] n w v x = refl
 words_here (c ∷ cs) n w v x = grind (arith, nat_tests, words_here cs n w v x, at-put_at)
 

@@ -15,11 +15,13 @@ use Rattle.aom_machine_state.proofs.Values.{cases}
 use Rattle.aom_machine_state.proofs.CellWords.{words_moved, words_unnamed}
 
 -- the machine has the cell of an object
-pub class_told : (p : Image) (h : Heap) (cs : List Cell) (n : ℕ) (o : Object) → SameCells p h cs → named cs n ≡ Some o → is_object o.thing ≡ true → thing_in (cell_at h n) ≡ Some o.thing
+pub class_told : (p : Image) (h : Heap) (cs : List Cell) (n : ℕ) (o : Object) → SameCells p h cs → named cs n ≡ Some o → is_object o.thing ≡ true →
+    thing_in (cell_at h n) ≡ Some o.thing
 class_told p h cs n o same lives object = same.things n ∙ ap thing_of lives ∙ ap (λ b. cond b (Some o.thing) None) object
 
 -- and what it has the cell of is one
-pub is_an_object : (p : Image) (h : Heap) (cs : List Cell) (n : ℕ) (o : Object) → SameCells p h cs → named cs n ≡ Some o → IsSome (cell_at h n) → is_object o.thing ≡ true
+pub is_an_object : (p : Image) (h : Heap) (cs : List Cell) (n : ℕ) (o : Object) → SameCells p h cs → named cs n ≡ Some o → IsSome (cell_at h n) →
+    is_object o.thing ≡ true
 is_an_object p h cs n o same lives there = grind (arith, nat_tests)
 
 -- a cell's number is below all messages'
@@ -41,14 +43,16 @@ cells_as p h cs ds things words count same = record {
 }
 
 pub cells_moved : (p : Image) (h : Heap) (cs : List Cell) (from to : Place) → SameCells p h cs → SameCells p h (moved from to cs)
-cells_moved p h cs from to = cells_as p h cs (moved from to cs) (λ n. ap thing_of (named_moved cs from to n)) (λ n w small. words_moved cs from to n w) (count_moved cs from to)
+cells_moved p h cs from to =
+    cells_as p h cs (moved from to cs) (λ n. ap thing_of (named_moved cs from to n)) (λ n w small. words_moved cs from to n w) (count_moved cs from to)
 
 -- the place of a cell that is not owned so is another
 pub unowned : (c : Cell) (cs : List Cell) (r : Place) (is : Place → Bool) → is r ≡ true → not (is c.owner) ≡ true → held cs r ≡ None → held (c ∷ cs) r ≡ None
 unowned c cs r is here other none = grind (arith, nat_tests, false_from_ne_true, same_place-true c.owner r, not-true)
 
 -- the words of another cell than the one that goes
-pub words_without : (cs : List Cell) (g : Place) (o : Object) (n w : ℕ) → Tidy cs → held cs g ≡ Some o → (o.name == n) ≡ false → word_field (without g cs) n w ≡ word_field cs n w
+pub words_without : (cs : List Cell) (g : Place) (o : Object) (n w : ℕ) → Tidy cs → held cs g ≡ Some o → (o.name == n) ≡ false →
+    word_field (without g cs) n w ≡ word_field cs n w
 words_without [] g o n w t e d = refl
 words_without (c ∷ cs) g o n w t e d = grind (arith, nat_tests, words_without cs g o n w t.2, without_none cs g, same_place-true c.owner g)
 
@@ -60,7 +64,8 @@ cells_without p h h' cs g o same tidy is object ch less = record {
   words = λ k w small. cases (o.name == k) (λ e. ap (λ i. word_of (cell_at h' i) w) (sym (eqb-true o.name k e))
       ∙ ap (λ c. word_of c w) ch.here ∙ sym (words_unnamed (without g cs) k w (ap (named (without g cs)) (sym (eqb-true o.name k e)) ∙ unnamed cs g o tidy is)))
       (λ e. ap (λ c. word_of c w) (other k e) ∙ same.words k w small ∙ sym (words_without cs g o k w tidy is e));
-  count = (let a = count_without cs g tidy ∙ ap (λ o. counted_in o + count_cells (without g cs)) is in let one = ap {B = ℕ} (λ b. cond b 1 0) object in let b = same.count in omega (arith, a, one, b));
+  count = (let a = count_without cs g tidy ∙ ap (λ o. counted_in o + count_cells (without g cs)) is in let one = ap {B = ℕ} (λ b. cond b 1 0) object in
+      let b = same.count in omega (arith, a, one, b));
   limit = ch.limit ∙ same.limit;
   wide = λ k c e. same.wide k c (sym (still k c e) ∙ e);
   classes = λ k c e. same.classes k c (sym (still k c e) ∙ e);

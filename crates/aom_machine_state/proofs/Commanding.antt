@@ -66,11 +66,13 @@ found_server most (Some x) = Some (record { cell = x.name; most = most })
 
 module _ (p : Image) (c : ℕ) (s : State) (k : kept.State) (same : SameClients k s.cells s.clients) where
   -- a connect is refused on both sides alike
-  pub connect_refused : (class slots : ℕ) → kept.connect_refusal c (found_server (most_of (kind_of p (Some class))) (asked_server p class s.cells)) k ≡ refusal p c s (Connect class slots)
+  pub connect_refused : (class slots : ℕ) →
+      kept.connect_refusal c (found_server (most_of (kind_of p (Some class))) (asked_server p class s.cells)) k ≡ refusal p c s (Connect class slots)
   connect_refused class slots = grind (arith, nat_tests, row_connect, seats_counted k s.cells s.clients same)
 
   -- and so is a send, where a place is found while fewer messages are kept than may be
-  pub send_refused : Tidy s.cells → (words : List ℤ) (place : Option ℕ) → is_some place ≡ nat_lt (count_messages s.cells) p.header.messages → kept.send_refusal c place k ≡ refusal p c s (Send words)
+  pub send_refused : Tidy s.cells → (words : List ℤ) (place : Option ℕ) → is_some place ≡ nat_lt (count_messages s.cells) p.header.messages →
+      kept.send_refusal c place k ≡ refusal p c s (Send words)
   send_refused tidy words place found = grind (arith, nat_tests, slots_so k s.cells s.clients same tidy c)
 
 -- ---- commands
@@ -103,13 +105,14 @@ module _ (p : Image) (t : Typing) (wired : IsWired p) (s : State) (w : WellTyped
       go None (Some x) e =
           let l = asked_there p class s.cells x w.good.tidy e in
           subst (λ n. SameClients (kept.queued n (entry.Connect c) (kept.with_client c (Connecting n slots) k))
-          (reserved (asked_last (Connect_of c)) n s.cells) (with_client c (Connecting n slots) s.clients)) l.1
-          (same_connecting k s.cells s.clients same l.0 l.2 c client slots (subst (λ n. l.0.name < n) (sym sized.queues) (below l.0 l.2 (serves_class class l.0.thing l.3 (asked_serves class x e)))))
+          (reserved (asked_last (Connect_of c)) n s.cells) (with_client c (Connecting n slots) s.clients)) l.1 (same_connecting k s.cells s.clients same l.0 l.2
+          c client slots (subst (λ n. l.0.name < n) (sym sized.queues) (below l.0 l.2 (serves_class class l.0.thing l.3 (asked_serves class x e)))))
 
   -- ---- a send
 
   -- the server at which it is open
-  server_open : (n session slots : ℕ) → kept.client_at k c ≡ Open n session slots → (o : Object) × (o.name ≡ n) × (named s.cells o.name ≡ Some o) × (is_server p o.thing ≡ true)
+  server_open : (n session slots : ℕ) → kept.client_at k c ≡ Open n session slots →
+      (o : Object) × (o.name ≡ n) × (named s.cells o.name ≡ Some o) × (is_server p o.thing ≡ true)
   server_open n session slots at = grind (arith, nat_tests, server_there p c s w.good.tidy fit n)
 
   pub same_send : (words : List ℤ) (place : Option ℕ) →
@@ -154,17 +157,18 @@ module _ (p : Image) (t : Typing) (wired : IsWired p) (s : State) (w : WellTyped
   -- ---- a close or a death
 
   tidy_left : Tidy (withdrawn c s.cells)
-  tidy_left = subst Tidy (sym (withdrawn_so c s.cells)) (tidy_sifted (λ x. is_queue x.owner && is_from c x.service.sender) (λ x. left_by c x.service) s.cells w.good.tidy)
+  tidy_left = subst Tidy (sym (withdrawn_so c s.cells))
+      (tidy_sifted (λ x. is_queue x.owner && is_from c x.service.sender) (λ x. left_by c x.service) s.cells w.good.tidy)
 
   -- a server stays
   server_stays : (o : Object) → named s.cells o.name ≡ Some o → is_server p o.thing ≡ true → named (withdrawn c s.cells) o.name ≡ Some o
   server_stays o lives serves =
       let z = a_cell_of (cell_of s.cells o.name) o (sym (named_cell s.cells o.name) ∙ lives) in
-      ap (λ l. named l o.name) (withdrawn_so c s.cells)
-      ∙ named_sifted (λ x. is_queue x.owner && is_from c x.service.sender)
+      ap (λ l. named l o.name) (withdrawn_so c s.cells) ∙ named_sifted (λ x. is_queue x.owner && is_from c x.service.sender)
       (λ x. left_by c x.service) s.cells w.good.tidy o.name z.0 z.1 (stays z.0 z.1 z.2 (is_queue z.0.owner) refl) ∙ ap (λ y. Some y) z.2
     where
-      stays : (x : Cell) → cell_of s.cells o.name ≡ Some x → x.object ≡ o → (b : Bool) → is_queue x.owner ≡ b → (is_queue x.owner && is_from c x.service.sender) ≡ false
+      stays : (x : Cell) → cell_of s.cells o.name ≡ Some x → x.object ≡ o → (b : Bool) → is_queue x.owner ≡ b →
+          (is_queue x.owner && is_from c x.service.sender) ≡ false
       stays x e is false f = ap (λ b. b && is_from c x.service.sender) f
       stays x e is true f =
           let q = queue_owner x.owner f in
@@ -174,9 +178,8 @@ module _ (p : Image) (t : Typing) (wired : IsWired p) (s : State) (w : WellTyped
 
   left_by_row : (to : Option Client) → After (kept.leaving to c k) (leaving p c s (option_map sessionless to))
   left_by_row None = same
-  left_by_row (Some to) =
-      same_left k s.cells s.clients same w.good.tidy c client (queue_empty p t wired s w s.clients fit) (messages_wait p t wired s w s.clients fit k same) p s to tidy_left
-      (λ n session slots at. let o = server_open n session slots at in (
+  left_by_row (Some to) = same_left k s.cells s.clients same w.good.tidy c client (queue_empty p t wired s w s.clients fit)
+      (messages_wait p t wired s w s.clients fit k same) p s to tidy_left (λ n session slots at. let o = server_open n session slots at in (
         o.0,
         o.1,
         server_stays o.0 o.2 o.3,
@@ -188,4 +191,5 @@ module _ (p : Image) (t : Typing) (wired : IsWired p) (s : State) (w : WellTyped
       (sym (row_close (kept.client_at k c)) ∙ ap (λ x. (row x).close) (same.at c)) (left_by_row (row (kept.client_at k c)).close)
 
   pub same_die : (name : ℕ) → After (kept.after_die c k) (commanded p c s Die name)
-  same_die name = subst (λ to. After (kept.after_die c k) (leaving p c s to)) (sym (row_die (kept.client_at k c)) ∙ ap (λ x. (row x).die) (same.at c)) (left_by_row (row (kept.client_at k c)).die)
+  same_die name = subst (λ to. After (kept.after_die c k) (leaving p c s to)) (sym (row_die (kept.client_at k c)) ∙ ap (λ x. (row x).die) (same.at c))
+      (left_by_row (row (kept.client_at k c)).die)

@@ -39,18 +39,18 @@ once_without m (k ∷ ms) once = grind (arith, nat_tests, once_without m ms once
 pub owner_unnamed : (cs : List Cell) (n : ℕ) → named cs n ≡ None → owner_of cs n ≡ None
 owner_unnamed = read_unnamed owners
 
-pub owner_without : (g : Owner) (o : Object) (cs : List Cell) (n : ℕ) → Tidy cs → held cs g ≡ Some o → (o.name == n) ≡ false → owner_of (without g cs) n ≡ owner_of cs n
+pub owner_without : (g : Owner) (o : Object) (cs : List Cell) (n : ℕ) → Tidy cs → held cs g ≡ Some o → (o.name == n) ≡ false →
+    owner_of (without g cs) n ≡ owner_of cs n
 owner_without g o cs = read_without owners cs g o
 
 -- ---- the slots that are taken
 
 abbrev Counted : ℕ → List Cell → Type 0
-Counted d cs =
-    (ms : List ℕ) → Tidy cs → Once ms → ((m : ℕ) → is_among m ms ≡ holds_slot d (service_of cs (message_name m)).sender) → ((n : ℕ) → n < 4096 → holds_slot d (service_of cs n).sender ≡ false) →
-    length ms ≡ slots_taken d cs
+Counted d cs = (ms : List ℕ) → Tidy cs → Once ms → ((m : ℕ) → is_among m ms ≡ holds_slot d (service_of cs (message_name m)).sender) →
+    ((n : ℕ) → n < 4096 → holds_slot d (service_of cs n).sender ≡ false) → length ms ≡ slots_taken d cs
 
-module _ (d : ℕ) (c : Cell) (cs : List Cell) (ms : List ℕ) (tidy : Tidy (c ∷ cs)) (once : Once ms) (same : (m : ℕ) → is_among m ms ≡ holds_slot d (service_of (c ∷ cs) (message_name m)).sender)
-    (silent : (n : ℕ) → n < 4096 → holds_slot d (service_of (c ∷ cs) n).sender ≡ false) (rest : Counted d cs) where
+module _ (d : ℕ) (c : Cell) (cs : List Cell) (ms : List ℕ) (tidy : Tidy (c ∷ cs)) (once : Once ms) (same : (m : ℕ) → is_among m ms ≡ holds_slot d (service_of
+    (c ∷ cs) (message_name m)).sender) (silent : (n : ℕ) → n < 4096 → holds_slot d (service_of (c ∷ cs) n).sender ≡ false) (rest : Counted d cs) where
   abbrev k : ℕ
   k = c.object.name
 
@@ -71,7 +71,8 @@ module _ (d : ℕ) (c : Cell) (cs : List Cell) (ms : List ℕ) (tidy : Tidy (c �
     others j false e = grind (arith, nat_tests, among_others j, names_apart)
 
     silent_behind : (n : ℕ) → n < 4096 → holds_slot d (service_of cs n).sender ≡ false
-    silent_behind n small = sym (ap (λ b. holds_slot d (cond b c.service (service_of cs n)).sender) (ne_eqb k n (λ at. absurd (omega (arith, at, small, name))))) ∙ silent n small
+    silent_behind n small =
+        sym (ap (λ b. holds_slot d (cond b c.service (service_of cs n)).sender) (ne_eqb k n (λ at. absurd (omega (arith, at, small, name))))) ∙ silent n small
 
     one_more : length ms ≡ suc (slots_taken d cs)
     one_more =
@@ -80,16 +81,19 @@ module _ (d : ℕ) (c : Cell) (cs : List Cell) (ms : List ℕ) (tidy : Tidy (c �
 
   counted_on : (b : Bool) → holds_slot d c.service.sender ≡ b → (k < 4096) ⊎ (4096 ≤ k) → length ms ≡ cond b (suc (slots_taken d cs)) (slots_taken d cs)
   counted_on false e x = rest ms tidy.2 once (λ j. same j ∙ behind e (message_name j)) (λ n small. sym (behind e n) ∙ silent n small)
-  counted_on true e (inl small) = absurd (false≢true (sym (silent k small) ∙ ap (λ b. holds_slot d (cond b c.service (service_of cs k)).sender) (eq-eqb k k refl) ∙ e))
+  counted_on true e (inl small) =
+      absurd (false≢true (sym (silent k small) ∙ ap (λ b. holds_slot d (cond b c.service (service_of cs k)).sender) (eq-eqb k k refl) ∙ e))
   counted_on true e (inr large) = one_more e (k - 4096) (omega (arith, large))
 
 -- are those of the messages that hold one
 counted : (d : ℕ) (cs : List Cell) → Counted d cs
 counted d [] [] tidy once same silent = refl
 counted d [] (m ∷ ms) tidy once same silent = absurd (false≢true (sym (same m) ∙ ap (λ b. b || is_among m ms) (eq-eqb m m refl)))
-counted d (c ∷ cs) ms tidy once same silent = counted_on d c cs ms tidy once same silent (counted d cs) (holds_slot d c.service.sender) refl (cases_lt c.object.name 4096)
+counted d (c ∷ cs) ms tidy once same silent =
+    counted_on d c cs ms tidy once same silent (counted d cs) (holds_slot d c.service.sender) refl (cases_lt c.object.name 4096)
 
-pub slots_so : (s : kept.State) (cs : List Cell) (clients : List Client) → SameClients s cs clients → Tidy cs → (d : ℕ) → length (kept.sent_at s d) ≡ slots_taken d cs
+pub slots_so : (s : kept.State) (cs : List Cell) (clients : List Client) → SameClients s cs clients → Tidy cs → (d : ℕ) →
+    length (kept.sent_at s d) ≡ slots_taken d cs
 slots_so s cs clients same tidy d = counted d cs (kept.sent_at s d) tidy (same.once d) (slots_of s cs clients same d) (λ n small. same.silent n d small)
 
 -- ---- a message is completed
@@ -108,7 +112,8 @@ module _ (s : kept.State) (cs : List Cell) (clients : List Client) (same : SameC
   gone = ap (λ n. service_of left n) (sym name) ∙ service_unnamed left o.name (unnamed cs g o tidy there)
 
   -- what holds where nothing is, and of all others
-  by_gone : (P : ℕ → Service → Type 0) → P (message_name m) unserved → ((n : ℕ) → (message_name m == n) ≡ false → P n (service_of cs n)) → (n : ℕ) → P n (service_of left n)
+  by_gone : (P : ℕ → Service → Type 0) → P (message_name m) unserved → ((n : ℕ) → (message_name m == n) ≡ false → P n (service_of cs n)) →
+      (n : ℕ) → P n (service_of left n)
   by_gone P here others n = grind (arith, nat_tests, eqb-true, gone, service_without, there, others n)
 
   places_at : (j : ℕ) → kept.place_at then j ≡ cond (m == j) Free (kept.place_at s j)
@@ -125,9 +130,8 @@ module _ (s : kept.State) (cs : List Cell) (clients : List Client) (same : SameC
   apart j other = service_without cs g o (message_name j) tidy there (ap (λ k. k == message_name j) name ∙ names_apart m j other)
 
   queues_then : (n : ℕ) → map (asked_by then.places) (kept.queue_at s n) ≡ (service_of left n).queue
-  queues_then n =
-      asked_apart s.places m Free place (kept.queue_at s n) (ap (λ l. list_any (is_message (message_name m)) l) (same.queues n) ∙ nowhere n) ∙ same.queues n
-      ∙ by_gone (λ n v. (service_of cs n).queue ≡ v.queue) plain.0 (λ n other. refl) n
+  queues_then n = asked_apart s.places m Free place (kept.queue_at s n) (ap (λ l. list_any (is_message (message_name m)) l) (same.queues n) ∙ nowhere n)
+      ∙ same.queues n ∙ by_gone (λ n v. (service_of cs n).queue ≡ v.queue) plain.0 (λ n other. refl) n
 
   senders_then : (j : ℕ) → sent_by (holds then j) (kept.place_at then j) ≡ (service_of left (message_name j)).sender
   senders_then j = grind (arith, nat_tests, places_at j, eqb-true m j, gone, among_then, apart j)

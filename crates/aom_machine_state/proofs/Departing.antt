@@ -18,7 +18,8 @@ use Rattle.std.proofs.Math.ListN.{get_or-map}
 -- ---- lists with one place written
 
 -- also past the end, where what is written is what is read there
-pub at_set_or : {A : Type 0} (none : A) (xs : List A) (i j : ℕ) (x : A) → (length xs ≤ i → x ≡ none) → slice_index_or (slice_set xs i x) j none ≡ cond (i == j) x (slice_index_or xs j none)
+pub at_set_or : {A : Type 0} (none : A) (xs : List A) (i j : ℕ) (x : A) → (length xs ≤ i → x ≡ none) →
+    slice_index_or (slice_set xs i x) j none ≡ cond (i == j) x (slice_index_or xs j none)
 at_set_or none xs i j x past = grind (
   arith,
   nat_tests,
@@ -64,14 +65,16 @@ all_without (_ ∷ es) ms = all_without es ms
 
 module _ (k : ℕ) where
   -- clients whose connects wait are unconnected
-  pub client_after_queue : (es : List QueueEntry) (s : kept.State) (c : ℕ) → kept.client_at (kept.queue_gone k es s) c ≡ cond (list_any (connects c) es) Unconnected (kept.client_at s c)
+  pub client_after_queue : (es : List QueueEntry) (s : kept.State) (c : ℕ) →
+      kept.client_at (kept.queue_gone k es s) c ≡ cond (list_any (connects c) es) Unconnected (kept.client_at s c)
   client_after_queue [] s c = refl
   client_after_queue (Connect d ∷ es) s c = grind (arith, nat_tests, client_after_queue es, at_set_none Unconnected s.clients d c, either)
   client_after_queue (Message m ∷ es) s c = client_after_queue es (kept.gone k (Message m ∷ es) s) c
   client_after_queue (Close d ∷ es) s c = client_after_queue es (kept.gone k (Close d ∷ es) s) c
 
   -- places whose messages wait are free
-  pub place_after_queue : (es : List QueueEntry) (s : kept.State) (m : ℕ) → kept.place_at (kept.queue_gone k es s) m ≡ cond (list_any (is_at m) es) Free (kept.place_at s m)
+  pub place_after_queue : (es : List QueueEntry) (s : kept.State) (m : ℕ) →
+      kept.place_at (kept.queue_gone k es s) m ≡ cond (list_any (is_at m) es) Free (kept.place_at s m)
   place_after_queue [] s m = refl
   place_after_queue (Connect d ∷ es) s m = place_after_queue es (kept.gone k (Connect d ∷ es) s) m
   place_after_queue (Message j ∷ es) s m = grind (arith, nat_tests, place_after_queue es, at_set_none Free s.places j m, either)
@@ -88,10 +91,11 @@ module _ (k : ℕ) where
   sent_after_queue (Close d ∷ es) s c = sent_after_queue es (kept.gone k (Close d ∷ es) s) c
 
   -- the queue is empty, and all others are as they were
-  pub queue_after_queue : (es : List QueueEntry) (s : kept.State) (n : ℕ) → k < length s.queues → kept.queue_at s k ≡ es → kept.queue_at (kept.queue_gone k es s) n ≡ cond (k == n) [] (kept.queue_at s n)
+  pub queue_after_queue : (es : List QueueEntry) (s : kept.State) (n : ℕ) → k < length s.queues → kept.queue_at s k ≡ es →
+      kept.queue_at (kept.queue_gone k es s) n ≡ cond (k == n) [] (kept.queue_at s n)
   queue_after_queue [] s n small at = told_there k n (kept.queue_at s) [] at
-  queue_after_queue (e ∷ es) s n small at =
-      queue_after_queue es (kept.gone k (e ∷ es) s) n (subst (λ i. k < i) (sym (long e)) small) (now e k ∙ set_at_queue k ∙ ap (λ b. cond b es (kept.queue_at s k)) (eq-eqb k k refl))
+  queue_after_queue (e ∷ es) s n small at = queue_after_queue es (kept.gone k (e ∷ es) s) n
+      (subst (λ i. k < i) (sym (long e)) small) (now e k ∙ set_at_queue k ∙ ap (λ b. cond b es (kept.queue_at s k)) (eq-eqb k k refl))
       ∙ ap (λ x. cond (k == n) [] x) (now e n ∙ set_at_queue n) ∙ once_more (k == n) [] es (kept.queue_at s n)
     where
       long : (e : QueueEntry) → length (kept.gone k (e ∷ es) s).queues ≡ length s.queues
@@ -137,7 +141,8 @@ module _ (k : ℕ) where
       go false true = refl
       go _ false = refl
 
-  pub sent_after_sessions : (cs : List ℕ) (s : kept.State) (c : ℕ) → kept.sent_at (kept.sessions_gone k cs s) c ≡ cond (list_any (λ d. d == c) cs) [] (kept.sent_at s c)
+  pub sent_after_sessions : (cs : List ℕ) (s : kept.State) (c : ℕ) →
+      kept.sent_at (kept.sessions_gone k cs s) c ≡ cond (list_any (λ d. d == c) cs) [] (kept.sent_at s c)
   sent_after_sessions [] s c = refl
   sent_after_sessions (d ∷ cs) s c = grind (arith, nat_tests, sent_after_sessions cs, at_set_none, either)
 
@@ -152,8 +157,8 @@ module _ (k : ℕ) where
   pub sessions_after_sessions : (cs : List ℕ) (s : kept.State) (n : ℕ) →
       k < length s.sessions → kept.sessions_at s k ≡ cs → kept.sessions_at (kept.sessions_gone k cs s) n ≡ cond (k == n) [] (kept.sessions_at s n)
   sessions_after_sessions [] s n small at = told_there k n (kept.sessions_at s) [] at
-  sessions_after_sessions (c ∷ cs) s n small at =
-      sessions_after_sessions cs (kept.session_gone k (c ∷ cs) s) n (subst (λ i. k < i) (sym (length-set s.sessions k cs)) small) (now k ∙ ap (λ b. cond b cs (kept.sessions_at s k)) (eq-eqb k k refl))
+  sessions_after_sessions (c ∷ cs) s n small at = sessions_after_sessions cs (kept.session_gone k (c ∷ cs) s) n
+      (subst (λ i. k < i) (sym (length-set s.sessions k cs)) small) (now k ∙ ap (λ b. cond b cs (kept.sessions_at s k)) (eq-eqb k k refl))
       ∙ ap (λ x. cond (k == n) [] x) (now n) ∙ once_more (k == n) [] cs (kept.sessions_at s n)
     where
       now : (i : ℕ) → kept.sessions_at (kept.session_gone k (c ∷ cs) s) i ≡ cond (k == i) cs (kept.sessions_at s i)
@@ -162,8 +167,8 @@ module _ (k : ℕ) where
   -- ---- how many of each there are
 
   pub lengths_after_queue : (es : List QueueEntry) (s : kept.State) →
-      (length (kept.queue_gone k es s).clients ≡ length s.clients) × (length (kept.queue_gone k es s).places ≡ length s.places) × (length (kept.queue_gone k es s).queues ≡ length s.queues)
-      × (length (kept.queue_gone k es s).sent ≡ length s.sent)
+      (length (kept.queue_gone k es s).clients ≡ length s.clients) × (length (kept.queue_gone k es s).places ≡ length s.places)
+      × (length (kept.queue_gone k es s).queues ≡ length s.queues) × (length (kept.queue_gone k es s).sent ≡ length s.sent)
   lengths_after_queue [] s = (refl, refl, refl, refl)
   lengths_after_queue (Connect d ∷ es) s = grind (arith, nat_tests, lengths_after_queue es, length-set s.clients d Unconnected, length-set s.queues k es)
   lengths_after_queue (Message m ∷ es) s =
@@ -171,8 +176,8 @@ module _ (k : ℕ) where
       (r.0, r.1 ∙ length-set s.places m Free, r.2 ∙ length-set s.queues k es, r.3 ∙ length-map s.sent (λ ms. filter (λ n. not (n == m)) ms))
   lengths_after_queue (Close d ∷ es) s = grind (arith, nat_tests, lengths_after_queue es, length-set s.queues k es)
 
-  pub lengths_after_sessions : (cs : List ℕ) (s : kept.State) →
-      (length (kept.sessions_gone k cs s).clients ≡ length s.clients) × (length (kept.sessions_gone k cs s).sessions ≡ length s.sessions) × (length (kept.sessions_gone k cs s).sent ≡ length s.sent)
+  pub lengths_after_sessions : (cs : List ℕ) (s : kept.State) → (length (kept.sessions_gone k cs s).clients ≡ length s.clients)
+      × (length (kept.sessions_gone k cs s).sessions ≡ length s.sessions) × (length (kept.sessions_gone k cs s).sent ≡ length s.sent)
   lengths_after_sessions [] s = (refl, refl, refl)
   lengths_after_sessions (c ∷ cs) s =
       grind (arith, nat_tests, lengths_after_sessions cs, length-set s.clients c, length-set s.sessions k cs, length-set s.sent c)

@@ -61,16 +61,19 @@ module _ (p : Image) (depth heights : ℕ → ℕ) where
       same_run : (i : Item) (m : ℕ) → RunsBy p cs' i (length items) m → RunsBy p cs i (length items) m
       same_run x m e = grind arith
 
-  same_going : (cs cs' : List Cell) (ts : List Task) → ((k : ℕ) → k < length (Destroy ∷ ts) → held cs' (Going k) ≡ held cs (Going k)) → GoesUnder p depth cs ts → GoesUnder p depth cs' ts
+  same_going : (cs cs' : List Cell) (ts : List Task) → ((k : ℕ) → k < length (Destroy ∷ ts) → held cs' (Going k) ≡ held cs (Going k)) →
+      GoesUnder p depth cs ts → GoesUnder p depth cs' ts
   same_going cs cs' ts same w m e = w m (subst (λ o. Destructs p o m) (same (length ts) (omega arith)) e)
 
   -- below one task less
   fewer : (cs cs' : List Cell) (n d : ℕ) → SameBelow cs cs' n (suc d) → SameBelow cs cs' n d
   fewer cs cs' n d same = (same.0, λ k lt. same.1 k (omega (arith, lt)))
 
-  all_same : (cs cs' : List Cell) (items : List Item) (ts : List Task) → SameBelow cs cs' (length items) (length ts) → AllRunUnder p depth cs items ts → AllRunUnder p depth cs' items ts
+  all_same : (cs cs' : List Cell) (items : List Item) (ts : List Task) → SameBelow cs cs' (length items) (length ts) → AllRunUnder p depth cs items ts →
+      AllRunUnder p depth cs' items ts
   all_same cs cs' items [] same w = tt
-  all_same cs cs' items (Run fr ∷ ts) same w = (same_runs cs cs' fr.height (depth fr.method) items same.0 w.0, all_same cs cs' items ts (fewer cs cs' (length items) (length ts) same) w.1)
+  all_same cs cs' items (Run fr ∷ ts) same w =
+      (same_runs cs cs' fr.height (depth fr.method) items same.0 w.0, all_same cs cs' items ts (fewer cs cs' (length items) (length ts) same) w.1)
   all_same cs cs' items (Destroy ∷ ts) same w = (same_going cs cs' ts same.1 w.0, all_same cs cs' items ts (fewer cs cs' (length items) (length ts) same) w.1)
   all_same cs cs' items (Closing ∷ ts) same w = (w.0, all_same cs cs' items ts (fewer cs cs' (length items) (length ts) same) w.1)
   all_same cs cs' items (_ ∷ ts) same w = all_same cs cs' items ts (fewer cs cs' (length items) (length ts) same) w
@@ -110,7 +113,8 @@ module _ (p : Image) (depth heights : ℕ → ℕ) where
   pushed_runs : (cs : List Cell) (i : Item) (items : List Item) (ts : List Task) → AllUnder depth ts →
       ((m : ℕ) → RunsBy p cs i (length items) m → IsUnder depth (depth m) ts) → AllRunUnder p depth cs items ts → AllRunUnder p depth cs (i ∷ items) ts
   pushed_runs cs i items [] u h w = tt
-  pushed_runs cs i items (Run fr ∷ ts) u h w = ((λ le m e. h m e, w.0), pushed_runs cs i items ts u.1 (λ m e. under_less (depth m) (depth fr.method) ts (h m e) u.0) w.1)
+  pushed_runs cs i items (Run fr ∷ ts) u h w =
+      ((λ le m e. h m e, w.0), pushed_runs cs i items ts u.1 (λ m e. under_less (depth m) (depth fr.method) ts (h m e) u.0) w.1)
   pushed_runs cs i items (Destroy ∷ ts) u h w = (w.0, pushed_runs cs i items ts u h w.1)
   pushed_runs cs i items (Closing ∷ ts) u h w = (w.0, pushed_runs cs i items ts u h w.1)
   pushed_runs cs i items (_ ∷ ts) u h w = pushed_runs cs i items ts u h w

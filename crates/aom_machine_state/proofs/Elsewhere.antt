@@ -55,7 +55,8 @@ module _ (p : Image) (t : Typing) (s : State) (w : WellTyped p t s) (fit : Clien
   waits_well : (n m : ℕ) → has_message (service_of s.cells n) m ≡ true → (x : Object) × (held s.cells (waiting n m) ≡ Some x)
   waits_well n m has = grind (arith, nat_tests, own_held p, waits_as n m (Own A_message Ready), named_name s.cells n, service_unnamed s.cells n)
 
-  pub queued_shows : (k : kept.State) → SameClients k s.cells s.clients → (n m : ℕ) → cond (list_any (is_numbered m) (queue_at k n)) m null ≡ number (held s.cells (Elsewhere (Queued n m)))
+  pub queued_shows : (k : kept.State) → SameClients k s.cells s.clients → (n m : ℕ) →
+      cond (list_any (is_numbered m) (queue_at k n)) m null ≡ number (held s.cells (Elsewhere (Queued n m)))
   queued_shows k same n m = grind (arith, nat_tests, numbered_asked k.places m, waits_well n m, fits_unowning p, waits_as n m Null)
 
 -- ---- the sessions of clients
@@ -71,9 +72,9 @@ abbrev pub ShowSame : kept.State → kept.State → Type 0
 ShowSame s s' = (n m : ℕ) → list_any (is_numbered m) (queue_at s' n) ≡ list_any (is_numbered m) (queue_at s n)
 
 -- so a place of a session alone has another number
-session_written : (others : Others) (s' : kept.State) (c k x : ℕ) →
-    ((n d : ℕ) → session_with n (client_at s' d) ≡ cond ((k == n) && (c == d)) x (session_with n (client_at others.clients d))) → ShowSame others.clients s'
-    → (us : List Machine_task) (h : Heap) (es : List Item) (r : Place) → value_in us h es (record others { clients = s' }) r ≡ changed (value_in us h es others) (Elsewhere (Session k c)) x r
+session_written : (others : Others) (s' : kept.State) (c k x : ℕ) → ((n d : ℕ) → session_with n (client_at s' d)
+    ≡ cond ((k == n) && (c == d)) x (session_with n (client_at others.clients d))) → ShowSame others.clients s' → (us : List Machine_task) (h : Heap)
+    (es : List Item) (r : Place) → value_in us h es (record others { clients = s' }) r ≡ changed (value_in us h es others) (Elsewhere (Session k c)) x r
 session_written others s' c k x sessions queues us h es r = elsewhere_written us h es others (record others { clients = s' }) (Session k c) x other r
   where
     other : (o : Other) → other_in (record others { clients = s' }) o ≡ changed (value_in us h es others) (Elsewhere (Session k c)) x (Elsewhere o)
@@ -82,8 +83,8 @@ session_written others s' c k x sessions queues us h es r = elsewhere_written us
     other _ = refl
 
 -- the same is shown where no message goes
-shows_filtered : (stays : QueueEntry → Bool) (m : ℕ) →
-    ((e : QueueEntry) → stays e ≡ false → is_numbered m e ≡ false) → (es : List QueueEntry) → list_any (is_numbered m) (filter stays es) ≡ list_any (is_numbered m) es
+shows_filtered : (stays : QueueEntry → Bool) (m : ℕ) → ((e : QueueEntry) → stays e ≡ false → is_numbered m e ≡ false) → (es : List QueueEntry) →
+    list_any (is_numbered m) (filter stays es) ≡ list_any (is_numbered m) es
 shows_filtered stays m apart [] = refl
 shows_filtered stays m apart (e ∷ es) = grind (arith, nat_tests, shows_filtered stays m apart es)
 
@@ -124,7 +125,8 @@ module _ (others : Others) (us : List Machine_task) (h : Heap) (es : List Item) 
       here n = ap (λ x. cond (k == n) x null) told ∙ ap (λ x. cond (k == n) session (session_with n x)) (sym was)
 
       queues : ShowSame s then
-      queues n m = ap (list_any (is_numbered m)) (get_or-map (filter (kept.is_no_connect_of c)) s.queues n []) ∙ shows_filtered (kept.is_no_connect_of c) m (no_connect_shows c m) (queue_at s n)
+      queues n m = ap (list_any (is_numbered m)) (get_or-map (filter (kept.is_no_connect_of c)) s.queues n [])
+          ∙ shows_filtered (kept.is_no_connect_of c) m (no_connect_shows c m) (queue_at s n)
 
   -- the cell of a session is at hand to go
   pub session_released : server_of (client_at s c) ≡ Some k → (r : Place) → after (kept.after_release c s) r ≡ changed before (Elsewhere (Session k c)) null r
@@ -150,20 +152,23 @@ module _ (others : Others) (us : List Machine_task) (h : Heap) (es : List Item) 
       then = kept.opened (Connecting k slots) None c s
 
       queues : ShowSame s then
-      queues n m = ap (list_any (is_numbered m)) (get_or-map (filter (kept.is_no_connect_of c)) s.queues n []) ∙ shows_filtered (kept.is_no_connect_of c) m (no_connect_shows c m) (queue_at s n)
+      queues n m = ap (list_any (is_numbered m)) (get_or-map (filter (kept.is_no_connect_of c)) s.queues n [])
+          ∙ shows_filtered (kept.is_no_connect_of c) m (no_connect_shows c m) (queue_at s n)
 
   -- a close is served, once the cell of the session is at hand to go
   pub session_closed : is_leaving k (client_at s c) ≡ true → session_with k (client_at s c) ≡ null → (r : Place) → after (kept.after_closed c s) r ≡ before r
   session_closed leaves none r = go (client_at s c) refl leaves none
     where
       queues : (to : Client) → ShowSame s (kept.parted c to s)
-      queues to n m = ap (list_any (is_numbered m)) (get_or-map (filter (kept.is_no_close_of c)) s.queues n []) ∙ shows_filtered (kept.is_no_close_of c) m (no_close_shows c m) (queue_at s n)
+      queues to n m = ap (list_any (is_numbered m)) (get_or-map (filter (kept.is_no_close_of c)) s.queues n [])
+          ∙ shows_filtered (kept.is_no_close_of c) m (no_close_shows c m) (queue_at s n)
 
       both_null : (b : Bool) → cond b null null ≡ null
       both_null true = refl
       both_null false = refl
 
-      gone : (server session : ℕ) → (server == k) ≡ true → cond (server == k) (session_number session) null ≡ null → (n : ℕ) → null ≡ cond (server == n) (session_number session) null
+      gone : (server session : ℕ) → (server == k) ≡ true → cond (server == k) (session_number session) null ≡ null → (n : ℕ) →
+          null ≡ cond (server == n) (session_number session) null
       gone server session it e n = sym (ap (λ x. cond (server == n) x null) (sym (ap (λ b. cond b (session_number session) null) it) ∙ e) ∙ both_null (server == n))
 
       go : (x : Client) → client_at s c ≡ x → is_leaving k x ≡ true → session_with k x ≡ null → after (kept.ended x c s) r ≡ before r
@@ -176,10 +181,10 @@ module _ (others : Others) (us : List Machine_task) (h : Heap) (es : List Item) 
 -- ---- a queue
 
 -- the queue of a server is another, by which one message comes or goes
-queue_written : (others : Others) (s' : kept.State) (k m x : ℕ) (to : List QueueEntry) → ((n d : ℕ) →
-    session_with n (client_at s' d) ≡ session_with n (client_at others.clients d)) → ((n : ℕ) → queue_at s' n ≡ cond (k == n) to (queue_at others.clients n))
-    → ((j : ℕ) → cond (list_any (is_numbered j) to) j null ≡ cond (m == j) x (cond (list_any (is_numbered j) (queue_at others.clients k)) j null))
-    → (us : List Machine_task) (h : Heap) (es : List Item) (r : Place) → value_in us h es (record others { clients = s' }) r ≡ changed (value_in us h es others) (Elsewhere (Queued k m)) x r
+queue_written : (others : Others) (s' : kept.State) (k m x : ℕ) (to : List QueueEntry) → ((n d : ℕ) → session_with n (client_at s' d) ≡ session_with n
+    (client_at others.clients d)) → ((n : ℕ) → queue_at s' n ≡ cond (k == n) to (queue_at others.clients n)) → ((j : ℕ) → cond (list_any (is_numbered j) to)
+    j null ≡ cond (m == j) x (cond (list_any (is_numbered j) (queue_at others.clients k)) j null)) → (us : List Machine_task) (h : Heap) (es : List Item)
+    (r : Place) → value_in us h es (record others { clients = s' }) r ≡ changed (value_in us h es others) (Elsewhere (Queued k m)) x r
 queue_written others s' k m x to sessions at here us h es r = elsewhere_written us h es others (record others { clients = s' }) (Queued k m) x other r
   where
     number_at : List QueueEntry → ℕ → ℕ
@@ -205,8 +210,9 @@ pub message_taken : (others : Others) (k m : ℕ) (rest : List QueueEntry) → k
 message_taken others k m rest small first once us h es r = grind (arith, nat_tests, queue_written others, at_set, eqb-true)
 
 -- anything else that is first is no message
-pub entry_taken : (others : Others) (k : ℕ) (e : QueueEntry) (rest : List QueueEntry) → k < length others.clients.queues → queue_at others.clients k ≡ e ∷ rest → ((j : ℕ) → is_numbered j e ≡ false)
-    → (us : List Machine_task) (h : Heap) (es : List Item) (r : Place) → value_in us h es (record others { clients = kept.after_next k others.clients }) r ≡ value_in us h es others r
+pub entry_taken : (others : Others) (k : ℕ) (e : QueueEntry) (rest : List QueueEntry) → k < length others.clients.queues →
+    queue_at others.clients k ≡ e ∷ rest → ((j : ℕ) → is_numbered j e ≡ false) → (us : List Machine_task) (h : Heap) (es : List Item) (r : Place) →
+    value_in us h es (record others { clients = kept.after_next k others.clients }) r ≡ value_in us h es others r
 entry_taken others k e rest small first none us h es r = grind (arith, nat_tests, eq-eqb, eqb-true k, at_set)
 
 -- ---- where many messages come or go at once: what is no message in a queue is as it was

@@ -57,7 +57,8 @@ pub value_popped : (us : List Machine_task) (h : Heap) (es : List Machine_item) 
 value_popped us h es others n d deep x = grind (arith, nat_tests, entry_past es, eqb-true d)
 
 -- what it owns is found there
-pub top_value : (us : List Machine_task) (h : Heap) (es : List Machine_item) (others : Others) (n d : ℕ) → length es ≡ d → value_in us h (Holds_object n ∷ es) others (Entry d) ≡ n
+pub top_value : (us : List Machine_task) (h : Heap) (es : List Machine_item) (others : Others) (n d : ℕ) → length es ≡ d →
+    value_in us h (Holds_object n ∷ es) others (Entry d) ≡ n
 top_value us h es others n d deep = ap (λ b. cond b n (entry_in es d)) (eq-eqb (length es) d deep)
 
 some_entry : (js : List Item) (k : ℕ) → is_some (entry_at js k) ≡ true → 0 < length js
@@ -70,7 +71,8 @@ less : (n : ℕ) → suc n - suc zero ≡ n
 less n = omega arith
 
 -- an entry that is counted from the last
-pub entry_number : (is : List Machine_item) (js : List Item) (k n : ℕ) → SameItems is js → is_some (entry_at js k) ≡ true → n ≡ length js - suc k → number_in (item_at is k) ≡ entry_in is n
+pub entry_number : (is : List Machine_item) (js : List Item) (k n : ℕ) → SameItems is js → is_some (entry_at js k) ≡ true → n ≡ length js - suc k →
+    number_in (item_at is k) ≡ entry_in is n
 entry_number (i ∷ is) (An_object ∷ js) zero n same some at = last_number i is n (same_items_length is js same.1 ∙ sym (at ∙ less (length js)))
 entry_number (i ∷ is) (An_operation m w ∷ js) zero n same some at = last_number i is n (same_items_length is js same.1 ∙ sym (at ∙ less (length js)))
 entry_number (i ∷ is) (An_object ∷ js) (suc k) n same some at =

@@ -33,12 +33,14 @@ cell_without : (cs : List Cell) (q : Owner) (n : ℕ) → Tidy cs → cell_of (w
 cell_without cs q n tidy = grind (arith, nat_tests, cell_of, without_so q cs, cell_of_sifted)
 
 -- what is there then was there, and was at another place
-before_without : (cs : List Cell) (q : Owner) (n : ℕ) (y : Cell) → Tidy cs → cell_of (without q cs) n ≡ Some y → (cell_of cs n ≡ Some y) × (same_place y.owner q ≡ false)
+before_without : (cs : List Cell) (q : Owner) (n : ℕ) (y : Cell) → Tidy cs → cell_of (without q cs) n ≡ Some y →
+    (cell_of cs n ≡ Some y) × (same_place y.owner q ≡ false)
 before_without cs q n y tidy e = grind (arith, nat_tests, cell_of cs n, cell_without cs q n tidy, left_cell)
 
 -- ---- some go that are messages
 
-count_without : (cs : List Cell) (x : Cell) (n : ℕ) → Tidy cs → cell_of cs n ≡ Some x → is_object x.object.thing ≡ false → count_messages cs ≡ suc (count_messages (without x.owner cs))
+count_without : (cs : List Cell) (x : Cell) (n : ℕ) → Tidy cs → cell_of cs n ≡ Some x → is_object x.object.thing ≡ false →
+    count_messages cs ≡ suc (count_messages (without x.owner cs))
 count_without cs x n tidy e message = go cs tidy (cell_placed cs n x tidy e)
   where
     step : (b : Bool) (a c : ℕ) → a ≡ suc c → cond b a (suc a) ≡ suc (cond b c (suc c))
@@ -46,8 +48,8 @@ count_without cs x n tidy e message = go cs tidy (cell_placed cs n x tidy e)
     step false a c e = ap suc e
 
     by : (c : Cell) (cs : List Cell) → Tidy (c ∷ cs) → (b : Bool) → same_place c.owner x.owner ≡ b →
-        cond b (Some c) (cell_in cs x.owner) ≡ Some x → (cell_in cs x.owner ≡ Some x → count_messages cs ≡ suc (count_messages (without x.owner cs))) →
-        cond (is_object c.object.thing) (count_messages cs) (suc (count_messages cs)) ≡ suc (count_messages (cond b (without x.owner cs) (c ∷ without x.owner cs)))
+        cond b (Some c) (cell_in cs x.owner) ≡ Some x → (cell_in cs x.owner ≡ Some x → count_messages cs ≡ suc (count_messages (without x.owner cs))) → cond
+        (is_object c.object.thing) (count_messages cs) (suc (count_messages cs)) ≡ suc (count_messages (cond b (without x.owner cs) (c ∷ without x.owner cs)))
     by c cs tidy true f e rest =
         let one : c ≡ x = cc in
         ap (λ b. cond b (count_messages cs) (suc (count_messages cs))) (ap (λ (y : Cell). is_object y.object.thing) one ∙ message)
@@ -110,10 +112,12 @@ module _ (drops : Cell → Bool) (f : Cell → Service) where
               go true g =
                   let one : Some y ≡ Some x = sym (cell_placed cs (message_name j) y tidy e) ∙ ap (cell_in cs) (same_place-true y.owner x.owner g) ∙ placed in
                   let cell : y ≡ x = cc in
-                  let names : message_name m ≡ message_name j = sym (cell_name cs (message_name m) x w.1) ∙ ap (λ (z : Cell). z.object.name) (sym cell) ∙ cell_name cs (message_name j) y e in
+                  let names : message_name m ≡ message_name j = sym (cell_name cs (message_name m) x w.1) ∙ ap (λ (z : Cell). z.object.name) (sym cell)
+                  ∙ cell_name cs (message_name j) y e in
                   absurd (false≢true (sym other ∙ eq-eqb m j (omega (arith, names))))
 
-          goes : (j : ℕ) → is_among j ms ≡ true → (y : Cell) × (cell_of (without x.owner cs) (message_name j) ≡ Some y) × (drops y ≡ true) × (is_object y.object.thing ≡ false)
+          goes : (j : ℕ) → is_among j ms ≡ true → (y : Cell) × (cell_of (without x.owner cs) (message_name j) ≡ Some y) × (drops y ≡ true)
+              × (is_object y.object.thing ≡ false)
           goes j h =
               let y = forgets.goes j (later (m == j) (is_among j ms) h) in (
                 y.0,
@@ -133,7 +137,8 @@ module _ (drops : Cell → Bool) (f : Cell → Service) where
               let g = forgets.gone n y b.0 h in
               (g.0, g.1, by g.0 (m == g.0) refl g.1 b.0 b.1 g.2)
             where
-              by : (j : ℕ) (b : Bool) → (m == j) ≡ b → n ≡ message_name j → cell_of cs n ≡ Some y → same_place y.owner x.owner ≡ false → (b || is_among j ms) ≡ true → is_among j ms ≡ true
+              by : (j : ℕ) (b : Bool) → (m == j) ≡ b → n ≡ message_name j → cell_of cs n ≡ Some y → same_place y.owner x.owner ≡ false →
+                  (b || is_among j ms) ≡ true → is_among j ms ≡ true
               by j false e name at other h = h
               by j true e name at other h =
                   let one : Some x ≡ Some y = sym w.1 ∙ ap (λ i. cell_of cs (message_name i)) (eqb-true m j e) ∙ ap (cell_of cs) (sym name) ∙ at in

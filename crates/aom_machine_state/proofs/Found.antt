@@ -8,17 +8,14 @@ use Rattle.std.proofs.lemmas.List.Elements.{All-from_get_or}
 use Rattle.std.proofs.lemmas.List.Folds.{list_any_at, list_any_none}
 use Rattle.std.proofs.lemmas.List.Sorted.{list_any-IsPermutation, searched}
 
-ordered_found : (xs : List ℕ) (x : ℕ) (r : Result ℕ ℕ)
-    → MatchResult r (λ i. (i < length xs) × (get_or xs i 0 ≡ x)) (λ i. (i ≤ length xs) × ((k : ℕ) → k < i → get_or xs k 0 < x) × ((k : ℕ) → i ≤ k → k < length xs → x < get_or xs k 0))
-    → is_ok r ≡ list_any (λ n. n == x) xs
+ordered_found : (xs : List ℕ) (x : ℕ) (r : Result ℕ ℕ) → MatchResult r (λ i. (i < length xs) × (get_or xs i 0 ≡ x))
+    (λ i. (i ≤ length xs) × ((k : ℕ) → k < i → get_or xs k 0 < x) × ((k : ℕ) → i ≤ k → k < length xs → x < get_or xs k 0)) → is_ok r ≡ list_any (λ n. n == x) xs
 ordered_found xs x (Ok i) h = sym (list_any_at (λ n. n == x) xs i 0 h.0 (eq-eqb (get_or xs i 0) x h.1))
 ordered_found xs x (Err i) h =
-    let apart : (k : ℕ) → k < length xs → get_or xs k 0 ≡ x → ⊥ = λ k within is.
-    elim (cases_lt k i) [
+    let apart : (k : ℕ) → k < length xs → get_or xs k 0 ≡ x → ⊥ = λ k within is. elim (cases_lt k i) [
       | inr past ↦ let above = h.2 k past within in omega arith
       | inl before ↦ let below = h.1 k before in omega arith
-    ]
-    in
+    ] in
     sym (list_any_none (λ n. n == x) xs (All-from_get_or (λ n. (n == x) ≡ false) xs 0 (λ k within. ne_eqb (get_or xs k 0) x (apart k within))))
 
 pub found : (numbers ordered : List ℕ) (x : ℕ) (r : Result ℕ ℕ) →

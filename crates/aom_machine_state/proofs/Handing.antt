@@ -1,4 +1,5 @@
--- A token is handed out: one more message, which clients have nothing of, and a request that waits for it; all that the machine keeps goes on standing for the cells.
+-- A token is handed out: one more message, which clients have nothing of, and a request that waits for it; all that the machine keeps goes on standing for the
+-- cells.
 use Rattle.std.proofs.lemmas.Bool.Decides.{nat_tests}
 use Rattle.std.proofs.Common.{List, None, Option, Some, [], ap, arith, cond, false, refl, sym, ℕ, pos, ◌+◌, ◌<◌, ◌==◌, ◌≤◌, ◌∙◌, ◌≡◌}
 use Rattle.std.specs.Prelude.{is_some, option_map}

@@ -18,7 +18,8 @@ use Rattle.aom_machine_state.proofs.Depths.{AllLow, below_all, below_pushed}
 use Rattle.aom_roles.specs.Things.{holder_of}
 
 -- each method at hand began within the items of its layers
-low_stack : (p : Image) (t : Typing) (cs : List Cell) (back : Back) (ls : List Layer) (n : ℕ) → Stack p t cs back ls → length (items_of ls) ≤ n → AllLow n (tasks_of ls)
+low_stack : (p : Image) (t : Typing) (cs : List Cell) (back : Back) (ls : List Layer) (n : ℕ) → Stack p t cs back ls →
+    length (items_of ls) ≤ n → AllLow n (tasks_of ls)
 low_stack p t cs back [] n s le = tt
 low_stack p t cs back (Method fr sh ∷ ls) n s le = grind (arith, nat_tests, length_objects sh.entries, low_stack p t cs (Returns fr.method fr.home) ls n s.4)
 low_stack p t cs back (Mark gv ∷ ls) n s le = low_stack p t cs (Caught gv) ls n s.1 (omega (arith, le))
@@ -52,7 +53,8 @@ pub record Stands_here (p : Image) (t : Typing) (s : State) (fr : Frame) (ts : L
   pub free : held s.cells (Entry (length s.items)) ≡ None
 
 pub stands_here : (p : Image) (t : Typing) (s : State) (fr : Frame) (ts : List Task) → WellTyped p t s → s.tasks ≡ Run fr ∷ ts → Stands_here p t s fr ts
-stands_here p t s fr ts w at = method_layer (λ ls. (forms s.items ≡ items_of ls) × (Good p t s.cells ls)) fr ts w.layers (sym w.tasks ∙ at) (w.items, w.good) (λ sh ls under h.
+stands_here p t s fr ts w at =
+    method_layer (λ ls. (forms s.items ≡ items_of ls) × (Good p t s.cells ls)) fr ts w.layers (sym w.tasks ∙ at) (w.items, w.good) (λ sh ls under h.
     let high : fr.height ≡ length (items_of ls) = h.1.stack.1.height in
     let deep : length s.items ≡ length (items_of (Method fr sh ∷ ls)) = sym (length_forms s.items) ∙ ap length h.0 in
     let none = claim_entry_above p s.cells (Method fr sh ∷ ls) (length s.items) (omega (arith, deep)) in
@@ -67,7 +69,8 @@ stands_here p t s fr ts w at = method_layer (λ ls. (forms s.items ≡ items_of 
       low = subst (λ us. AllLow fr.height us) under (low_stack p t s.cells (Returns fr.method fr.home) ls fr.height h.1.stack.4 (omega (arith, high)));
       low_under = grind (arith, nat_tests, low_under p t s.cells (Returns fr.method fr.home) ls h.1.stack.4);
       fits = λ a. subst (λ us. Fits p (seen s.cells) (held s.cells (Register (length us) a)) (register sh a)) under (register_fits p s.cells fr sh ls h.1.fits a);
-      free = fits_unowning p (seen s.cells) _ Null refl (subst (λ k. Fits p (seen s.cells) (held s.cells (Entry (length s.items))) k) none (h.1.fits (Entry (length s.items))));
+      free = fits_unowning p (seen s.cells) _ Null refl
+          (subst (λ k. Fits p (seen s.cells) (held s.cells (Entry (length s.items))) k) none (h.1.fits (Entry (length s.items))));
     })
 
 -- the items over a height are a method's own entries
@@ -76,7 +79,8 @@ one_more : (es : List CleanupEntry) (below : List Form) (i : Item) (items : List
     entries_in (i ∷ items) ≡ suc (length es) + entries_in (below_height (length below) (i ∷ items))
 one_more es below i items one same h = grind (arith, nat_tests, below_pushed, below, items, length_forms items, length_objects es below)
 
-pub own_entries : (es : List CleanupEntry) (below : List Form) (items : List Item) → forms items ≡ objects es below → entries_in items ≡ length es + entries_in (below_height (length below) items)
+pub own_entries : (es : List CleanupEntry) (below : List Form) (items : List Item) → forms items ≡ objects es below →
+    entries_in items ≡ length es + entries_in (below_height (length below) items)
 own_entries [] below items e = grind (arith, nat_tests, below_all, below, items, length_forms items)
 own_entries (Pushed_object c a ∷ es) below (An_object ∷ items) e =
     let same : forms items ≡ objects es below = cc in

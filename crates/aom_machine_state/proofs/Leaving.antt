@@ -39,8 +39,8 @@ use Rattle.aom_machine_state.specs.Serving.{Once, SameClients, asked_by, holds, 
 
 -- once the messages at these places are kept no more, what was kept for the cells before is kept for those after
 abbrev Taking : Image → List ℕ → List Cell → List Cell → Type 0
-Taking p ms was left = (before after : Store) → ((m : ℕ) → is_among m ms ≡ true → message_at after m ≡ None) → ((m : ℕ) → is_among m ms ≡ false → message_at after m ≡ message_at before m) →
-    after.limit ≡ before.limit → count after + length ms ≡ count before → SameMessages p before was → SameMessages p after left
+Taking p ms was left = (before after : Store) → ((m : ℕ) → is_among m ms ≡ true → message_at after m ≡ None) → ((m : ℕ) → is_among m ms ≡ false → message_at
+    after m ≡ message_at before m) → after.limit ≡ before.limit → count after + length ms ≡ count before → SameMessages p before was → SameMessages p after left
 
 -- ---- places
 
@@ -64,23 +64,27 @@ once_filtered test [] once = tt
 once_filtered test (m ∷ ms) once = grind (arith, nat_tests, once_filtered test ms once.1, among_filtered test ms m)
 
 -- no message waits twice
-once_asked : (clients : List Client) (n : ℕ) (places : List MessagePlace) (es : List QueueEntry) → QueueFits clients n (map (asked_by places) es) → Once (places_in es)
+once_asked : (clients : List Client) (n : ℕ) (places : List MessagePlace) (es : List QueueEntry) →
+    QueueFits clients n (map (asked_by places) es) → Once (places_in es)
 once_asked clients n places [] fits = tt
 once_asked clients n places (Message m ∷ es) fits = (among_places es m ∙ sym (asks_message places es m) ∙ fits.0.1, once_asked clients n places es fits.1)
 once_asked clients n places (_ ∷ es) fits = once_asked clients n places es fits.1
 
 -- ---- what goes
 
-module _ (p : Image) (t : Typing) (wired : IsWired p) (s : State) (w : WellTyped p t s) (fit : ClientsFit p s.clients s.cells) (k : kept.State) (same : SameClients k s.cells s.clients) where
+module _ (p : Image) (t : Typing) (wired : IsWired p) (s : State) (w : WellTyped p t s) (fit : ClientsFit p s.clients s.cells) (k : kept.State)
+    (same : SameClients k s.cells s.clients) where
   -- what a queue owns is a message
   waiting_message : (n : ℕ) (x : Cell) → cell_of s.cells n ≡ Some x → is_queue x.owner ≡ true → is_object x.object.thing ≡ false
   waiting_message n x e h =
       let q = queue_owner x.owner h in
-      let there : held s.cells (Elsewhere (Waits_at q.0 q.1)) ≡ Some x.object = ap (held s.cells) (sym q.2) ∙ held_cell s.cells x.owner ∙ ap object_in (cell_placed s.cells n x w.good.tidy e) in
+      let there : held s.cells (Elsewhere (Waits_at q.0 q.1)) ≡ Some x.object = ap (held s.cells) (sym q.2) ∙ held_cell s.cells x.owner
+      ∙ ap object_in (cell_placed s.cells n x w.good.tidy e) in
       ap is_object (queued_message p t wired s w q.0 q.1 x.object there)
 
   -- and its number is past those of cells
-  message_place : (before : Store) → SameMessages p before s.cells → (n : ℕ) (x : Cell) → cell_of s.cells n ≡ Some x → is_queue x.owner ≡ true → (m : ℕ) × (n ≡ message_name m)
+  message_place : (before : Store) → SameMessages p before s.cells → (n : ℕ) (x : Cell) → cell_of s.cells n ≡ Some x → is_queue x.owner ≡ true →
+      (m : ℕ) × (n ≡ message_name m)
   message_place before kept_so n x e h = go (cases_lt n (message_name 0))
     where
       go : (n < message_name 0) ⊎ (message_name 0 ≤ n) → (m : ℕ) × (n ≡ message_name m)
@@ -133,7 +137,8 @@ module _ (p : Image) (t : Typing) (wired : IsWired p) (s : State) (w : WellTyped
             ∙ ap (λ (v : Service). is_from c v.sender) (service_cell s.cells (message_name m.0) ∙ ap service_in cell) ∙ b.1 in
             (m.0, m.1, among_freed m.0 ∙ ap (λ y. y && is_among m.0 (kept.sent_at k c)) waits ∙ held_slot m.0 waits from)
           where
-            held_slot : (m : ℕ) → is_queued (kept.place_at k m) ≡ true → is_from c (sent_by (holds k m) (kept.place_at k m)) ≡ true → is_among m (kept.sent_at k c) ≡ true
+            held_slot : (m : ℕ) → is_queued (kept.place_at k m) ≡ true → is_from c (sent_by (holds k m) (kept.place_at k m)) ≡ true →
+                is_among m (kept.sent_at k c) ≡ true
             held_slot m h from =
                 let x = queued-of (kept.place_at k m) h in
                 same.slotted m c (x.1 ∙ ap Queued (eqb-true x.0 c (ap (λ y. is_from c (sent_by (holds k m) y)) (sym x.1) ∙ from)))
@@ -153,7 +158,8 @@ module _ (p : Image) (t : Typing) (wired : IsWired p) (s : State) (w : WellTyped
     waiting = places_in (kept.queue_at k n)
 
     asked_so : (m : ℕ) → is_among m waiting ≡ has_message (service_of s.cells n) (message_name m)
-    asked_so m = among_places (kept.queue_at k n) m ∙ sym (asks_message k.places (kept.queue_at k n) m) ∙ ap (λ q. list_any (is_message (message_name m)) q) (same.queues n)
+    asked_so m = among_places (kept.queue_at k n) m ∙ sym (asks_message k.places (kept.queue_at k n) m)
+        ∙ ap (λ q. list_any (is_message (message_name m)) q) (same.queues n)
 
     pub waiting_once : Once waiting
     waiting_once = grind (arith, nat_tests, once_asked s.clients n k.places)
@@ -161,10 +167,12 @@ module _ (p : Image) (t : Typing) (wired : IsWired p) (s : State) (w : WellTyped
     unqueues : (before : Store) → SameMessages p before s.cells → Forgets (λ x. is_queue_of n x.owner) (λ x. x.service) waiting s.cells
     unqueues before kept_so = record { goes = goes; gone = gone }
       where
-        goes : (m : ℕ) → is_among m waiting ≡ true → (x : Cell) × (cell_of s.cells (message_name m) ≡ Some x) × (is_queue_of n x.owner ≡ true) × (is_object x.object.thing ≡ false)
+        goes : (m : ℕ) → is_among m waiting ≡ true → (x : Cell) × (cell_of s.cells (message_name m) ≡ Some x) × (is_queue_of n x.owner ≡ true)
+            × (is_object x.object.thing ≡ false)
         goes m h =
             let y = waiting_there p t wired s w s.clients fit n (message_name m) (sym (asked_so m) ∙ h) in
-            let z = a_cell_of (cell_in s.cells (Elsewhere (Waits_at n (message_name m)))) y.0 (sym (held_cell s.cells (Elsewhere (Waits_at n (message_name m)))) ∙ y.1) in
+            let z = a_cell_of (cell_in s.cells (Elsewhere (Waits_at n (message_name m)))) y.0
+            (sym (held_cell s.cells (Elsewhere (Waits_at n (message_name m)))) ∙ y.1) in
             let place = cell_owner s.cells (Elsewhere (Waits_at n (message_name m))) z.0 z.1 in
             let here : is_queue_of n z.0.owner ≡ true = ap (is_queue_of n) place ∙ eq-eqb n n refl in
             let cell : cell_of s.cells (message_name m) ≡ Some z.0 = ap (cell_of s.cells) (sym (ap (λ (o : Object). o.name) z.2 ∙ y.2))
@@ -175,7 +183,8 @@ module _ (p : Image) (t : Typing) (wired : IsWired p) (s : State) (w : WellTyped
         gone i x e h =
             let m = message_place before kept_so i x e (queue_of_queue n x.owner h) in
             let q = queue_of_owner n x.owner h in
-            let there : held s.cells (Elsewhere (Waits_at n q.0)) ≡ Some x.object = ap (held s.cells) (sym q.1) ∙ held_cell s.cells x.owner ∙ ap object_in (cell_placed s.cells i x w.good.tidy e) in
+            let there : held s.cells (Elsewhere (Waits_at n q.0)) ≡ Some x.object = ap (held s.cells) (sym q.1) ∙ held_cell s.cells x.owner
+            ∙ ap object_in (cell_placed s.cells i x w.good.tidy e) in
             let a = asked_there p t wired s w s.clients fit n q.0 x.object there in
             (m.0, m.1, asked_so m.0 ∙ ap (has_message (service_of s.cells n)) (sym m.1 ∙ sym (cell_name s.cells i x e) ∙ a.0) ∙ a.1)
 
@@ -208,11 +217,12 @@ module _ (p : Image) (t : Typing) (wired : IsWired p) (s : State) (w : WellTyped
 
   gone_message : (before : Store) → SameMessages p before s.cells →
       (n : ℕ) (x : Cell) → cell_of s.cells n ≡ Some x → is_queue x.owner ≡ true → (4096 ≤ n) × (is_object x.object.thing ≡ false) × (x.request ≡ None)
-  gone_message before kept_so n x e h = let m = message_place before kept_so n x e h in let name = m.1 in (omega (arith, name), waiting_message n x e h, waiting_unasked n x e h)
+  gone_message before kept_so n x e h = let m = message_place before kept_so n x e h in let name = m.1 in
+      (omega (arith, name), waiting_message n x e h, waiting_unasked n x e h)
 
   pub beside_withdrawn : (before : Store) → SameMessages p before s.cells → (c : ℕ) → Beside s.cells (withdrawn c s.cells)
-  beside_withdrawn before kept_so c = subst (Beside s.cells) (sym (withdrawn_so c s.cells))
-      (beside_sifted (drops c) (λ x. left_by c x.service) s.cells w.good.tidy (λ n x e h. gone_message before kept_so n x e (and_parts (is_queue x.owner) (is_from c x.service.sender) h).0))
+  beside_withdrawn before kept_so c = subst (Beside s.cells) (sym (withdrawn_so c s.cells)) (beside_sifted (drops c) (λ x. left_by c x.service) s.cells
+      w.good.tidy (λ n x e h. gone_message before kept_so n x e (and_parts (is_queue x.owner) (is_from c x.service.sender) h).0))
 
   pub beside_unqueued : (before : Store) → SameMessages p before s.cells → (n : ℕ) → Beside s.cells (without_queue n s.cells)
   beside_unqueued before kept_so n = subst (Beside s.cells) (sym (unqueued_so n s.cells))
@@ -241,14 +251,16 @@ module _ (p : Image) (t : Typing) (wired : IsWired p) (s : State) (w : WellTyped
   told_withdrawn c = grind (arith, nat_tests, Told_alike s.cells, withdrawn_so c s.cells, told_sifted, sent_untold, from_some c)
 
   pub told_unqueued : (before : Store) → SameMessages p before s.cells → (n : ℕ) → Told_alike s.cells (without_queue n s.cells)
-  told_unqueued before kept_so n = subst (Told_alike s.cells) (sym (unqueued_so n s.cells)) (told_sifted (λ x. is_queue_of n x.owner) (λ x. x.service) s.cells w.good.tidy none (λ x. refl))
+  told_unqueued before kept_so n =
+      subst (Told_alike s.cells) (sym (unqueued_so n s.cells)) (told_sifted (λ x. is_queue_of n x.owner) (λ x. x.service) s.cells w.good.tidy none (λ x. refl))
     where
       none : (i : ℕ) (x : Cell) → cell_of s.cells i ≡ Some x → is_queue_of n x.owner ≡ true → x.service.token ≡ None
       none i x e h =
           let m = (unqueues n before kept_so).gone i x e h in
           let c = asking (message_name m.0) (service_of s.cells n).queue (sym (asked_so n m.0) ∙ m.2) in
           let from = fit.senders n c.0 (message_name m.0) c.1 in
-          let its : service_of s.cells (message_name m.0) ≡ x.service = service_cell s.cells (message_name m.0) ∙ ap service_in (ap (cell_of s.cells) (sym m.1) ∙ e) in
+          let its : service_of s.cells (message_name m.0) ≡ x.service = service_cell s.cells (message_name m.0)
+          ∙ ap service_in (ap (cell_of s.cells) (sym m.1) ∙ e) in
           sent_untold i x e (queue_of_queue n x.owner h) (from_some c.0 x.service.sender (ap (λ (v : Service). is_from c.0 v.sender) (sym its) ∙ from))
 
   -- and what no queue owns

@@ -28,10 +28,12 @@ use Rattle.aom_machine_state.specs.Listing.{SameListed, is_listed, lists, order_
 abbrev Found : ℕ → List Cell → ℕ → Type 0
 Found class cs order = (x : Listed) × (first_listed class cs ≡ Some x) × (x.order ≤ order)
 
-earlier_least : (a : Listed) (others : Option Listed) (order : ℕ) → (a.order ≤ order) ⊎ ((x : Listed) × (others ≡ Some x) × (x.order ≤ order)) → (earlier a others).order ≤ order
+earlier_least : (a : Listed) (others : Option Listed) (order : ℕ) → (a.order ≤ order) ⊎ ((x : Listed) × (others ≡ Some x) × (x.order ≤ order)) →
+    (earlier a others).order ≤ order
 earlier_least a x order least = grind (arith, nat_tests, ltb-true, same_Some, ltb-false)
 
-found : (class : ℕ) (cs : List Cell) (n : ℕ) (o : Object) (r : Request) → named cs n ≡ Some o → requested cs n ≡ Some r → is_of_class class o.thing ≡ true → Found class cs r.order
+found : (class : ℕ) (cs : List Cell) (n : ℕ) (o : Object) (r : Request) → named cs n ≡ Some o → requested cs n ≡ Some r →
+    is_of_class class o.thing ≡ true → Found class cs r.order
 found class [] n o r is asked of = absurd (none-some _ is)
 found class (c ∷ cs) n o r is asked of = go (c.object.name == n) is asked (λ is asked. found class cs n o r is asked of)
   where
@@ -41,7 +43,8 @@ found class (c ∷ cs) n o r is asked of = go (c.object.name == n) is asked (λ 
         let me : Listed = record { name = c.object.name; order = r.order } in
         let mine : is_of_class class c.object.thing ≡ true = ap (λ (x : Object). is_of_class class x.thing) (same_Some _ _ is) ∙ of in (
           earlier me (first_listed class cs),
-          ap (λ q. among_listed class c.object q (first_listed class cs)) asked ∙ ap (λ b. cond b (Some (earlier me (first_listed class cs))) (first_listed class cs)) mine,
+          ap (λ q. among_listed class c.object q (first_listed class cs)) asked
+              ∙ ap (λ b. cond b (Some (earlier me (first_listed class cs))) (first_listed class cs)) mine,
           earlier_least me (first_listed class cs) r.order (inl (omega arith)),
         )
     go false is asked rest = by c.request refl (rest is asked)
@@ -53,8 +56,10 @@ found class (c ∷ cs) n o r is asked of = go (c.object.name == n) is asked (λ 
             me : Listed
             me = record { name = c.object.name; order = q.order }
 
-            listed : (b : Bool) → is_of_class class c.object.thing ≡ b → first_listed class (c ∷ cs) ≡ cond b (Some (earlier me (first_listed class cs))) (first_listed class cs)
-            listed b mine = ap (λ q. among_listed class c.object q (first_listed class cs)) e ∙ ap (λ b. cond b (Some (earlier me (first_listed class cs))) (first_listed class cs)) mine
+            listed : (b : Bool) → is_of_class class c.object.thing ≡ b →
+                first_listed class (c ∷ cs) ≡ cond b (Some (earlier me (first_listed class cs))) (first_listed class cs)
+            listed b mine = ap (λ q. among_listed class c.object q (first_listed class cs)) e
+                ∙ ap (λ b. cond b (Some (earlier me (first_listed class cs))) (first_listed class cs)) mine
 
             among : (b : Bool) → is_of_class class c.object.thing ≡ b → Found class (c ∷ cs) r.order
             among true mine = (earlier me (first_listed class cs), listed true mine, earlier_least me (first_listed class cs) r.order (inr f))
@@ -75,7 +80,8 @@ ordered class (c ∷ cs) x tidy e = by c.request refl e (λ e. ordered class cs 
         let other : (c.object.name == x.name) ≡ false = ne_eqb c.object.name x.name (λ same. none-some _ (sym tidy.1 ∙ ap (named cs) (same ∙ sym l.1) ∙ l.2)) in
         (r, ap (λ b. cond b c.request (requested cs x.name)) other ∙ asked, same)
 
-    by : (q : Option Request) → c.request ≡ q → among_listed class c.object q (first_listed class cs) ≡ Some x → (first_listed class cs ≡ Some x → OrderOf cs x) → OrderOf (c ∷ cs) x
+    by : (q : Option Request) → c.request ≡ q → among_listed class c.object q (first_listed class cs) ≡ Some x →
+        (first_listed class cs ≡ Some x → OrderOf cs x) → OrderOf (c ∷ cs) x
     by None is e rest = later e (rest e)
     by (Some q) is e rest = among (is_of_class class c.object.thing) e
       where
@@ -83,7 +89,8 @@ ordered class (c ∷ cs) x tidy e = by c.request refl e (λ e. ordered class cs 
         me = record { name = c.object.name; order = q.order }
 
         mine : Some me ≡ Some x → OrderOf (c ∷ cs) x
-        mine same = subst (OrderOf (c ∷ cs)) (same_Some _ _ same) (q, ap (λ b. cond b c.request (requested cs c.object.name)) (eq-eqb c.object.name c.object.name refl) ∙ is, refl)
+        mine same = subst (OrderOf (c ∷ cs)) (same_Some _ _ same)
+            (q, ap (λ b. cond b c.request (requested cs c.object.name)) (eq-eqb c.object.name c.object.name refl) ∙ is, refl)
 
         first : (others : Option Listed) → first_listed class cs ≡ others → Some (earlier me others) ≡ Some x → OrderOf (c ∷ cs) x
         first None same e = mine e
@@ -136,7 +143,8 @@ after_first f n ns m order among = go ns (λ i within. order 0 (suc i) 0 (omega 
         by false other e rest = rest e
 
 -- the first of the list of a class is whom a connect asks
-pub first_asked : (p : Image) (t : Table) (cs : List Cell) → Tidy cs → SameListed p t cs → (class : ℕ) → first_of (list_at t class) ≡ option_map (λ (x : Listed). x.name) (asked_server p class cs)
+pub first_asked : (p : Image) (t : Table) (cs : List Cell) → Tidy cs → SameListed p t cs → (class : ℕ) →
+    first_of (list_at t class) ≡ option_map (λ (x : Listed). x.name) (asked_server p class cs)
 first_asked p t cs tidy same class = go (list_at t class) (λ n. same.there n class) (same.order class)
   where
     order : ℕ → ℕ
@@ -148,10 +156,12 @@ first_asked p t cs tidy same class = go (list_at t class) (λ n. same.there n cl
         let r = ordered class cs x tidy e in
         listed_entry p cs class x.name l.0 r.0 (ap (named cs) (sym l.1) ∙ l.2) r.1 (serves_class p class l.0.thing l.3 ∙ serves) l.3
 
-    go : (ns : List ℕ) → ((n : ℕ) → is_among n ns ≡ is_listed p cs class n) → AllPairs (λ a b. order a < order b) ns → first_of ns ≡ option_map (λ (x : Listed). x.name) (asked_server p class cs)
+    go : (ns : List ℕ) → ((n : ℕ) → is_among n ns ≡ is_listed p cs class n) → AllPairs (λ a b. order a < order b) ns →
+        first_of ns ≡ option_map (λ (x : Listed). x.name) (asked_server p class cs)
     go [] there sorted = by (is_server p (An_object_of class)) refl (first_listed class cs) refl
       where
-        by : (b : Bool) → is_server p (An_object_of class) ≡ b → (l : Option Listed) → first_listed class cs ≡ l → None ≡ option_map (λ (x : Listed). x.name) (asked_server p class cs)
+        by : (b : Bool) → is_server p (An_object_of class) ≡ b → (l : Option Listed) → first_listed class cs ≡ l →
+            None ≡ option_map (λ (x : Listed). x.name) (asked_server p class cs)
         by b serves None e = sym (ap (λ l. option_map (λ (x : Listed). x.name) (cond (is_server p (An_object_of class)) l None)) e
             ∙ ap (λ b. option_map (λ (x : Listed). x.name) (cond b None None)) serves ∙ none b)
           where
@@ -170,7 +180,8 @@ first_asked p t cs tidy same class = go (list_at t class) (λ n. same.there n cl
         let has : order f.0.name ≡ f.0.order = ap order_in r.1 ∙ sym r.2 in
         let asked : option_map (λ (x : Listed). x.name) (asked_server p class cs) ≡ Some f.0.name =
         ap (λ b. option_map (λ (x : Listed). x.name) (cond b (first_listed class cs) None)) serves ∙ ap (λ l. option_map (λ (x : Listed). x.name) l) f.1 in
-        by (n == f.0.name) f.0.name refl (there f.0.name ∙ in_list f.0 f.1 serves) (λ among. let later = after_first order n ns f.0.name sorted among in omega (arith, later, low, is, has)) ∙ sym asked
+        by (n == f.0.name) f.0.name refl (there f.0.name ∙ in_list f.0 f.1 serves)
+        (λ among. let later = after_first order n ns f.0.name sorted among in omega (arith, later, low, is, has)) ∙ sym asked
       where
         by : (b : Bool) (m : ℕ) → (n == m) ≡ b → (b || is_among m ns) ≡ true → (is_among m ns ≡ true → ⊥) → Some n ≡ Some m
         by true m same e never = ap Some (eqb-true n m same)
@@ -183,7 +194,8 @@ pub listed_same : (p : Image) (t : Table) (cs ds : List Cell) → ((n class : �
     ((n : ℕ) → order_in (requested ds n) ≡ order_in (requested cs n)) → SameListed p t cs → SameListed p t ds
 listed_same p t cs ds listed orders same = record {
   there = λ n class. same.there n class ∙ sym (listed n class);
-  order = λ class i j d less within. let o = same.order class i j d less within in omega (arith, o, orders (slice_index_or (list_at t class) i d), orders (slice_index_or (list_at t class) j d));
+  order = λ class i j d less within. let o = same.order class i j d less within in
+      omega (arith, o, orders (slice_index_or (list_at t class) i d), orders (slice_index_or (list_at t class) j d));
   classes = same.classes;
   nodes = same.nodes;
 }
@@ -203,7 +215,8 @@ or_false b = grind arith
 module _ (p : Image) (t : Table) (cs ds : List Cell) (id class : ℕ) where
   pub listed_last : class < 256 → ((k : ℕ) → is_listed p cs k id ≡ false) → ((k : ℕ) → is_listed p ds k id ≡ (class == k)) → ((n k : ℕ) →
       (id == n) ≡ false → is_listed p ds k n ≡ is_listed p cs k n) → ((n : ℕ) → (id == n) ≡ false → order_in (requested ds n) ≡ order_in (requested cs n)) →
-      ((n : ℕ) → is_listed p cs class n ≡ true → order_in (requested cs n) < order_in (requested ds id)) → SameListed p t cs → SameListed p (with_list class (list_at t class ++ id ∷ []) t) ds
+      ((n : ℕ) → is_listed p cs class n ≡ true → order_in (requested cs n) < order_in (requested ds id)) → SameListed p t cs →
+      SameListed p (with_list class (list_at t class ++ id ∷ []) t) ds
   listed_last small free here others orders newest same = record {
     there = λ n k. ap (is_among n) (at_list k) ∙ among n k;
     order = λ k. subst (λ ns. AllPairs (λ a b. order_in (requested ds a) < order_in (requested ds b)) ns) (sym (at_list k)) (sorted k (class == k) refl);
@@ -218,7 +231,8 @@ module _ (p : Image) (t : Table) (cs ds : List Cell) (id class : ℕ) where
       at_list k = go (class == k) refl
         where
           go : (b : Bool) → (class == k) ≡ b → list_at (with_list class longer t) k ≡ cond b longer (list_at t k)
-          go true e = ap (λ j. slice_index_or (slice_set t.lists class longer) j []) (sym (eqb-true class k e)) ∙ get_or-set_same t.lists class longer [] (omega (arith, small, same.classes))
+          go true e = ap (λ j. slice_index_or (slice_set t.lists class longer) j []) (sym (eqb-true class k e))
+              ∙ get_or-set_same t.lists class longer [] (omega (arith, small, same.classes))
           go false e = get_or-set_other t.lists class k longer [] (λ d. false≢true (sym e ∙ eq-eqb class k (sym d)))
 
       in_longer : (n : ℕ) → is_among n longer ≡ (is_listed p cs class n || (id == n))
@@ -277,11 +291,13 @@ module _ (p : Image) (t : Table) (cs ds : List Cell) (id : ℕ) where
       other : (ns : List ℕ) (i d : ℕ) → i < length (without_node id ns) → (id == slice_index_or (without_node id ns) i d) ≡ false
       other ns i d within =
           let at = slice_index_or (without_node id ns) i d in
-          let left = and_parts (not (at == id)) (is_among at ns) (sym (passes at ns) ∙ list_any_at (λ x. x == at) (without_node id ns) i d within (eq-eqb at at refl)) in
+          let left = and_parts (not (at == id)) (is_among at ns)
+          (sym (passes at ns) ∙ list_any_at (λ x. x == at) (without_node id ns) i d within (eq-eqb at at refl)) in
           ne_eqb id at (λ same. false≢true (ap not (sym (eq-eqb at id (sym same))) ∙ left.0))
 
       sorted : (k : ℕ) → AllPairs (λ a b. order_in (requested ds a) < order_in (requested ds b)) (without_node id (list_at t k))
       sorted k i j d less within =
           let ns = without_node id (list_at t k) in
-          let o = AllPairs-filter (λ a b. order_in (requested cs a) < order_in (requested cs b)) (λ y. not (y == id)) (list_at t k) (same.order k) i j d less within in
+          let o = AllPairs-filter (λ a b. order_in (requested cs a) < order_in (requested cs b)) (λ y. not (y == id)) (list_at t k)
+          (same.order k) i j d less within in
           omega (arith, o, orders (slice_index_or ns i d) (other (list_at t k) i d (omega (arith, less, within))), orders (slice_index_or ns j d) (other (list_at t k) j d within))

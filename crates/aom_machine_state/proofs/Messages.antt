@@ -103,7 +103,8 @@ module _ (p : Image) (store : Store) where
   }
 
   pub messages_moved : (cs : List Cell) (q r : Place) → SameMessages p store cs → SameMessages p store (moved q r cs)
-  messages_moved cs q r h = messages_as cs (moved q r cs) (λ n. ap is_a_message (named_moved cs q r n)) (λ m w. words_moved cs q r (message_name m) w) (many_moved cs q r) h
+  messages_moved cs q r h =
+      messages_as cs (moved q r cs) (λ n. ap is_a_message (named_moved cs q r n)) (λ m w. words_moved cs q r (message_name m) w) (many_moved cs q r) h
 
   -- a cell's word is written
   pub messages_written : (cs : List Cell) (n w : ℕ) (v : ℤ) → n < message_name 0 → SameMessages p store cs → SameMessages p store (set_word_field n w v cs)
@@ -120,7 +121,8 @@ module _ (p : Image) (store : Store) where
 
   -- what clients have at a cell
   pub messages_served : (cs : List Cell) (n : ℕ) (v : Service) → SameMessages p store cs → SameMessages p store (set_service n v cs)
-  messages_served cs n v h = messages_as cs (set_service n v cs) (λ k. ap is_a_message (named_served cs n v k)) (λ m w. words_served cs n v (message_name m) w) (many_served cs n v) h
+  messages_served cs n v h =
+      messages_as cs (set_service n v cs) (λ k. ap is_a_message (named_served cs n v k)) (λ m w. words_served cs n v (message_name m) w) (many_served cs n v) h
 
   pub messages_unslotted : (clients : List ℕ) (cs : List Cell) → SameMessages p store cs → SameMessages p store (each_unslotted clients cs)
   messages_unslotted clients cs h = grind (arith, nat_tests, messages_as cs, each_unslotted_alike clients cs, each_words clients cs, each_many clients cs)

@@ -34,7 +34,8 @@ over_going x us d = grind (arith, nat_tests, at_depth, going_past us d)
 pub over_word : (b : Bool) (us : List Task) (d i : ℕ) → word_in (tasks_over b us) d i ≡ word_in us d i
 over_word x us d i = grind (arith, nat_tests, at_depth, word_past us d i)
 
-pub over_value : (b : Bool) (us : List Machine_task) (h : Heap) (es : List Item) (others : Others) (r : Place) → value_in (held_over b us) h es others r ≡ value_in us h es others r
+pub over_value : (b : Bool) (us : List Machine_task) (h : Heap) (es : List Item) (others : Others) (r : Place) →
+    value_in (held_over b us) h es others r ≡ value_in us h es others r
 over_value b us h es others x = grind (arith, nat_tests, over_register b us, over_going b us)
 
 pub over_words : (b : Bool) (us : List Task) (r : Place) → word_at (tasks_over b us) r ≡ word_at us r

@@ -19,7 +19,8 @@ held_unanswered (Some (Machine_object x status)) = is_aborted (phase_of x) && in
 held_unanswered _ = false
 
 -- the same is in each state that the machine stands for
-pub told_alike : (h : Option Machine_request) (q : Option Request) (waits : Option Bool) → Tells h q waits → (is_owed q ≡ held_owed h) × (is_unanswered q ≡ held_unanswered h)
+pub told_alike : (h : Option Machine_request) (q : Option Request) (waits : Option Bool) → Tells h q waits →
+    (is_owed q ≡ held_owed h) × (is_unanswered q ≡ held_unanswered h)
 unfolding held_owed held_unanswered
 told_alike x y waits tells = grind arith
 
@@ -28,5 +29,6 @@ pending_held : (h : Option Machine_request) → held_unanswered h ≡ false → 
 unfolding held_owed held_unanswered
 pending_held h coded owed = grind arith
 
-pub pending_told : (h : Option Machine_request) (q : Option Request) (waits : Option Bool) → Tells h q waits → is_unanswered q ≡ false → is_owed q ≡ true → is_pending h ≡ true
+pub pending_told : (h : Option Machine_request) (q : Option Request) (waits : Option Bool) → Tells h q waits → is_unanswered q ≡ false →
+    is_owed q ≡ true → is_pending h ≡ true
 pending_told h q waits tells coded owed = let same = told_alike h q waits tells in pending_held h (sym same.1 ∙ coded) (sym same.0 ∙ owed)

@@ -61,8 +61,8 @@ asking m (Connect_of d ∷ q) h = asking m q h
 asking m (Close_of d ∷ q) h = asking m q h
 asking m (Message_of d k ∷ q) h = go (k == m) refl h (asking m q)
   where
-    go : (b : Bool) → (k == m) ≡ b → (b || list_any (λ e. is_message m e) q) ≡ true → (list_any (λ e. is_message m e) q ≡ true → (c : ℕ) × (list_any (is_message_of c m) q ≡ true)) →
-        (c : ℕ) × ((((d == c) && (k == m)) || list_any (is_message_of c m) q) ≡ true)
+    go : (b : Bool) → (k == m) ≡ b → (b || list_any (λ e. is_message m e) q) ≡ true → (list_any (λ e. is_message m e) q ≡ true →
+        (c : ℕ) × (list_any (is_message_of c m) q ≡ true)) → (c : ℕ) × ((((d == c) && (k == m)) || list_any (is_message_of c m) q) ≡ true)
     go true e h rest = (d, ap (λ x. (x && (k == m)) || list_any (is_message_of d m) q) (eq-eqb d d refl) ∙ ap (λ b. b || list_any (is_message_of d m) q) e)
     go false e h rest = let r = rest h in (r.0, later ((d == r.0) && (k == m)) (list_any (is_message_of r.0 m) q) r.1)
       where
@@ -71,13 +71,15 @@ asking m (Message_of d k ∷ q) h = go (k == m) refl h (asking m q)
         later false b h = h
 
 -- its client is open there
-opens : (clients : List Client) (n c m : ℕ) (q : List Asked) → QueueFits clients n q → list_any (is_message_of c m) q ≡ true → is_open_at n (client_at clients c) ≡ true
+opens : (clients : List Client) (n c m : ℕ) (q : List Asked) → QueueFits clients n q → list_any (is_message_of c m) q ≡ true →
+    is_open_at n (client_at clients c) ≡ true
 opens clients n c m [] fits h = cc
 opens clients n c m (Message_of d k ∷ q) fits h = grind (arith, nat_tests, opens clients n c m q fits.1, eqb-true d c)
 opens clients n c m (_ ∷ q) fits h = opens clients n c m q fits.1 h
 
 -- all messages of a queue wait where each does
-waits_each : (places : List MessagePlace) (es : List QueueEntry) → ((j : ℕ) → list_any (is_at j) es ≡ true → is_queued (slice_index_or places j Free) ≡ true) → AllWait places es
+waits_each : (places : List MessagePlace) (es : List QueueEntry) →
+    ((j : ℕ) → list_any (is_at j) es ≡ true → is_queued (slice_index_or places j Free) ≡ true) → AllWait places es
 waits_each places [] h = tt
 waits_each places (Connect c ∷ es) h = waits_each places es h
 waits_each places (Close c ∷ es) h = waits_each places es h
@@ -96,7 +98,8 @@ module _ (p : Image) (clients : List Client) (cs : List Cell) (fit : ClientsFit 
       list_any (is_connect_of c) (service_of cs k).queue ≡ false → (n : ℕ) → list_any (is_connect_of c) (service_of cs n).queue ≡ false
   connects_nowhere at = grind (arith, nat_tests, asks_nowhere)
 
-  pub closes_nowhere : is_leaving k (client_at clients c) ≡ true → list_any (is_close_of c) (service_of cs k).queue ≡ false → (n : ℕ) → list_any (is_close_of c) (service_of cs n).queue ≡ false
+  pub closes_nowhere : is_leaving k (client_at clients c) ≡ true → list_any (is_close_of c) (service_of cs k).queue ≡ false → (n : ℕ) →
+      list_any (is_close_of c) (service_of cs n).queue ≡ false
   closes_nowhere at = grind (arith, nat_tests, asks_nowhere)
 
   -- whose session is with that server alone
@@ -122,7 +125,8 @@ module _ (p : Image) (t : Typing) (wired : IsWired p) (s : State) (w : WellTyped
   queue_empty n x e h =
       let lives : cell_of s.cells x.object.name ≡ Some x = cell_lives s.cells x.owner x w.good.tidy (cell_placed s.cells n x w.good.tidy e) in
       let q = queue_owner x.owner h in
-      let there : held s.cells (Elsewhere (Waits_at q.0 q.1)) ≡ Some x.object = ap (held s.cells) (sym q.2) ∙ held_cell s.cells x.owner ∙ ap object_in (cell_placed s.cells n x w.good.tidy e) in
+      let there : held s.cells (Elsewhere (Waits_at q.0 q.1)) ≡ Some x.object = ap (held s.cells) (sym q.2) ∙ held_cell s.cells x.owner
+      ∙ ap object_in (cell_placed s.cells n x w.good.tidy e) in
       let none = fit.servers x.object (named_cell s.cells x.object.name ∙ ap object_in lives) (waiting_well p t wired s w q.0 q.1 x.object there) in
       let same : service_of s.cells x.object.name ≡ x.service = service_cell s.cells x.object.name ∙ ap service_in lives in
       (ap (λ (v : Service). v.queue) (sym same) ∙ none.0, ap (λ (v : Service). v.sessions) (sym same) ∙ none.1)
@@ -142,7 +146,8 @@ module _ (p : Image) (t : Typing) (wired : IsWired p) (s : State) (w : WellTyped
     asked_at n j h = ap (λ q. list_any (is_message (message_name j)) q) (sym (same.queues n)) ∙ asks_message k.places (kept.queue_at k n) j ∙ h
 
     -- a message that waits has its cell in that queue
-    pub owner_waiting : (n j : ℕ) → list_any (is_at j) (kept.queue_at k n) ≡ true → owner_of s.cells (message_name j) ≡ Some (Elsewhere (Waits_at n (message_name j)))
+    pub owner_waiting : (n j : ℕ) → list_any (is_at j) (kept.queue_at k n) ≡ true →
+        owner_of s.cells (message_name j) ≡ Some (Elsewhere (Waits_at n (message_name j)))
     owner_waiting n j h =
         let x = waiting_there n (message_name j) (asked_at n j h) in
         ap (owner_of s.cells) (sym x.2) ∙ owner_held s.cells w.good.tidy (Elsewhere (Waits_at n (message_name j))) x.0 x.1
@@ -151,11 +156,13 @@ module _ (p : Image) (t : Typing) (wired : IsWired p) (s : State) (w : WellTyped
     messages_wait n = waits_each k.places (kept.queue_at k n) (λ j h. same.waits j ∙ ap waits_in (owner_waiting n j h))
 
     -- and no other message is there
-    pub waits_apart : (n m j : ℕ) → (m == j) ≡ false → (q : Owner) → owner_of s.cells (message_name j) ≡ Some q → same_place q (Elsewhere (Waits_at n (message_name m))) ≡ false
+    pub waits_apart : (n m j : ℕ) → (m == j) ≡ false → (q : Owner) → owner_of s.cells (message_name j) ≡ Some q →
+        same_place q (Elsewhere (Waits_at n (message_name m))) ≡ false
     waits_apart n m j other q e = grind (arith, nat_tests, held_owner s.cells w.good.tidy, same_place-true q, eq-eqb m j)
 
     -- what waits is asked of the server with which its client has a session
-    pub goes_there : (n j d : ℕ) → kept.place_at k j ≡ Queued d → is_among d (service_of s.cells n).sessions ≡ true → has_message (service_of s.cells n) (message_name j) ≡ true
+    pub goes_there : (n j d : ℕ) → kept.place_at k j ≡ Queued d → is_among d (service_of s.cells n).sessions ≡ true →
+        has_message (service_of s.cells n) (message_name j) ≡ true
     goes_there n j d at has = go (owner_of s.cells (message_name j)) refl (sym (same.waits j) ∙ ap is_queued at)
       where
         sent : is_from d (service_of s.cells (message_name j)).sender ≡ true
@@ -179,7 +186,8 @@ module _ (p : Image) (t : Typing) (wired : IsWired p) (s : State) (w : WellTyped
             let one : i ≡ n = cc in
             ap (λ y. has_message (service_of s.cells y) (message_name j)) (sym one) ∙ here
 
-        go : (x : Option Owner) → owner_of s.cells (message_name j) ≡ x → waits_in (owner_of s.cells (message_name j)) ≡ true → has_message (service_of s.cells n) (message_name j) ≡ true
+        go : (x : Option Owner) → owner_of s.cells (message_name j) ≡ x → waits_in (owner_of s.cells (message_name j)) ≡ true →
+            has_message (service_of s.cells n) (message_name j) ≡ true
         go None e h = absurd (false≢true (ap waits_in (sym e) ∙ h))
         go (Some q) e h = queue q e (ap waits_in (sym e) ∙ h)
 

@@ -1,4 +1,5 @@
--- A token is replied to: the request that waits for it is completed, or none where it is void, and all that the machine keeps goes on standing for the cells: by the one object that may wait for it.
+-- A token is replied to: the request that waits for it is completed, or none where it is void, and all that the machine keeps goes on standing for the cells:
+-- by the one object that may wait for it.
 use Rattle.std.proofs.lemmas.Bool.Decides.{nat_tests}
 use Rattle.std.proofs.Common.{Bool, List, None, Option, Some, [], ap, arith, cond, false, length}
 use Rattle.std.proofs.Common.{refl, subst, suc, sym, true, ℕ, ℤ, ◌+◌, ◌==◌, ◌≤◌, ◌∙◌, ◌∷◌, ◌≡◌}
@@ -81,31 +82,34 @@ module _ (k : ℕ) (code : ℤ) where
 
   module _ (p : Image) (cs : List Cell) where
     pub cells_redeemed : (h : Heap) → SameCells p h cs → SameCells p h (after cs)
-    cells_redeemed h same = cells_as p h cs (after cs) (λ n. ap thing_of (names_so cs n)) (λ n w small. words_redeemed cs n w) (count_kept (redeeming k code) cs) same
+    cells_redeemed h same = cells_as p h cs (after cs) (λ n. ap thing_of (names_so cs n)) (λ n w small. words_redeemed cs n w)
+        (count_kept (redeeming k code) cs) same
 
     pub natives_redeemed : (a : Standing) (killed : List ℕ) → SameNatives p a cs killed → SameNatives p a (after cs) killed
     natives_redeemed a killed same = natives_as p a killed cs (after cs) (read_kept (redeeming k code) sessions (λ c. refl) cs) same
 
     messages_redeemed : (store : Store) → SameMessages p store cs → SameMessages p store (after cs)
-    messages_redeemed store same = messages_as p store cs (after cs) (λ n. ap is_a_message (names_so cs n)) (λ m w. words_redeemed cs (message_name m) w) (many_redeemed cs) same
+    messages_redeemed store same =
+        messages_as p store cs (after cs) (λ n. ap is_a_message (names_so cs n)) (λ m w. words_redeemed cs (message_name m) w) (many_redeemed cs) same
 
     listed_redeemed : (table : Table) → SameListed p table cs → SameListed p table (after cs)
-    listed_redeemed table same = listed_alike p table cs (after cs) (names_so cs) (λ n. ap (option_map (λ x. x.order)) (requested_redeemed k code cs n) ∙ order_so (requested cs n)) same
+    listed_redeemed table same =
+        listed_alike p table cs (after cs) (names_so cs) (λ n. ap (option_map (λ x. x.order)) (requested_redeemed k code cs n) ∙ order_so (requested cs n)) same
 
     queues_so : (n : ℕ) → queued p (after cs) n ≡ queued p cs n
     queues_so n = queued_same p cs (after cs) (names_so cs) (λ m. ap (λ (v : Service). v.queue) ((still_redeemed cs).services m)) n
 
     -- where one waits for the token
-    requests_one :
-        (a b : Active) (n : ℕ) (r : Request) → requested cs n ≡ Some r → ((x : ℕ) → redeemed_request k code (requested cs x) ≡ cond (x == n) (Some (redeemed_with code r)) (requested cs x)) →
-        Makes a b n (redeemed_with code) → SameRequests p a cs → SameRequests p b (after cs)
+    requests_one : (a b : Active) (n : ℕ) (r : Request) → requested cs n ≡ Some r → ((x : ℕ) → redeemed_request k code (requested cs x)
+        ≡ cond (x == n) (Some (redeemed_with code r)) (requested cs x)) → Makes a b n (redeemed_with code) → SameRequests p a cs → SameRequests p b (after cs)
     requests_one a b n r there one makes same = record {
-      stands = standing_follows b (asked_anew n (Some (redeemed_with code r)) (requested cs)) (requested (after cs)) (queued p cs) (queued p (after cs)) asks (λ x some. sym (queues_so x))
-          (makes.stands (requested cs) (queued p cs) r same.stands there);
+      stands = standing_follows b (asked_anew n (Some (redeemed_with code r)) (requested cs)) (requested (after cs)) (queued p cs) (queued p (after cs)) asks
+          (λ x some. sym (queues_so x)) (makes.stands (requested cs) (queued p cs) r same.stands there);
       limit = makes.limit ∙ same.limit;
     }
       where
-        turned : (x : ℕ) (b : Bool) → (n == x) ≡ b → cond b (Some (redeemed_with code r)) (requested cs x) ≡ cond (x == n) (Some (redeemed_with code r)) (requested cs x)
+        turned : (x : ℕ) (b : Bool) → (n == x) ≡ b →
+            cond b (Some (redeemed_with code r)) (requested cs x) ≡ cond (x == n) (Some (redeemed_with code r)) (requested cs x)
         turned x true e = sym (ap (λ c. cond c (Some (redeemed_with code r)) (requested cs x)) (eq-eqb x n (sym (eqb-true n x e))))
         turned x false e = grind (arith, nat_tests, ne_eqb x n, eq-eqb n x)
 
@@ -161,9 +165,9 @@ module _ (p : Image) (w : Kept) (cs : List Cell) (same : SameTokens p w cs) (pla
 
 -- ---- the token goes
 
-module _
-    (p : Image) (t : Typing) (s : State) (w : WellTyped p t s) (g : Place) (o : Object) (there : held s.cells g ≡ Some o) (message : o.thing ≡ Message) (place : ℕ) (name : o.name ≡ message_name place)
-    (kept_so : IsKept p s) (apart : is_queue g ≡ false) (tokens : Kept) (same : SameTokens p tokens s.cells) (told : is_some (class_at tokens place) ≡ true) (code : ℤ) where
+module _ (p : Image) (t : Typing) (s : State) (w : WellTyped p t s) (g : Place) (o : Object) (there : held s.cells g ≡ Some o) (message : o.thing ≡ Message)
+    (place : ℕ) (name : o.name ≡ message_name place) (kept_so : IsKept p s) (apart : is_queue g ≡ false) (tokens : Kept) (same : SameTokens p tokens s.cells)
+    (told : is_some (class_at tokens place) ≡ true) (code : ℤ) where
   abbrev order : ℕ
   order = (its_order p tokens s.cells same place told).0
 
@@ -187,7 +191,8 @@ module _
   cells_answered h cells = swapped (SameCells p h) (cells_redeemed order code p first h (cells_completed p t s w g o there message place name h cells))
 
   pub natives_answered : (a : Standing) → p.header.cells ≤ 4096 → SameNatives p a s.cells s.killed → SameNatives p a redeemed_left s.killed
-  natives_answered a few natives = swapped (λ cs. SameNatives p a cs s.killed) (natives_redeemed order code p first a s.killed (natives_completed p t s w g o there message place name a few natives))
+  natives_answered a few natives = swapped (λ cs. SameNatives p a cs s.killed)
+      (natives_redeemed order code p first a s.killed (natives_completed p t s w g o there message place name a few natives))
 
   -- the object that is completed waits, and no other does
   asked_first : (n : ℕ) → requested first n ≡ requested s.cells n
@@ -207,10 +212,9 @@ module _
       go (Some n) e makes h =
           let waits = waits_here p tokens s.cells same place told kept_so.tokens order told_order n e in
           let r = request_there (requested s.cells n) waits in
-          requests_one order code p first a b n r.0 (asked_first n ∙ r.1) (λ x.
-          ap (redeemed_request order code) (asked_first x) ∙ redeems_one s.cells kept_so.tokens code n order waits x
-          ∙ ap (λ q. cond (x == n) (on_request (redeemed_with code) q) (requested s.cells x)) r.1 ∙ ap (λ q. cond (x == n) (Some (redeemed_with code r.0)) q) (sym (asked_first x)))
-          makes h
+          requests_one order code p first a b n r.0 (asked_first n ∙ r.1) (λ x. ap (redeemed_request order code) (asked_first x)
+          ∙ redeems_one s.cells kept_so.tokens code n order waits x ∙ ap (λ q. cond (x == n) (on_request (redeemed_with code) q) (requested s.cells x)) r.1
+          ∙ ap (λ q. cond (x == n) (Some (redeemed_with code r.0)) q) (sym (asked_first x))) makes h
 
   -- clients have nothing of it
   unsent : (service_of s.cells o.name).sender ≡ None
@@ -228,7 +232,8 @@ module _
       services : (n : ℕ) (b : Bool) → (o.name == n) ≡ b → untold (service_of first n) ≡ untold (service_of s.cells n)
       services n true e =
           let one = eqb-true o.name n e in
-          ap (λ i. untold (service_of first i)) (sym one) ∙ ap untold (service_unnamed first o.name gone) ∙ sym nothing_else ∙ ap (λ i. untold (service_of s.cells i)) one
+          ap (λ i. untold (service_of first i)) (sym one) ∙ ap untold (service_unnamed first o.name gone) ∙ sym nothing_else
+          ∙ ap (λ i. untold (service_of s.cells i)) one
       services n false e = ap untold (service_without s.cells g o n w.good.tidy there e)
 
       owners : (m : ℕ) (b : Bool) → (place == m) ≡ b → waits_in (owner_of first (message_name m)) ≡ waits_in (owner_of s.cells (message_name m))
@@ -250,33 +255,33 @@ module _
       unasked : requested s.cells (message_name place) ≡ None
       unasked = ap (requested s.cells) (sym name) ∙ message_unasked p t s w g o there message
 
-      done :
-          length now.living ≡ length tokens.living → (live_at tokens n ≡ Some place → live_at now n ≡ None) → ((live_at tokens n ≡ Some place → ⊥) → live_at now n ≡ live_at tokens n) →
-          ((x : ℕ) → (n == x) ≡ false → live_at now x ≡ live_at tokens x) → SameTokens p now redeemed_left
-      done size goes stays others =
-          tokens_redeemed p tokens now s.cells same kept_so.tokens w.good.tidy place n order code g o there name unasked told_order object freed size goes stays others
+      done : length now.living ≡ length tokens.living → (live_at tokens n ≡ Some place → live_at now n ≡ None) → ((live_at tokens n ≡ Some place → ⊥) →
+          live_at now n ≡ live_at tokens n) → ((x : ℕ) → (n == x) ≡ false → live_at now x ≡ live_at tokens x) → SameTokens p now redeemed_left
+      done size goes stays others = tokens_redeemed p tokens now s.cells same kept_so.tokens w.good.tidy place n order code g o there name unasked told_order
+          object freed size goes stays others
 
       other_than : (x : ℕ) → (n == x) ≡ false → x ≡ n → ⊥
       other_than x e is = false≢true (sym e ∙ eq-eqb n x (sym is))
 
       go : (x : Option ℕ) → kept.redeemed tokens place ≡ x → LetsGo x tokens now → SameTokens p now redeemed_left
-      go None e is =
-          done (ap length is) (λ lives. absurd (silent p tokens s.cells same place told e lives)) (λ void. ap (λ ls. live_at (record now { living = ls }) n) is)
-          (λ x other. ap (λ ls. live_at (record now { living = ls }) x) is)
+      go None e is = done (ap length is) (λ lives. absurd (silent p tokens s.cells same place told e lives))
+          (λ void. ap (λ ls. live_at (record now { living = ls }) n) is) (λ x other. ap (λ ls. live_at (record now { living = ls }) x) is)
       go (Some i) e sets =
           let a = answers p tokens s.cells same place told i e in
           let one : i ≡ n = same_Some i n (sym a.0 ∙ object) in
           done sets.size (λ lives. ap (live_at now) (sym one) ∙ sets.here) (λ void. absurd (void (ap (live_at tokens) (sym one) ∙ a.1)))
           (λ x other. sets.others x (λ is. other_than x other (is ∙ one)))
 
-  pub services_answered :
-      (k : Kept_state) (store after : Store) (table : Table) (now : Kept) → Changes store after place None → count after + 1 ≡ count store → Sets tokens.places now.places place None →
-      LetsGo (kept.redeemed tokens place) tokens now → SameServices p k store tokens table s.cells s.clients → SameServices p k after now table redeemed_left s.clients
+  pub services_answered : (k : Kept_state) (store after : Store) (table : Table) (now : Kept) → Changes store after place None → count after + 1 ≡ count store →
+      Sets tokens.places now.places place None → LetsGo (kept.redeemed tokens place) tokens now → SameServices p k store tokens table s.cells s.clients →
+      SameServices p k after now table redeemed_left s.clients
   services_answered k store after table now gone fewer freed lets h = record {
-    clients = swapped (λ cs. SameClients k cs s.clients) (same_still k first (all_redeemed order code first) s.clients (still_redeemed order code first) (clients_first k s.clients h.clients));
+    clients = swapped (λ cs. SameClients k cs s.clients)
+        (same_still k first (all_redeemed order code first) s.clients (still_redeemed order code first) (clients_first k s.clients h.clients));
     sized = h.sized;
     messages = swapped (SameMessages p after) (messages_redeemed order code p first after
         (message_gone p store after s.cells g o place h.messages w.good.tidy there (ap is_object message) name gone fewer));
     tokens = tokens_answered now freed lets;
-    listed = swapped (SameListed p table) (listed_redeemed order code p first table (listed_beside p table s.cells first (beside_completed p t s w g o there message place name) h.listed));
+    listed = swapped (SameListed p table)
+        (listed_redeemed order code p first table (listed_beside p table s.cells first (beside_completed p t s w g o there message place name) h.listed));
   }

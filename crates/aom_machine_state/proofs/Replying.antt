@@ -86,7 +86,8 @@ module _ (p : Image) (t : Typing) (s : State) (w : WellTyped p t s) (g : Place) 
       where
         goes : (n : ℕ) (x : Cell) → cell_of s.cells n ≡ Some x → same_place x.owner g ≡ true → (4096 ≤ n) × (is_object x.object.thing ≡ false) × (x.request ≡ None)
         goes n x e here =
-            let one : Some x.object ≡ Some o = sym (held_cell s.cells x.owner ∙ ap object_in (cell_placed s.cells n x w.good.tidy e)) ∙ ap (held s.cells) (same_place-true x.owner g here) ∙ there in
+            let one : Some x.object ≡ Some o = sym (held_cell s.cells x.owner ∙ ap object_in (cell_placed s.cells n x w.good.tidy e))
+            ∙ ap (held s.cells) (same_place-true x.owner g here) ∙ there in
             let object : x.object ≡ o = cc in
             let at : n ≡ o.name = sym (cell_name s.cells n x e) ∙ ap (λ (y : Object). y.name) object in
             (omega (arith, at, name), ap (λ (y : Object). is_object y.thing) object ∙ no_object, sym (requested_cell s.cells n ∙ ap request_in e) ∙ ap (requested s.cells) at ∙ message_unasked)
@@ -117,8 +118,7 @@ module _ (p : Image) (t : Typing) (s : State) (w : WellTyped p t s) (g : Place) 
       pub completion_told : has_sender s.cells o.name ≡ true → IsSome (completion (kept.place_at k place))
       completion_told sent = completes_at p t wired s w s.clients kept_so.fit k same g o place there apart sent name
 
-    module _
-        (wired : IsWired p) (kept_so : IsKept p s) (apart : is_queue g ≡ false) (sent : has_sender s.cells o.name ≡ true)
+    module _ (wired : IsWired p) (kept_so : IsKept p s) (apart : is_queue g ≡ false) (sent : has_sender s.cells o.name ≡ true)
         (k : kept.State) (store : Store) (tokens : Kept) (table : Table) (same : SameServices p k store tokens table s.cells s.clients) where
       -- no token goes
       tokens_completed : SameTokens p tokens left
@@ -129,11 +129,14 @@ module _ (p : Image) (t : Typing) (s : State) (w : WellTyped p t s) (g : Place) 
               let one : message_name m ≡ o.name = ap message_name (sym (eqb-true place m e)) ∙ sym name in
               ap (λ n. (service_of left n).token) one ∙ ap (λ (v : Service). v.token) (service_unnamed left o.name (unnamed s.cells g o w.good.tidy there))
               ∙ sym (sent_no_token kept_so.fit.sources sent) ∙ ap (λ n. (service_of s.cells n).token) (sym one)
-          tells m false e = ap (λ (v : Service). v.token) (service_without s.cells g o (message_name m) w.good.tidy there (ap (λ n. n == message_name m) name ∙ names_apart place m e))
+          tells m false e = ap (λ (v : Service). v.token)
+              (service_without s.cells g o (message_name m) w.good.tidy there (ap (λ n. n == message_name m) name ∙ names_apart place m e))
 
-      pub services_completed : (after : Store) → Changes store after place None → count after + 1 ≡ count store → SameServices p (kept.after_complete place k) after tokens table left s.clients
+      pub services_completed : (after : Store) → Changes store after place None → count after + 1 ≡ count store →
+          SameServices p (kept.after_complete place k) after tokens table left s.clients
       services_completed after gone fewer = record {
-        clients = same_replied p t wired s w kept_so.fit k same.clients p.header.cells same.sized g o place there apart (message_plain p o.thing message) name (place_below store same.messages);
+        clients = same_replied p t wired s w kept_so.fit k same.clients p.header.cells same.sized g o place there apart (message_plain p o.thing message) name
+            (place_below store same.messages);
         sized = sized_completed p.header.cells k same.sized place;
         messages = message_gone p store after s.cells g o place same.messages w.good.tidy there no_object name gone fewer;
         tokens = tokens_completed;

@@ -44,9 +44,8 @@ read_asked read cs o r lives same n = grind (arith, nat_tests, asked_set cs o.na
 
 module _ (p : Image) {s : Kept_state} {store : Store} {tokens : Kept} {table : Table} {at : List Client} where
   -- clients have the same, messages are the same, the same are listed, and tokens go on
-  pub services_with :
-      (cs ds : List Cell) → Still cs ds → (SameMessages p store cs → SameMessages p store ds) → (SameListed p table cs → SameListed p table ds) → (now : Kept) → SameTokens p now ds →
-      Serves p s store tokens table at cs → Serves p s store now table at ds
+  pub services_with : (cs ds : List Cell) → Still cs ds → (SameMessages p store cs → SameMessages p store ds) → (SameListed p table cs →
+      SameListed p table ds) → (now : Kept) → SameTokens p now ds → Serves p s store tokens table at cs → Serves p s store now table at ds
   services_with cs ds still messages listed now go_on same = record {
     clients = same_still s cs ds at still same.clients;
     sized = same.sized;
@@ -63,27 +62,28 @@ module _ (p : Image) {s : Kept_state} {store : Store} {tokens : Kept} {table : T
       grind (arith, nat_tests, services_with cs ds still messages listed tokens, tokens_still p tokens cs ds asks)
 
   -- from no queue to no queue
-  pub services_moved : (cs : List Cell) (q r : Place) → is_queue q ≡ false → is_queue r ≡ false → Serves p s store tokens table at cs → Serves p s store tokens table at (moved q r cs)
-  services_moved cs q r from to = services_still cs (moved q r cs) (still_moved cs q r (from ∙ sym to)) (messages_moved p store cs q r)
-      (listed_alike p table cs (moved q r cs) (named_moved cs q r) (λ n. ap (option_map (λ x. x.order)) (requested_moved cs q r n))) (λ n. ap awaited (requested_moved cs q r n))
+  pub services_moved : (cs : List Cell) (q r : Place) → is_queue q ≡ false → is_queue r ≡ false → Serves p s store tokens table at cs →
+      Serves p s store tokens table at (moved q r cs)
+  services_moved cs q r from to = services_still cs (moved q r cs) (still_moved cs q r (from ∙ sym to)) (messages_moved p store cs q r) (listed_alike p table cs
+      (moved q r cs) (named_moved cs q r) (λ n. ap (option_map (λ x. x.order)) (requested_moved cs q r n))) (λ n. ap awaited (requested_moved cs q r n))
 
   -- a word of a cell
   services_written : (cs : List Cell) (n w : ℕ) (v : ℤ) → n < 4096 → Serves p s store tokens table at cs → Serves p s store tokens table at (set_word_field n w v cs)
   services_written cs n w v small = services_still cs (set_word_field n w v cs) (still_written cs n w v) (messages_written p store cs n w v small)
-      (listed_alike p table cs (set_word_field n w v cs) (named_set_word cs n w v) (λ m. ap (option_map (λ x. x.order)) (asked_written cs n w v m))) (λ m. ap awaited (asked_written cs n w v m))
+      (listed_alike p table cs (set_word_field n w v cs) (named_set_word cs n w v) (λ m. ap (option_map (λ x. x.order)) (asked_written cs n w v m)))
+      (λ m. ap awaited (asked_written cs n w v m))
 
   pub services_stored : (cs : List Cell) (home : Home) (w : ℕ) (v : ℤ) → ((o : Object) (from : Place) → home ≡ Inside o from → o.name < 4096) →
       Serves p s store tokens table at cs → Serves p s store tokens table at (stored cs home w v)
   services_stored cs x w v small same = grind (arith, nat_tests, services_written cs)
 
   -- a request, where it is there before and after, in the same order, and tokens go on
-  pub services_asked_with :
-      (cs : List Cell) (o : Object) (r : Option Request) → named cs o.name ≡ Some o → option_map (λ x. x.order) r ≡ option_map (λ x. x.order) (requested cs o.name) →
+  pub services_asked_with : (cs : List Cell) (o : Object) (r : Option Request) →
+      named cs o.name ≡ Some o → option_map (λ x. x.order) r ≡ option_map (λ x. x.order) (requested cs o.name) →
       (now : Kept) → SameTokens p now (set_request o.name r cs) → Serves p s store tokens table at cs → Serves p s store now table at (set_request o.name r cs)
-  services_asked_with cs o r lives order now go_on =
-      services_with cs (set_request o.name r cs) (still_requested cs o.name r) (messages_asked p store cs o.name r)
-      (listed_alike p table cs (set_request o.name r cs) (λ n. (rerequested_alike cs (Inside o (Register 0 0)) r).named_so n) (λ n. read_asked (option_map (λ x. x.order)) cs o r lives order n))
-      now go_on
+  services_asked_with cs o r lives order now go_on = services_with cs
+      (set_request o.name r cs) (still_requested cs o.name r) (messages_asked p store cs o.name r) (listed_alike p table cs (set_request o.name r cs)
+      (λ n. (rerequested_alike cs (Inside o (Register 0 0)) r).named_so n) (λ n. read_asked (option_map (λ x. x.order)) cs o r lives order n)) now go_on
 
   -- so where it waits for the same one
   pub services_asked : (cs : List Cell) (o : Object) (r : Option Request) →
@@ -109,7 +109,8 @@ module _ (p : Image) {s : Kept_state} {store : Store} {tokens : Kept} {table : T
   services_rerequested cs _ r lives order token same = same
 
   -- a session with a native
-  pub services_resessioned : (cs : List Cell) (home : Home) (b : Bool) → Serves p s store tokens table at cs → Serves p s store tokens table at (resessioned cs home b)
+  pub services_resessioned : (cs : List Cell) (home : Home) (b : Bool) → Serves p s store tokens table at cs →
+      Serves p s store tokens table at (resessioned cs home b)
   services_resessioned cs Static b same = same
   services_resessioned cs AtRoot b same = same
   services_resessioned cs (Inside o from) b same = services_still cs (resessioned cs (Inside o from) b) (still_sessioned cs o.name b) (messages_opened
@@ -119,10 +120,9 @@ module _ (p : Image) {s : Kept_state} {store : Store} {tokens : Kept} {table : T
   -- a new cell
   pub services_made : (cs : List Cell) (n class : ℕ) (words : List ℤ) (owner : Place) →
       named cs n ≡ None → n < 4096 → Serves p s store tokens table at cs → Serves p s store tokens table at (with_new n (An_object_of class) words owner cs)
-  services_made cs n class words owner fresh small =
-      services_still cs ds (still_new cs n (An_object_of class) words owner small fresh) (messages_made p store cs n (An_object_of class) words owner fresh small refl)
-      (listed_same p table cs ds (λ k x. listed k x (n == k) refl) (λ k. ap order_in (asked_new cs n (An_object_of class) words owner fresh k)))
-      (λ k. ap awaited (asked_new cs n (An_object_of class) words owner fresh k))
+  services_made cs n class words owner fresh small = services_still cs ds (still_new cs n (An_object_of class) words owner small fresh)
+      (messages_made p store cs n (An_object_of class) words owner fresh small refl) (listed_same p table cs ds (λ k x. listed k x (n == k) refl)
+      (λ k. ap order_in (asked_new cs n (An_object_of class) words owner fresh k))) (λ k. ap awaited (asked_new cs n (An_object_of class) words owner fresh k))
     where
       ds : List Cell
       ds = with_new n (An_object_of class) words owner cs

@@ -1,4 +1,5 @@
--- What stands for clients goes on through each part of a service, and through the going of a cell: with the premises that a well-typed state whose clients are kept gives.
+-- What stands for clients goes on through each part of a service, and through the going of a cell: with the premises that a well-typed state whose clients are
+-- kept gives.
 use Rattle.std.proofs.lemmas.Bool.Decides.{nat_tests}
 use Rattle.std.proofs.Common.{List, None, Some, [], ap, arith, cond, false, length, refl, subst, sym, true, ℕ, ◌<◌, ◌==◌, ◌∙◌, ◌∷◌, ◌≡◌}
 use Rattle.std.specs.List.{list_any}
@@ -62,7 +63,8 @@ same_released k cs clients same c = grind (
 
 set_moved : (cs : List Cell) (a b : Owner) (n : ℕ) (v : Service) → set_service n v (moved a b cs) ≡ moved a b (set_service n v cs)
 set_moved [] a b n v = refl
-set_moved (c ∷ cs) a b n v = ap (λ l. record c { owner = cond (same_place c.owner a) b c.owner; service = cond (c.object.name == n) v c.service } ∷ l) (set_moved cs a b n v)
+set_moved (c ∷ cs) a b n v =
+    ap (λ l. record c { owner = cond (same_place c.owner a) b c.owner; service = cond (c.object.name == n) v c.service } ∷ l) (set_moved cs a b n v)
 
 pub reserved_moved : (f : Service → Service) (cs : List Cell) (a b : Owner) (n : ℕ) → reserved f n (moved a b cs) ≡ moved a b (reserved f n cs)
 reserved_moved f cs a b n = ap (λ v. set_service n (f v) (moved a b cs)) (service_moved cs a b n) ∙ set_moved cs a b n (f (service_of cs n))
@@ -72,7 +74,8 @@ reserved_moved f cs a b n = ap (λ v. set_service n (f v) (moved a b cs)) (servi
 module _ (p : Image) (t : Typing) (wired : IsWired p) (s : State) (w : WellTyped p t s)
     (fit : ClientsFit p s.clients s.cells) (k : kept.State) (same : SameClients k s.cells s.clients) (cells : ℕ) (sized : AreSized cells k) where
   -- `accept` gave a session
-  module _ (x : Seat) (c : ℕ) (lives : named s.cells x.object.name ≡ Some x.object) (below : x.object.name < cells) (kept_so : StageKept p s.clients s.cells x.object c Accepts) where
+  module _ (x : Seat) (c : ℕ) (lives : named s.cells x.object.name ≡ Some x.object) (below : x.object.name < cells)
+      (kept_so : StageKept p s.clients s.cells x.object c Accepts) where
     session_room : x.object.name < length k.sessions
     session_room = subst (λ n. x.object.name < n) (sym sized.sessions) below
 
@@ -90,9 +93,9 @@ module _ (p : Image) (t : Typing) (wired : IsWired p) (s : State) (w : WellTyped
 
   -- a close is served
   module _ (x : Seat) (c : ℕ) (lives : named s.cells x.object.name ≡ Some x.object) (kept_so : StageKept p s.clients s.cells x.object c Parts) where
-    parting_as : (next : Client) → sessionless next ≡ next → SameClients (kept.parted c next k) (reserved (parted c) x.object.name s.cells) (with_client c next s.clients)
-    parting_as next plain =
-        same_parted k s.cells s.clients same x.object lives c (leaving_below s.cells s.clients k same c x.object.name kept_so.0) next plain
+    parting_as : (next : Client) → sessionless next ≡ next →
+        SameClients (kept.parted c next k) (reserved (parted c) x.object.name s.cells) (with_client c next s.clients)
+    parting_as next plain = same_parted k s.cells s.clients same x.object lives c (leaving_below s.cells s.clients k same c x.object.name kept_so.0) next plain
         (closes_nowhere p s.clients s.cells fit x.object.name c kept_so.0 kept_so.1) (session_alone p s.clients s.cells fit x.object.name c kept_so.0)
 
     pub same_closed : SameClients (kept.after_closed c k) (reserved (parted c) x.object.name s.cells) (with_client c (at_parting (client_at s.clients c)) s.clients)
@@ -101,18 +104,18 @@ module _ (p : Image) (t : Typing) (wired : IsWired p) (s : State) (w : WellTyped
   -- a message is completed that was taken
   pub same_replied : (g : Owner) (o : Object) (m : ℕ) → held s.cells g ≡ Some o → is_queue g ≡ false →
       is_server p o.thing ≡ false → o.name ≡ message_name m → m < 1024 → SameClients (kept.after_complete m k) (without g s.cells) s.clients
-  same_replied g o m there apart plain name below =
-      same_completed k s.cells s.clients same w.good.tidy m (subst (λ n. m < n) (sym sized.places) below) g o there name
-      (subst (λ n. ((service_of s.cells n).queue ≡ []) × ((service_of s.cells n).sessions ≡ [])) name (fit.servers o (held_lives s.cells g o w.good.tidy there) plain))
+  same_replied g o m there apart plain name below = same_completed k s.cells s.clients same w.good.tidy m
+      (subst (λ n. m < n) (sym sized.places) below) g o there name (subst (λ n. ((service_of s.cells n).queue ≡ []) × ((service_of s.cells n).sessions ≡ []))
+      name (fit.servers o (held_lives s.cells g o w.good.tidy there) plain))
       (λ n. subst (λ i. list_any (is_message i) (service_of s.cells n).queue ≡ false) name (owned_nowhere p t wired s w s.clients fit g o there apart n))
 
   -- a cell goes, a server with all that clients have at it
   pub same_gone : (g : Owner) (o : Object) → held s.cells g ≡ Some o → is_queue g ≡ false → o.name < 4096 → o.name < cells →
       SameClients (kept.server_gone o.name k) (each_unslotted (service_of s.cells o.name).sessions (without g (without_queue o.name s.cells)))
       (sessions_ended (service_of s.cells o.name).sessions (queue_ended (service_of s.cells o.name).queue s.clients))
-  same_gone g o there apart small below =
-      same_vanished k s.cells s.clients same w.good.tidy o g there apart small (subst (λ n. o.name < n) (sym sized.queues) below) (subst (λ n. o.name < n) (sym sized.sessions) below)
-      (queue_empty p t wired s w s.clients fit) (asked_there p t wired s w s.clients fit o.name) (waiting_there p t wired s w s.clients fit) (goes_there p t wired s w s.clients fit k same o.name)
+  same_gone g o there apart small below = same_vanished k s.cells s.clients same w.good.tidy o g there apart small
+      (subst (λ n. o.name < n) (sym sized.queues) below) (subst (λ n. o.name < n) (sym sized.sessions) below) (queue_empty p t wired s w s.clients fit)
+      (asked_there p t wired s w s.clients fit o.name) (waiting_there p t wired s w s.clients fit) (goes_there p t wired s w s.clients fit k same o.name)
 
   -- ---- the first of a queue is served
 
@@ -129,10 +132,10 @@ module _ (p : Image) (t : Typing) (wired : IsWired p) (s : State) (w : WellTyped
     same_next e es at other = grind (arith, nat_tests, first_so e es at, same_taken k s.cells s.clients same o lives 0, queue_room)
 
     -- a message, which goes into service
-    pub same_attended : (m : ℕ) (es : List QueueEntry) → kept.queue_at k o.name ≡ Message m ∷ es → m < 1024 →
-        SameClients (kept.after_next o.name k) (moved (Elsewhere (Waits_at o.name (message_name m))) (Elsewhere In_service) (reserved taken_first o.name s.cells)) s.clients
-    same_attended m es at small =
-        subst (λ n. SameClients n (moved (Elsewhere (Waits_at o.name (message_name m))) (Elsewhere In_service) (reserved taken_first o.name s.cells)) s.clients) (sym (first_so (Message m) es at))
+    pub same_attended : (m : ℕ) (es : List QueueEntry) → kept.queue_at k o.name ≡ Message m ∷ es → m < 1024 → SameClients (kept.after_next o.name k)
+        (moved (Elsewhere (Waits_at o.name (message_name m))) (Elsewhere In_service) (reserved taken_first o.name s.cells)) s.clients
+    same_attended m es at small = subst (λ n. SameClients n (moved (Elsewhere (Waits_at o.name (message_name m)))
+        (Elsewhere In_service) (reserved taken_first o.name s.cells)) s.clients) (sym (first_so (Message m) es at))
         (same_served k s.cells s.clients same o lives 0 (omega arith) m es at queue_room (subst (λ n. m < n) (sym sized.places) small) who.0 who.1
         (owner_waiting p t wired s w s.clients fit k same o.name m first) (waits_apart p t wired s w s.clients fit k same o.name m))
       where

@@ -28,7 +28,8 @@ use Rattle.aom_machine_state.specs.Serving.{Once, SameClients, asked_by, holds, 
 
 -- ---- lists with one place written
 
-pub at_set : {A : Type 0} (none : A) (xs : List A) (i j : ℕ) (x : A) → i < length xs → slice_index_or (slice_set xs i x) j none ≡ cond (i == j) x (slice_index_or xs j none)
+pub at_set : {A : Type 0} (none : A) (xs : List A) (i j : ℕ) (x : A) → i < length xs →
+    slice_index_or (slice_set xs i x) j none ≡ cond (i == j) x (slice_index_or xs j none)
 at_set none xs i j x small = grind (arith, nat_tests, eqb-true i j, get_or-set_same xs i x none small, get_or-set_other xs i j x none, eq-eqb i j)
 
 or_false : (a : Bool) → (a || (false || false)) ≡ a
@@ -41,7 +42,8 @@ pub front_false : (a b : Bool) → (a || b) ≡ false → (a ≡ false) × (b �
 front_false x b e = grind arith
 
 -- a client is at something else on both sides
-pub client_set : (xs clients : List Client) (c : ℕ) (to to' : Client) → c < length xs → sessionless to ≡ to' → ((d : ℕ) → sessionless (slice_index_or xs d Unconnected) ≡ client_at clients d) →
+pub client_set : (xs clients : List Client) (c : ℕ) (to to' : Client) →
+    c < length xs → sessionless to ≡ to' → ((d : ℕ) → sessionless (slice_index_or xs d Unconnected) ≡ client_at clients d) →
     (d : ℕ) → sessionless (slice_index_or (slice_set xs c to) d Unconnected) ≡ client_at (with_client c to' clients) d
 client_set xs clients c to to' small here others d = grind (arith, nat_tests, at_set Unconnected xs c d to small, at-put_at Unconnected clients c d to')
 
@@ -51,13 +53,15 @@ once_last [] m once none = (refl, tt)
 once_last (k ∷ ms) m once none = grind (arith, nat_tests, front_false (k == m), list_any-append, ne_eqb m k, eq-eqb k m, or_false, once_last ms m once.1)
 
 -- where no connect of the client waits, none leaves the queue, and so of its close
-no_connects : (places : List MessagePlace) (c : ℕ) (es : List QueueEntry) → list_any (is_connect_of c) (map (asked_by places) es) ≡ false → filter (kept.is_no_connect_of c) es ≡ es
+no_connects : (places : List MessagePlace) (c : ℕ) (es : List QueueEntry) → list_any (is_connect_of c) (map (asked_by places) es) ≡ false →
+    filter (kept.is_no_connect_of c) es ≡ es
 no_connects places c [] none = refl
 no_connects places c (Connect d ∷ es) none = grind (arith, nat_tests, front_false (d == c), no_connects places c es)
 no_connects places c (Message m ∷ es) none = ap (λ l. Message m ∷ l) (no_connects places c es none)
 no_connects places c (Close d ∷ es) none = ap (λ l. Close d ∷ l) (no_connects places c es none)
 
-no_closes : (places : List MessagePlace) (c : ℕ) (es : List QueueEntry) → list_any (is_close_of c) (map (asked_by places) es) ≡ false → filter (kept.is_no_close_of c) es ≡ es
+no_closes : (places : List MessagePlace) (c : ℕ) (es : List QueueEntry) → list_any (is_close_of c) (map (asked_by places) es) ≡ false →
+    filter (kept.is_no_close_of c) es ≡ es
 no_closes places c [] none = refl
 no_closes places c (Connect d ∷ es) none = ap (λ l. Connect d ∷ l) (no_closes places c es none)
 no_closes places c (Message m ∷ es) none = ap (λ l. Message m ∷ l) (no_closes places c es none)
@@ -84,11 +88,10 @@ module _ (cs : List Cell) (o : Object) (lives : named cs o.name ≡ Some o) (f :
   then = reserved f o.name cs
 
   -- lists by number, of which that of the server changes
-  pub listed_then :
-      {A B : Type 0} (lists : List (List A)) (entries : List A) (told : List A → List B) (part : Service → List B) → o.name < length lists → told entries ≡ part (f (service_of cs o.name)) →
-      ((n : ℕ) → told (slice_index_or lists n []) ≡ part (service_of cs n)) → (n : ℕ) → told (slice_index_or (slice_set lists o.name entries) n []) ≡ part (service_of then n)
-  listed_then lists entries told part small here others n =
-      by_server cs o lives f (λ n v. told (slice_index_or (slice_set lists o.name entries) n []) ≡ part v)
+  pub listed_then : {A B : Type 0} (lists : List (List A)) (entries : List A) (told : List A → List B) (part : Service → List B) →
+      o.name < length lists → told entries ≡ part (f (service_of cs o.name)) → ((n : ℕ) → told (slice_index_or lists n []) ≡ part (service_of cs n)) → (n : ℕ) →
+      told (slice_index_or (slice_set lists o.name entries) n []) ≡ part (service_of then n)
+  listed_then lists entries told part small here others n = by_server cs o lives f (λ n v. told (slice_index_or (slice_set lists o.name entries) n []) ≡ part v)
       (ap told (at_set [] lists o.name o.name entries small ∙ ap (λ b. cond b entries (slice_index_or lists o.name [])) (eq-eqb o.name o.name refl)) ∙ here)
       (λ n other. ap told (at_set [] lists o.name n entries small ∙ ap (λ b. cond b entries (slice_index_or lists n [])) other) ∙ others n) n
 
@@ -97,7 +100,8 @@ module _ (cs : List Cell) (o : Object) (lives : named cs o.name ≡ Some o) (f :
 
 -- ---- the place of a message changes, and its sender is as it was
 
-asked_placed : (places : List MessagePlace) (m : ℕ) (p : MessagePlace) → m < length places → sender p ≡ sender (slice_index_or places m Free) → (e : QueueEntry) → asked_by (slice_set places m p) e ≡ asked_by places e
+asked_placed : (places : List MessagePlace) (m : ℕ) (p : MessagePlace) → m < length places → sender p ≡ sender (slice_index_or places m Free) →
+    (e : QueueEntry) → asked_by (slice_set places m p) e ≡ asked_by places e
 asked_placed places m p small same x = grind (arith, nat_tests, at_set Free places m, eqb-true m)
 
 map_alike : {A B : Type 0} (f g : A → B) → ((x : A) → f x ≡ g x) → (xs : List A) → map f xs ≡ map g xs
@@ -132,21 +136,23 @@ taken_by : (slot : Bool) (x : MessagePlace) → is_some (sent_by slot x) ≡ is_
 taken_by slot x = grind arith
 
 -- are those whose message has a sender
-pub taken_sent : (s : kept.State) (cs : List Cell) (clients : List Client) → SameClients s cs clients → (m : ℕ) → is_taken (kept.place_at s m) ≡ is_some (service_of cs (message_name m)).sender
+pub taken_sent : (s : kept.State) (cs : List Cell) (clients : List Client) → SameClients s cs clients → (m : ℕ) →
+    is_taken (kept.place_at s m) ≡ is_some (service_of cs (message_name m)).sender
 taken_sent s cs clients same m = sym (taken_by (holds s m) (kept.place_at s m)) ∙ ap is_some (same.senders m)
 
 -- ---- the slots
 
 -- a message is among its client's where it holds a slot
-pub slots_of : (s : kept.State) (cs : List Cell) (clients : List Client) → SameClients s cs clients → (c m : ℕ) → is_among m (kept.sent_at s c) ≡ holds_slot c (service_of cs (message_name m)).sender
+pub slots_of : (s : kept.State) (cs : List Cell) (clients : List Client) → SameClients s cs clients → (c m : ℕ) →
+    is_among m (kept.sent_at s c) ≡ holds_slot c (service_of cs (message_name m)).sender
 slots_of s cs clients same c m = grind (arith, nat_tests, eqb-true)
 
 -- ---- a client is at something else, and nothing is asked
 
 -- clients are at other things, and what waits is told alike
-pub listed_as : (s : kept.State) (cs : List Cell) (clients after xs : List Client) (queues : List (List QueueEntry)) →
-    SameClients s cs clients → ((c : ℕ) → sessionless (slice_index_or xs c Unconnected) ≡ client_at after c) →
-    ((n : ℕ) → map (asked_by s.places) (slice_index_or queues n []) ≡ (service_of cs n).queue) → length xs ≡ length s.clients → SameClients (record s { clients = xs; queues = queues }) cs after
+pub listed_as : (s : kept.State) (cs : List Cell) (clients after xs : List Client) (queues : List (List QueueEntry)) → SameClients s cs clients →
+    ((c : ℕ) → sessionless (slice_index_or xs c Unconnected) ≡ client_at after c) → ((n : ℕ) → map (asked_by s.places) (slice_index_or queues n [])
+    ≡ (service_of cs n).queue) → length xs ≡ length s.clients → SameClients (record s { clients = xs; queues = queues }) cs after
 listed_as s cs clients after xs queues same at waits long = let many = long ∙ same.many in assumption many
 
 pub same_client : (s : kept.State) (cs : List Cell) (clients : List Client) →
@@ -155,7 +161,8 @@ same_client s cs clients same c client to = grind (arith, nat_tests, listed_as s
 
 -- ---- a connect
 
-module _ (s : kept.State) (cs : List Cell) (clients : List Client) (same : SameClients s cs clients) (o : Object) (lives : named cs o.name ≡ Some o) (c : ℕ) (client : c < 64) where
+module _ (s : kept.State) (cs : List Cell) (clients : List Client) (same : SameClients s cs clients) (o : Object) (lives : named cs o.name ≡ Some o)
+    (c : ℕ) (client : c < 64) where
   numbered : c < length s.clients
   numbered = subst (λ n. c < n) (sym same.many) client
 
@@ -180,8 +187,8 @@ module _ (s : kept.State) (cs : List Cell) (clients : List Client) (same : SameC
   }
 
   module _ (slots : ℕ) (queue : o.name < length s.queues) where
-    pub same_connecting :
-        SameClients (kept.queued o.name (Connect c) (kept.with_client c (Connecting o.name slots) s)) (reserved (asked_last (Connect_of c)) o.name cs) (with_client c (Connecting o.name slots) clients)
+    pub same_connecting : SameClients (kept.queued o.name (Connect c) (kept.with_client c (Connecting o.name slots) s))
+        (reserved (asked_last (Connect_of c)) o.name cs) (with_client c (Connecting o.name slots) clients)
     same_connecting = served_as (asked_last (Connect_of c)) (λ v. refl) _ _ _ _ (client_set s.clients clients c (Connecting o.name slots)
         (Connecting o.name slots) numbered refl same.at) (listed_then cs o lives (asked_last (Connect_of c)) s.queues (kept.queue_at s o.name ++ Connect c ∷ [])
         (λ es. map (asked_by s.places) es) (λ v. v.queue) queue (map-append (asked_by s.places) (kept.queue_at s o.name) (Connect c ∷ [])
@@ -191,10 +198,10 @@ module _ (s : kept.State) (cs : List Cell) (clients : List Client) (same : SameC
   -- a close is asked for, and no client is at anything else
   module _ (queue : o.name < length s.queues) where
     pub same_closing : SameClients (kept.queued o.name (Close c) s) (reserved (asked_last (Close_of c)) o.name cs) clients
-    same_closing = served_as (asked_last (Close_of c)) (λ v. refl) _ _ _ _ same.at
-        (listed_then cs o lives (asked_last (Close_of c)) s.queues (kept.queue_at s o.name ++ Close c ∷ []) (λ es. map (asked_by s.places) es) (λ v. v.queue) queue
-        (map-append (asked_by s.places) (kept.queue_at s o.name) (Close c ∷ []) ∙ ap (λ es. es ++ Close_of c ∷ []) (same.queues o.name)) same.queues)
-        (λ n. by_server cs o lives (asked_last (Close_of c)) (λ n v. kept.sessions_at s n ≡ v.sessions) (same.sessions o.name) (λ n other. same.sessions n) n) refl
+    same_closing = served_as (asked_last (Close_of c)) (λ v. refl) _ _ _ _ same.at (listed_then cs o lives
+        (asked_last (Close_of c)) s.queues (kept.queue_at s o.name ++ Close c ∷ []) (λ es. map (asked_by s.places) es) (λ v. v.queue) queue
+        (map-append (asked_by s.places) (kept.queue_at s o.name) (Close c ∷ []) ∙ ap (λ es. es ++ Close_of c ∷ []) (same.queues o.name)) same.queues) (λ n.
+        by_server cs o lives (asked_last (Close_of c)) (λ n v. kept.sessions_at s n ≡ v.sessions) (same.sessions o.name) (λ n other. same.sessions n) n) refl
 
   -- ---- the first of a queue is taken
 
@@ -214,13 +221,14 @@ module _ (s : kept.State) (cs : List Cell) (clients : List Client) (same : SameC
   module _ (slots session : ℕ) (at : kept.client_at s c ≡ Connecting o.name slots)
       (none : (n : ℕ) → list_any (is_connect_of c) (service_of cs n).queue ≡ false) (server : o.name < length s.sessions) where
     unqueued : (n : ℕ) → slice_index_or (map (λ es. filter (kept.is_no_connect_of c) es) s.queues) n [] ≡ kept.queue_at s n
-    unqueued n = get_or-map (filter (kept.is_no_connect_of c)) s.queues n [] ∙ no_connects s.places c (kept.queue_at s n) (ap (list_any (is_connect_of c)) (same.queues n) ∙ none n)
+    unqueued n = get_or-map (filter (kept.is_no_connect_of c)) s.queues n []
+        ∙ no_connects s.places c (kept.queue_at s n) (ap (list_any (is_connect_of c)) (same.queues n) ∙ none n)
 
     own : client_at clients c ≡ Connecting o.name slots
     own = sym (same.at c) ∙ ap sessionless at
 
-    pub same_opened :
-        SameClients (kept.opened (Connecting o.name slots) (Some session) c s) (reserved (opened c) o.name cs) (with_client c (at_opening 0 (client_at clients c)) clients)
+    pub same_opened : SameClients (kept.opened (Connecting o.name slots) (Some session) c s) (reserved (opened c) o.name cs)
+        (with_client c (at_opening 0 (client_at clients c)) clients)
     same_opened = served_as (opened c) (λ v. refl) _ _ _ _ (subst (λ x. (d : ℕ) → sessionless
         (kept.client_at (kept.with_client c (Open o.name session slots) s) d) ≡ client_at (with_client c (at_opening 0 x) clients) d) (sym own) (client_set
         s.clients clients c (Open o.name session slots) (Open o.name 0 slots) numbered refl same.at)) (λ n. ap (λ l. map (asked_by s.places) l) (unqueued n)
@@ -240,7 +248,8 @@ module _ (s : kept.State) (cs : List Cell) (clients : List Client) (same : SameC
   module _ (next : Client) (plain : sessionless next ≡ next) (none : (n : ℕ) → list_any (is_close_of c) (service_of cs n).queue ≡ false)
       (only : (n : ℕ) → (o.name == n) ≡ false → is_among c (service_of cs n).sessions ≡ false) where
     unclosed : (n : ℕ) → slice_index_or (map (λ es. filter (kept.is_no_close_of c) es) s.queues) n [] ≡ kept.queue_at s n
-    unclosed n = get_or-map (filter (kept.is_no_close_of c)) s.queues n [] ∙ no_closes s.places c (kept.queue_at s n) (ap (list_any (is_close_of c)) (same.queues n) ∙ none n)
+    unclosed n = get_or-map (filter (kept.is_no_close_of c)) s.queues n []
+        ∙ no_closes s.places c (kept.queue_at s n) (ap (list_any (is_close_of c)) (same.queues n) ∙ none n)
 
     pub same_parted : SameClients (kept.parted c next s) (reserved (parted c) o.name cs) (with_client c next clients)
     same_parted = served_as (parted c) (λ v. refl) _ _ _ _ (client_set s.clients clients c next next numbered plain same.at)
@@ -269,7 +278,8 @@ module _ (s : kept.State) (cs : List Cell) (clients : List Client) (same : SameC
     of_same e = asked_placed s.places m (held_place (kept.place_at s m)) place (ap sender held_now ∙ sym (ap sender waiting)) e
 
     -- its cell moves, and no other
-    module _ (there : owner_of cs (message_name m) ≡ Some from) (apart : (j : ℕ) → (m == j) ≡ false → (p : Owner) → owner_of cs (message_name j) ≡ Some p → same_place p from ≡ false) where
+    module _ (there : owner_of cs (message_name m) ≡ Some from)
+        (apart : (j : ℕ) → (m == j) ≡ false → (p : Owner) → owner_of cs (message_name j) ≡ Some p → same_place p from ≡ false) where
       waits_now : (j : ℕ) → is_queued (kept.place_at taken j) ≡ waits_in (owner_of (moved from (Elsewhere In_service) cs') (message_name j))
       waits_now j = grind (arith, nat_tests, at_set Free s.places m j, owner_moved, owner_served cs o.name, held_now, eqb-true m j, same_place_refl)
 
@@ -287,12 +297,14 @@ module _ (s : kept.State) (cs : List Cell) (clients : List Client) (same : SameC
         at = same.at;
         queues = grind (arith, nat_tests, map_alike, of_same, same_taken (Message m) es at queue, service_moved);
         sessions = grind (arith, nat_tests, same_taken (Message m) es at queue, service_moved);
-        senders = λ j. senders_now j ∙ (same_taken (Message m) es at queue).senders j ∙ sym (ap (λ (v : Service). v.sender) (service_moved cs' from (Elsewhere In_service) (message_name j)));
+        senders = λ j. senders_now j ∙ (same_taken (Message m) es at queue).senders j
+            ∙ sym (ap (λ (v : Service). v.sender) (service_moved cs' from (Elsewhere In_service) (message_name j)));
         waits = waits_now;
         out = out_now;
         slotted = slotted_now;
         once = same.once;
-        silent = λ n d small. ap (λ (v : Service). holds_slot d v.sender) (service_moved cs' from (Elsewhere In_service) n) ∙ (same_taken (Message m) es at queue).silent n d small;
+        silent = λ n d small. ap (λ (v : Service). holds_slot d v.sender) (service_moved cs' from (Elsewhere In_service) n)
+            ∙ (same_taken (Message m) es at queue).silent n d small;
         many = same.many;
         lists = same.lists;
       }
@@ -342,25 +354,26 @@ module _ (s : kept.State) (cs : List Cell) (clients : List Client) (same : SameC
         still : (x : MessagePlace) → (m == j) ≡ false → is_among j (kept.sent_at sent (sender x)) ≡ is_among j (kept.sent_at s (sender x))
         still x other = ap (λ l. is_among j l) (sent_of (sender x)) ∙ by (c == sender x) refl
           where
-            by : (b : Bool) → (c == sender x) ≡ b → is_among j (cond b (kept.sent_at s c ++ m ∷ []) (kept.sent_at s (sender x))) ≡ is_among j (kept.sent_at s (sender x))
-            by true e =
-                list_any-append (λ d. d == j) (kept.sent_at s c) (m ∷ []) ∙ ap (λ b. is_among j (kept.sent_at s c) || (b || false)) other ∙ or_false (is_among j (kept.sent_at s c))
-                ∙ ap (λ i. is_among j (kept.sent_at s i)) (eqb-true c (sender x) e)
+            by : (b : Bool) → (c == sender x) ≡ b →
+                is_among j (cond b (kept.sent_at s c ++ m ∷ []) (kept.sent_at s (sender x))) ≡ is_among j (kept.sent_at s (sender x))
+            by true e = list_any-append (λ d. d == j) (kept.sent_at s c) (m ∷ []) ∙ ap (λ b. is_among j (kept.sent_at s c) || (b || false)) other
+                ∙ or_false (is_among j (kept.sent_at s c)) ∙ ap (λ i. is_among j (kept.sent_at s i)) (eqb-true c (sender x) e)
             by false e = refl
 
-        go : (b : Bool) → (m == j) ≡ b →
-            sent_by (is_among j (kept.sent_at sent (sender (cond b (Queued c) (kept.place_at s j))))) (cond b (Queued c) (kept.place_at s j))
-            ≡ (cond (message_name m == message_name j) message.service (service_of behind (message_name j))).sender
+        go : (b : Bool) → (m == j) ≡ b → sent_by (is_among j (kept.sent_at sent (sender (cond b (Queued c) (kept.place_at s j)))))
+            (cond b (Queued c) (kept.place_at s j)) ≡ (cond (message_name m == message_name j) message.service (service_of behind (message_name j))).sender
         go true e = ap (λ b. Some (record { client = c; holds_slot = b; is_told = true }))
-            (ap (λ l. is_among j l) (sent_of c ∙ ap (λ b. cond b (kept.sent_at s c ++ m ∷ []) (kept.sent_at s c)) (eq-eqb c c refl))
-            ∙ list_any-append (λ d. d == j) (kept.sent_at s c) (m ∷ []) ∙ ap (λ b. is_among j (kept.sent_at s c) || (b || false)) e ∙ or_true (is_among j (kept.sent_at s c)))
-            ∙ sym (ap (λ b. (cond b message.service (service_of behind (message_name j))).sender) (eq-eqb (message_name m) (message_name j) (ap message_name (eqb-true m j e))))
+            (ap (λ l. is_among j l) (sent_of c ∙ ap (λ b. cond b (kept.sent_at s c ++ m ∷ []) (kept.sent_at s c)) (eq-eqb c c refl)) ∙ list_any-append
+            (λ d. d == j) (kept.sent_at s c) (m ∷ []) ∙ ap (λ b. is_among j (kept.sent_at s c) || (b || false)) e ∙ or_true (is_among j (kept.sent_at s c)))
+            ∙ sym (ap (λ b. (cond b message.service (service_of behind (message_name j))).sender)
+            (eq-eqb (message_name m) (message_name j) (ap message_name (eqb-true m j e))))
         go false e = ap (λ b. sent_by b (kept.place_at s j)) (still (kept.place_at s j) e) ∙ same.senders j
             ∙ sym (ap (λ b. (cond b message.service (service_of behind (message_name j))).sender) (names_apart m j e)
             ∙ sender_then cs o lives (asked_last (Message_of c (message_name m))) (λ v. refl) (message_name j))
 
     -- what the new cell has is nothing, of those that have a queue
-    other_service : (n : ℕ) → ((service_of (message ∷ behind) n).queue ≡ (service_of behind n).queue) × ((service_of (message ∷ behind) n).sessions ≡ (service_of behind n).sessions)
+    other_service : (n : ℕ) →
+        ((service_of (message ∷ behind) n).queue ≡ (service_of behind n).queue) × ((service_of (message ∷ behind) n).sessions ≡ (service_of behind n).sessions)
     other_service n = grind (arith, nat_tests, service_unnamed, named_served cs o.name, eqb-true)
 
     absent : (d : ℕ) → is_among m (kept.sent_at s d) ≡ false
@@ -390,12 +403,13 @@ module _ (s : kept.State) (cs : List Cell) (clients : List Client) (same : SameC
         assumption (same.at, queues_after, sessions_after, senders_after, waits_then, out_after, slotted_after, once_after, silent_after, same.many, lists)
       where
         old : (n : ℕ) → map (asked_by sent.places) (kept.queue_at s n) ≡ (service_of cs n).queue
-        old n = asked_apart s.places m (Queued c) place (kept.queue_at s n) (ap (λ l. list_any (is_message (message_name m)) l) (same.queues n) ∙ nowhere n) ∙ same.queues n
+        old n = asked_apart s.places m (Queued c) place (kept.queue_at s n)
+            (ap (λ l. list_any (is_message (message_name m)) l) (same.queues n) ∙ nowhere n) ∙ same.queues n
 
         own : asked_by sent.places (Message m) ≡ Message_of c (message_name m)
         own = ap (λ x. Message_of (sender x) (message_name m)) (places_at m ∙ ap (λ b. cond b (Queued c) (kept.place_at s m)) (eq-eqb m m refl))
 
         queues : (n : ℕ) → map (asked_by sent.places) (kept.queue_at sent n) ≡ (service_of behind n).queue
-        queues n = listed_then cs o lives (asked_last (Message_of c (message_name m))) s.queues (kept.queue_at s o.name ++ Message m ∷ []) (λ l. map (asked_by sent.places) l) (λ v. v.queue) queue
-            (map-append (asked_by sent.places) (kept.queue_at s o.name) (Message m ∷ [])
+        queues n = listed_then cs o lives (asked_last (Message_of c (message_name m))) s.queues (kept.queue_at s o.name ++ Message m ∷ [])
+            (λ l. map (asked_by sent.places) l) (λ v. v.queue) queue (map-append (asked_by sent.places) (kept.queue_at s o.name) (Message m ∷ [])
             ∙ ap (λ l. l ++ asked_by sent.places (Message m) ∷ []) (old o.name) ∙ ap (λ a. (service_of cs o.name).queue ++ a ∷ []) own) old n

@@ -46,11 +46,12 @@ module _ (p : Image) (w : Standing) (killed : List ℕ) where
   natives_rerequested cs _ r h = h
 
 module _ (p : Image) (fr : Frame) (ts : List Task) (s : State) (w : Standing) where
-  pub natives_passed : (depth : ℕ) (xs : List Argument) (first to : ℕ) (cs : List Cell) → SameNatives p w cs s.killed → SameNatives p w (passed_cells p fr ts s depth xs first to cs) s.killed
+  pub natives_passed : (depth : ℕ) (xs : List Argument) (first to : ℕ) (cs : List Cell) → SameNatives p w cs s.killed →
+      SameNatives p w (passed_cells p fr ts s depth xs first to cs) s.killed
   natives_passed depth [] first to cs h = h
   natives_passed depth (Takes_word ∷ xs) first to cs h = natives_passed depth xs (suc first) (suc to) cs h
-  natives_passed depth (Takes_own t ∷ xs) first to cs h =
-      natives_passed depth xs (suc first) (suc to) (moved (here fr ts s first) (Register depth to) cs) (natives_moved p w s.killed cs (here fr ts s first) (Register depth to) h)
+  natives_passed depth (Takes_own t ∷ xs) first to cs h = natives_passed depth xs (suc first) (suc to) (moved (here fr ts s first) (Register depth to) cs)
+      (natives_moved p w s.killed cs (here fr ts s first) (Register depth to) h)
 
 -- ---- a session that opens or closes
 

@@ -35,7 +35,8 @@ module _ (cells : ℕ) (k : kept.State) (sized : AreSized cells k) where
   sized_closed c = go (kept.client_at k c)
     where
       parted : (next : Client) → AreSized cells (kept.parted c next k)
-      parted next = sized_so (kept.parted c next k) refl (length-map k.queues (λ es. filter (kept.is_no_close_of c) es)) (length-map k.sessions (λ cs. filter (λ d. not (d == c)) cs))
+      parted next = sized_so (kept.parted c next k) refl (length-map k.queues (λ es. filter (kept.is_no_close_of c) es))
+          (length-map k.sessions (λ cs. filter (λ d. not (d == c)) cs))
 
       go : (x : Client) → AreSized cells (kept.ended x c k)
       go (Closing n session) = parted Unconnected

@@ -81,7 +81,8 @@ still_new cs name x ws owner small free = record {
 -- each cell is another, with the same object, owner and service
 pub still_each : {change : List Cell → List Cell} (a : Alters change) →
     ((c : Cell) → (a.each c).owner ≡ c.owner) → ((c : Cell) → (a.each c).service ≡ c.service) → (cs : List Cell) → Still cs (change cs)
-still_each a owner service cs = record { services = read_kept a services service cs; owners = λ m. ap waits_in (read_kept a owners (λ c. ap (λ q. Some q) (owner c)) cs (message_name m)) }
+still_each a owner service cs =
+    record { services = read_kept a services service cs; owners = λ m. ap waits_in (read_kept a owners (λ c. ap (λ q. Some q) (owner c)) cs (message_name m)) }
 
 pub still_requested : (cs : List Cell) (n : ℕ) (r : Option Request) → Still cs (set_request n r cs)
 still_requested cs n r = still_each (asking n r) (λ c. refl) (λ c. refl) cs

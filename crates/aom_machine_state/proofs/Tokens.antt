@@ -86,7 +86,8 @@ module _ (p : Image) (w new : Kept) (cs us : List Cell) (same : SameTokens p w c
   vs = with_token (message_name m) token owner us
 
   own_token : (x : ℕ) → (m == x) ≡ true → (service_of vs (message_name x)).token ≡ Some token
-  own_token x is = ap (λ b. (cond b (record unserved { token = Some token }) (service_of us (message_name x))).token) (eq-eqb (message_name m) (message_name x) (ap message_name (eqb-true m x is)))
+  own_token x is = ap (λ b. (cond b (record unserved { token = Some token }) (service_of us (message_name x))).token)
+      (eq-eqb (message_name m) (message_name x) (ap message_name (eqb-true m x is)))
 
   old_token : (x : ℕ) → (m == x) ≡ false → (service_of vs (message_name x)).token ≡ (service_of cs (message_name x)).token
   old_token x other = grind (arith, nat_tests, names_apart m x other)
@@ -139,10 +140,11 @@ module _ (p : Image) (w new : Kept) (cs us : List Cell) (same : SameTokens p w c
 
 -- ---- a token is replied to
 
-module _ (p : Image) (w new : Kept) (cs : List Cell) (same : SameTokens p w cs) (apart : TokensApart cs) (tidy : Tidy cs) (m n k : ℕ) (code : ℤ) (g : Place) (it : Object)
-    (there : held cs g ≡ Some it) (name : it.name ≡ message_name m) (unasked : requested cs (message_name m) ≡ None) (told : told_at cs m ≡ Some k) (object : object_at w m ≡ Some n)
-    (freed : Sets w.places new.places m None) (size : length new.living ≡ length w.living)
-    (goes : live_at w n ≡ Some m → live_at new n ≡ None) (stays : (live_at w n ≡ Some m → ⊥) → live_at new n ≡ live_at w n) (others : (x : ℕ) → (n == x) ≡ false → live_at new x ≡ live_at w x) where
+module _ (p : Image) (w new : Kept) (cs : List Cell) (same : SameTokens p w cs) (apart : TokensApart cs) (tidy : Tidy cs) (m n k : ℕ) (code : ℤ)
+    (g : Place) (it : Object) (there : held cs g ≡ Some it) (name : it.name ≡ message_name m) (unasked : requested cs (message_name m) ≡ None)
+    (told : told_at cs m ≡ Some k) (object : object_at w m ≡ Some n) (freed : Sets w.places new.places m None) (size : length new.living ≡ length w.living)
+    (goes : live_at w n ≡ Some m → live_at new n ≡ None) (stays : (live_at w n ≡ Some m → ⊥) → live_at new n ≡ live_at w n)
+    (others : (x : ℕ) → (n == x) ≡ false → live_at new x ≡ live_at w x) where
   abbrev us : List Cell
   us = all_redeemed k code cs
 
@@ -157,8 +159,8 @@ module _ (p : Image) (w new : Kept) (cs : List Cell) (same : SameTokens p w cs) 
 
   -- at another place all is as it was
   other_token : (x : ℕ) → (m == x) ≡ false → (service_of left (message_name x)).token ≡ (service_of cs (message_name x)).token
-  other_token x other = ap (λ (v : Service). v.token)
-      (service_without us g it (message_name x) tidy_then held_then (ap (λ i. i == message_name x) name ∙ names_apart m x other) ∙ told_as_before k code cs (message_name x))
+  other_token x other = ap (λ (v : Service). v.token) (service_without us g it (message_name x) tidy_then held_then
+      (ap (λ i. i == message_name x) name ∙ names_apart m x other) ∙ told_as_before k code cs (message_name x))
 
   gone_token : (service_of left (message_name m)).token ≡ None
   gone_token = ap (λ (v : Service). v.token) (service_unnamed left (message_name m) (ap (named left) (sym name) ∙ unnamed us g it tidy_then held_then))
@@ -230,4 +232,5 @@ module _ (p : Image) (w new : Kept) (cs : List Cell) (same : SameTokens p w cs) 
   class_left x false other = grind (arith, nat_tests, other_than m x other, other_token x other)
 
   pub tokens_redeemed : SameTokens p new left
-  tokens_redeemed = record { classes = λ x. class_left x (m == x) refl; waits = waits_left; lives = lives_left; places = freed.size ∙ same.places; cells = size ∙ same.cells }
+  tokens_redeemed =
+      record { classes = λ x. class_left x (m == x) refl; waits = waits_left; lives = lives_left; places = freed.size ∙ same.places; cells = size ∙ same.cells }

@@ -1,4 +1,5 @@
--- Tokens stay what they are where what clients have changes, where messages of clients come and go, and where an object goes whose request is at rest: by the cells that stay.
+-- Tokens stay what they are where what clients have changes, where messages of clients come and go, and where an object goes whose request is at rest: by the
+-- cells that stay.
 use Rattle.std.proofs.lemmas.Bool.Decides.{nat_tests}
 use Rattle.std.proofs.Common.{Bool, List, None, Option, Some, ap, arith, cond, false, refl, sym, true, ℕ, ◌<◌, ◌==◌, ◌∙◌, ◌≡◌}
 use Rattle.std.specs.Prelude.{is_some}
@@ -65,8 +66,8 @@ told_sifted drops f cs tidy none keeps n = ap (λ (v : Service). v.token) (servi
 
 -- no message holds a slot any more
 pub tokens_unslotted : (p : Image) (w : Kept) (clients : List ℕ) (cs : List Cell) → SameTokens p w cs → SameTokens p w (each_unslotted clients cs)
-tokens_unslotted p w clients cs same =
-    tokens_still p w cs (each_unslotted clients cs) (λ n. ap awaited (each_unslotted_requests clients cs n)) (λ m. ap (λ (v : Service). v.token) (service_lost clients cs (message_name m))) same
+tokens_unslotted p w clients cs same = tokens_still p w cs (each_unslotted clients cs) (λ n. ap awaited (each_unslotted_requests clients cs n))
+    (λ m. ap (λ (v : Service). v.token) (service_lost clients cs (message_name m))) same
 
 -- an object goes that waits for no token
 pub tokens_without : (p : Image) (w : Kept) (cs : List Cell) (g : Place) (o : Object) →
@@ -76,8 +77,10 @@ tokens_without p w cs g o tidy there small rests same = tokens_still p w cs (wit
     asks : (n : ℕ) (b : Bool) → (o.name == n) ≡ b → awaited (requested (without g cs) n) ≡ awaited (requested cs n)
     asks n true e =
         let one = eqb-true o.name n e in
-        ap awaited (requested_unnamed (without g cs) n (ap (named (without g cs)) (sym one) ∙ unnamed cs g o tidy there)) ∙ sym rests ∙ ap (λ i. awaited (requested cs i)) one
+        ap awaited (requested_unnamed (without g cs) n (ap (named (without g cs)) (sym one) ∙ unnamed cs g o tidy there)) ∙ sym rests
+        ∙ ap (λ i. awaited (requested cs i)) one
     asks n false e = ap awaited (requested_without cs g o n tidy there e)
 
     tells : (m : ℕ) → token_under (without g cs) (message_name m) ≡ token_under cs (message_name m)
-    tells m = ap (λ (v : Service). v.token) (service_without cs g o (message_name m) tidy there (ne_eqb o.name (message_name m) (λ e. absurd (omega (arith, e, small)))))
+    tells m = ap (λ (v : Service). v.token)
+        (service_without cs g o (message_name m) tidy there (ne_eqb o.name (message_name m) (λ e. absurd (omega (arith, e, small)))))

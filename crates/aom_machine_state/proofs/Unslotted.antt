@@ -38,5 +38,6 @@ cells_unslotted p h clients cs same = record {
   below = same.below;
 }
 
-pub natives_unslotted : (p : Image) (w : Standing) (killed : List ℕ) (clients : List ℕ) (cs : List Cell) → SameNatives p w cs killed → SameNatives p w (each_unslotted clients cs) killed
+pub natives_unslotted : (p : Image) (w : Standing) (killed : List ℕ) (clients : List ℕ) (cs : List Cell) → SameNatives p w cs killed →
+    SameNatives p w (each_unslotted clients cs) killed
 natives_unslotted p w killed clients cs same = record { sessions = λ n. same.sessions n ∙ sym (each_session clients cs n); dead = same.dead; limit = same.limit }

@@ -53,8 +53,9 @@ pub value_here : (f : Machine_frame) (ms : List Machine_task) (h : Heap) (es : L
     length ms ≡ d → value_in (Runs_frame f ∷ ms) h es others (Register d i) ≡ slice_index_or f.registers i null
 value_here f ms h es others d i e = ap (λ b. cond b (slice_index_or f.registers i null) (register_in ms d i)) (eq-eqb (length ms) d e)
 
-pub value_written : (f : Machine_frame) (ms : List Machine_task) (h : Heap) (es : List Item) (others : Others) (d i x place : ℕ) → length ms ≡ d → i < length f.registers → (r : Place)
-    → value_in (Runs_frame (record f { registers = slice_set f.registers i x; place = place }) ∷ ms) h es others r ≡ changed (value_in (Runs_frame f ∷ ms) h es others) (Register d i) x r
+pub value_written : (f : Machine_frame) (ms : List Machine_task) (h : Heap) (es : List Item) (others : Others) (d i x place : ℕ) → length ms ≡ d →
+    i < length f.registers → (r : Place) → value_in (Runs_frame (record f { registers = slice_set f.registers i x; place = place }) ∷ ms) h es others r
+    ≡ changed (value_in (Runs_frame f ∷ ms) h es others) (Register d i) x r
 value_written f ms h es others d i x place deep small y = grind (arith, nat_tests, slot_set)
 
 -- counters and the method's place are no places of values
@@ -71,7 +72,8 @@ pub word_written : (fr : Frame) (ts : List Task) (i place : ℕ) (w : Option ℤ
     → word_at (Run (record fr { words = put_at None fr.words i w; place = place }) ∷ ts) r ≡ changed (word_at (Run fr ∷ ts)) (Register (length ts) i) w r
 word_written fr ts i place w x = grind (arith, nat_tests, at-put_at None fr.words i)
 
-pub word_counted : (fr : Frame) (ts : List Task) (counters : List ℕ) (place : ℕ) (r : Place) → word_at (Run (record fr { counters = counters; place = place }) ∷ ts) r ≡ word_at (Run fr ∷ ts) r
+pub word_counted : (fr : Frame) (ts : List Task) (counters : List ℕ) (place : ℕ) (r : Place) →
+    word_at (Run (record fr { counters = counters; place = place }) ∷ ts) r ≡ word_at (Run fr ∷ ts) r
 word_counted fr ts counters place _ = refl
 
 pub word_next : (fr : Frame) (ts : List Task) (place : ℕ) (r : Place) → word_at (Run (record fr { place = place }) ∷ ts) r ≡ word_at (Run fr ∷ ts) r

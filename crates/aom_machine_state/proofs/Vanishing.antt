@@ -44,8 +44,8 @@ lost_none : (xs : List ℕ) → lost xs None ≡ None
 lost_none [] = refl
 lost_none (c ∷ xs) = lost_none xs
 
-lost_some : (xs : List ℕ) (d : ℕ) (slot told : Bool) →
-    lost xs (Some (record { client = d; holds_slot = slot; is_told = told })) ≡ Some (record { client = d; holds_slot = cond (is_among d xs) false slot; is_told = told })
+lost_some : (xs : List ℕ) (d : ℕ) (slot told : Bool) → lost xs (Some (record { client = d; holds_slot = slot; is_told = told }))
+    ≡ Some (record { client = d; holds_slot = cond (is_among d xs) false slot; is_told = told })
 lost_some [] d slot told = refl
 lost_some (c ∷ xs) d slot told = ap (λ m. lost xs (Some m)) (first (d == c)) ∙ lost_some xs d (cond (d == c) false slot) told
     ∙ ap (λ b. Some (record { client = d; holds_slot = b; is_told = told })) (both (is_among d xs) (d == c) (c == d) (eqb_comm d c))
@@ -63,7 +63,8 @@ lost_sent xs slot x = grind (arith, nat_tests, lost_none xs, lost_some xs)
 lost_slot : (xs : List ℕ) (d : ℕ) (m : Option Sender) → holds_slot d (lost xs m) ≡ cond (is_among d xs) false (holds_slot d m)
 lost_slot xs d x = grind (arith, nat_tests, lost_none xs, lost_some xs, eqb-true)
 
-pub service_lost : (xs : List ℕ) (cs : List Cell) (n : ℕ) → service_of (each_unslotted xs cs) n ≡ record (service_of cs n) { sender = lost xs (service_of cs n).sender }
+pub service_lost : (xs : List ℕ) (cs : List Cell) (n : ℕ) →
+    service_of (each_unslotted xs cs) n ≡ record (service_of cs n) { sender = lost xs (service_of cs n).sender }
 service_lost [] cs n = refl
 service_lost (c ∷ xs) cs n = grind (arith, nat_tests, service_lost xs, service_unslotted c cs n)
 
@@ -94,7 +95,8 @@ each_cell P (c ∷ cs) t h =
 pub names_same : (k j : ℕ) → (message_name k == message_name j) ≡ (k == j)
 names_same k j = grind (arith, nat_tests, eq-eqb, eqb-true k j, names_apart k j)
 
-pub asks_message : (places : List MessagePlace) (es : List QueueEntry) (j : ℕ) → list_any (is_message (message_name j)) (map (asked_by places) es) ≡ list_any (is_at j) es
+pub asks_message : (places : List MessagePlace) (es : List QueueEntry) (j : ℕ) →
+    list_any (is_message (message_name j)) (map (asked_by places) es) ≡ list_any (is_at j) es
 asks_message places [] j = refl
 asks_message places (Message k ∷ es) j = grind (arith, nat_tests, names_same k j, asks_message places es j)
 asks_message places (_ ∷ es) j = asks_message places es j
@@ -138,13 +140,12 @@ client_alike false true x = gone_sessionless x
 client_alike false false x = refl
 
 -- the object at g goes; it is none of messages, and nothing is a message in its queue but what is asked of it
-module _ (s : kept.State) (cs : List Cell) (clients : List Client) (same : SameClients s cs clients)
-    (tidy : Tidy cs) (o : Object) (g : Owner) (there : held cs g ≡ Some o) (apart : is_queue g ≡ false) (small : o.name < 4096)
-    (queue_room : o.name < length s.queues) (session_room : o.name < length s.sessions)
-    (empty : (n : ℕ) (x : Cell) → cell_of cs n ≡ Some x → is_queue x.owner ≡ true → (x.service.queue ≡ []) × (x.service.sessions ≡ []))
-    (asked : (m : ℕ) (x : Object) → held cs (Elsewhere (Waits_at o.name m)) ≡ Some x → (x.name ≡ m) × (has_message (service_of cs o.name) m ≡ true))
-    (waiting : (n m : ℕ) → has_message (service_of cs n) m ≡ true → (x : Object) × (held cs (Elsewhere (Waits_at n m)) ≡ Some x) × (x.name ≡ m))
-    (going : (j d : ℕ) → kept.place_at s j ≡ Queued d → is_among d (service_of cs o.name).sessions ≡ true → has_message (service_of cs o.name) (message_name j) ≡ true) where
+module _ (s : kept.State) (cs : List Cell) (clients : List Client) (same : SameClients s cs clients) (tidy : Tidy cs) (o : Object) (g : Owner) (there : held cs
+    g ≡ Some o) (apart : is_queue g ≡ false) (small : o.name < 4096) (queue_room : o.name < length s.queues) (session_room : o.name < length s.sessions)
+    (empty : (n : ℕ) (x : Cell) → cell_of cs n ≡ Some x → is_queue x.owner ≡ true → (x.service.queue ≡ []) × (x.service.sessions ≡ [])) (asked : (m : ℕ)
+    (x : Object) → held cs (Elsewhere (Waits_at o.name m)) ≡ Some x → (x.name ≡ m) × (has_message (service_of cs o.name) m ≡ true)) (waiting : (n m : ℕ) →
+    has_message (service_of cs n) m ≡ true → (x : Object) × (held cs (Elsewhere (Waits_at n m)) ≡ Some x) × (x.name ≡ m)) (going : (j d : ℕ) →
+    kept.place_at s j ≡ Queued d → is_among d (service_of cs o.name).sessions ≡ true → has_message (service_of cs o.name) (message_name j) ≡ true) where
   abbrev k : ℕ
   k = o.name
 
@@ -200,7 +201,8 @@ module _ (s : kept.State) (cs : List Cell) (clients : List Client) (same : SameC
   drops_message : (j : ℕ) (x : Cell) → cell_of cs (message_name j) ≡ Some x → drops x ≡ goes j
   drops_message j x e = go (goes j) refl
     where
-      placed : (y : Object) → held cs (Elsewhere (Waits_at k (message_name j))) ≡ Some y → y.name ≡ message_name j → x.owner ≡ Elsewhere (Waits_at k (message_name j))
+      placed : (y : Object) → held cs (Elsewhere (Waits_at k (message_name j))) ≡ Some y → y.name ≡ message_name j →
+          x.owner ≡ Elsewhere (Waits_at k (message_name j))
       placed y at name =
           let z = a_cell_of (cell_in cs (Elsewhere (Waits_at k (message_name j)))) y (sym (held_cell cs (Elsewhere (Waits_at k (message_name j)))) ∙ at) in
           let lives = cell_lives cs (Elsewhere (Waits_at k (message_name j))) z.0 tidy z.1 in
@@ -224,7 +226,8 @@ module _ (s : kept.State) (cs : List Cell) (clients : List Client) (same : SameC
   cell_stays j = grind (arith, nat_tests, cell_of_sifted, cell_of, left_cell, drops_message j)
 
   -- what else goes has no queue and no sessions
-  parts_stay : (n : ℕ) → ((service_of stay n).queue ≡ cond (k == n) [] (service_of cs n).queue) × ((service_of stay n).sessions ≡ cond (k == n) [] (service_of cs n).sessions)
+  parts_stay : (n : ℕ) → ((service_of stay n).queue ≡ cond (k == n) [] (service_of cs n).queue)
+      × ((service_of stay n).sessions ≡ cond (k == n) [] (service_of cs n).sessions)
   parts_stay n = subst (λ v. (v.queue ≡ cond (k == n) [] (service_of cs n).queue) × (v.sessions ≡ cond (k == n) [] (service_of cs n).sessions))
       (sym (service_cell stay n ∙ ap service_in (cell_of_sifted drops (λ c. c.service) cs n tidy))) (go (cell_of cs n) refl (k == n) refl)
     where
@@ -235,8 +238,8 @@ module _ (s : kept.State) (cs : List Cell) (clients : List Client) (same : SameC
       own : (x : Cell) → cell_of cs n ≡ Some x → (k == n) ≡ true → drops x ≡ true
       own x e f = grind (arith, nat_tests, a_cell_of, cell_in, held_cell, cell_lives, cell_of, eqb-true, cell_owner)
 
-      at : (x : Cell) → cell_of cs n ≡ Some x → (b : Bool) → (k == n) ≡ b → (d : Bool) → drops x ≡ d →
-          ((service_in (cond d None (Some x))).queue ≡ cond b [] (service_of cs n).queue) × ((service_in (cond d None (Some x))).sessions ≡ cond b [] (service_of cs n).sessions)
+      at : (x : Cell) → cell_of cs n ≡ Some x → (b : Bool) → (k == n) ≡ b → (d : Bool) → drops x ≡ d → ((service_in (cond d None (Some x))).queue
+          ≡ cond b [] (service_of cs n).queue) × ((service_in (cond d None (Some x))).sessions ≡ cond b [] (service_of cs n).sessions)
       at x e true f true g' = (refl, refl)
       at x e true f false g' = absurd (false≢true (sym g' ∙ own x e f))
       at x e false f false g' = (sym (ap (λ (v : Service). v.queue) (was (Some x) e)), sym (ap (λ (v : Service). v.sessions) (was (Some x) e)))
@@ -316,9 +319,8 @@ module _ (s : kept.State) (cs : List Cell) (clients : List Client) (same : SameC
   -- ---- queues, sessions and clients
 
   queues_then : (n : ℕ) → map (asked_by then.places) (kept.queue_at then n) ≡ (service_of left n).queue
-  queues_then n =
-      ap (λ l. map (asked_by then.places) l) (ap (λ l. slice_index_or l n []) (queues_after_sessions k (kept.sessions_at s k) between) ∙ queue_after_queue k es s n queue_room refl) ∙ go (k == n) refl
-      ∙ sym (ap (λ (v : Service). v.queue) (service_lost xs stay n) ∙ (parts_stay n).0)
+  queues_then n = ap (λ l. map (asked_by then.places) l) (ap (λ l. slice_index_or l n []) (queues_after_sessions k (kept.sessions_at s k) between)
+      ∙ queue_after_queue k es s n queue_room refl) ∙ go (k == n) refl ∙ sym (ap (λ (v : Service). v.queue) (service_lost xs stay n) ∙ (parts_stay n).0)
     where
       -- another server's messages stay
       stays : (k == n) ≡ false → (j : ℕ) → list_any (is_at j) (kept.queue_at s n) ≡ true → goes j ≡ false
@@ -328,13 +330,15 @@ module _ (s : kept.State) (cs : List Cell) (clients : List Client) (same : SameC
           by false e = refl
           by true e =
               let x = waiting k (message_name j) e in
-              let y = waiting n (message_name j) (ap (λ q. list_any (is_message (message_name j)) q) (sym (same.queues n)) ∙ asks_message s.places (kept.queue_at s n) j ∙ h) in
+              let y = waiting n (message_name j)
+              (ap (λ q. list_any (is_message (message_name j)) q) (sym (same.queues n)) ∙ asks_message s.places (kept.queue_at s n) j ∙ h) in
               let one = one_place cs (Elsewhere (Waits_at k (message_name j))) (Elsewhere (Waits_at n (message_name j))) x.0 y.0 tidy x.1 y.1 (x.2 ∙ sym y.2) in
               absurd (false≢true (sym other ∙ eq-eqb k n (ap place_outer one)))
 
       go : (b : Bool) → (k == n) ≡ b → map (asked_by then.places) (cond b [] (kept.queue_at s n)) ≡ cond b [] (service_of cs n).queue
       go true e = refl
-      go false e = asked_alike s.places then.places (kept.queue_at s n) (λ j h. ap sender (place_then j ∙ ap (λ b. cond b Free (kept.place_at s j)) (stays e j h))) ∙ same.queues n
+      go false e = asked_alike s.places then.places (kept.queue_at s n)
+          (λ j h. ap sender (place_then j ∙ ap (λ b. cond b Free (kept.place_at s j)) (stays e j h))) ∙ same.queues n
 
   sessions_then : (n : ℕ) → kept.sessions_at then n ≡ (service_of left n).sessions
   sessions_then n = grind (arith, nat_tests, sessions_after_sessions, sessions_after_queue, service_lost, parts_stay n)

@@ -62,8 +62,8 @@ module _ (c : ℕ) where
   remains goes x = cond goes None (discarded c x)
 
   -- of a message at that place
-  sender_left : (slot slot' : Bool) (p : MessagePlace) → ((d : ℕ) → sender p ≡ d → (d == c) ≡ false → slot' ≡ slot) → (is_queued p ≡ false → (d : ℕ) → sender p ≡ d → (d == c) ≡ true → slot' ≡ false) →
-      sent_by slot' (kept.left_place c p) ≡ remains (is_queued p && is_from c (sent_by slot p)) (sent_by slot p)
+  sender_left : (slot slot' : Bool) (p : MessagePlace) → ((d : ℕ) → sender p ≡ d → (d == c) ≡ false → slot' ≡ slot) → (is_queued p ≡ false → (d : ℕ) → sender p
+      ≡ d → (d == c) ≡ true → slot' ≡ false) → sent_by slot' (kept.left_place c p) ≡ remains (is_queued p && is_from c (sent_by slot p)) (sent_by slot p)
   sender_left slot slot' x other own = grind arith
 
   queued_left : (slot : Bool) (p : MessagePlace) → is_queued (kept.left_place c p) ≡ cond (is_queued p && is_from c (sent_by slot p)) false (is_queued p)
@@ -109,17 +109,20 @@ module _ (c : ℕ) (places : List MessagePlace) where
       map (asked_by places') r ≡ q → (b ≡ true → asked_by places' e ≡ a) → map (asked_by places') (cond b (e ∷ r) r) ≡ cond b (a ∷ q) q
   step x e r a q ih h = grind arith
 
-  entries_left : (es : List QueueEntry) → AllWait places es → map (asked_by places') (filter (λ e. kept.stays c places e) es) ≡ filter (stays c) (map (asked_by places) es)
+  entries_left : (es : List QueueEntry) → AllWait places es →
+      map (asked_by places') (filter (λ e. kept.stays c places e) es) ≡ filter (stays c) (map (asked_by places) es)
   entries_left [] waits = refl
   entries_left (Connect d ∷ es) waits = step (not (d == c)) (Connect d) (filter (λ e. kept.stays c places e) es) (Connect_of d) _ (entries_left es waits) (λ h. refl)
   entries_left (Close d ∷ es) waits = ap (λ l. Close_of d ∷ l) (entries_left es waits)
-  entries_left (Message j ∷ es) waits = grind (arith, nat_tests, waits_of c, step, entries_left es waits.1, get_or-map (kept.left_place c) places j Free, left_other c)
+  entries_left (Message j ∷ es) waits =
+      grind (arith, nat_tests, waits_of c, step, entries_left es waits.1, get_or-map (kept.left_place c) places j Free, left_other c)
 
 -- ---- all of it
 
 -- what waits in a queue has no queue and no sessions of its own
 module _ (s : kept.State) (cs : List Cell) (clients : List Client) (same : SameClients s cs clients) (tidy : Tidy cs) (c : ℕ) (client : c < 64)
-    (plain : (n : ℕ) (x : Cell) → cell_of cs n ≡ Some x → is_queue x.owner ≡ true → (x.service.queue ≡ []) × (x.service.sessions ≡ [])) (waiting : (n : ℕ) → AllWait s.places (kept.queue_at s n)) where
+    (plain : (n : ℕ) (x : Cell) → cell_of cs n ≡ Some x → is_queue x.owner ≡ true → (x.service.queue ≡ []) × (x.service.sessions ≡ []))
+    (waiting : (n : ℕ) → AllWait s.places (kept.queue_at s n)) where
   abbrev then : kept.State
   then = kept.withdrawn c s
 
@@ -161,14 +164,15 @@ module _ (s : kept.State) (cs : List Cell) (clients : List Client) (same : SameC
   waits_told : (j : ℕ) (x : Option Cell) → cell_of cs (message_name j) ≡ x → is_queued (kept.place_at s j) ≡ waits_in (owner_in x)
   waits_told j x at = same.waits j ∙ ap waits_in (owner_cell cs (message_name j) ∙ ap owner_in at)
 
-  goes_so : (j : ℕ) (x : Cell) → cell_of cs (message_name j) ≡ Some x → (is_queued (kept.place_at s j) && is_from c (sent_by (holds s j) (kept.place_at s j))) ≡ drops c x
+  goes_so : (j : ℕ) (x : Cell) → cell_of cs (message_name j) ≡ Some x →
+      (is_queued (kept.place_at s j) && is_from c (sent_by (holds s j) (kept.place_at s j))) ≡ drops c x
   goes_so j x at = grind (arith, nat_tests, waits_told j (Some x) at, sender_told j (Some x) at)
 
   none_goes : (p : MessagePlace) (slot : Bool) → sent_by slot p ≡ None → (is_queued p && is_from c (sent_by slot p)) ≡ false
   none_goes x slot e = grind arith
 
-  left_sender : (j : ℕ) (x : Option Cell) → cell_of cs (message_name j) ≡ x →
-      remains c (is_queued (kept.place_at s j) && is_from c (sent_by (holds s j) (kept.place_at s j))) (sent_by (holds s j) (kept.place_at s j)) ≡ (service_in (left_of c x)).sender
+  left_sender : (j : ℕ) (x : Option Cell) → cell_of cs (message_name j) ≡ x → remains c (is_queued (kept.place_at s j)
+      && is_from c (sent_by (holds s j) (kept.place_at s j))) (sent_by (holds s j) (kept.place_at s j)) ≡ (service_in (left_of c x)).sender
   left_sender j None at = grind (arith, nat_tests, none_goes, sender_told j None at)
   left_sender j (Some x) at = grind (arith, nat_tests, goes_so j x at, sender_told j (Some x) at, service_in)
 
@@ -214,9 +218,11 @@ module _ (s : kept.State) (cs : List Cell) (clients : List Client) (same : SameC
   pub same_withdrawn : SameClients then left clients
   same_withdrawn = record {
     at = same.at;
-    queues = λ n. ap (λ es. map (asked_by then.places) es) (get_or-map (filter (kept.stays c s.places)) s.queues n []) ∙ entries_left c s.places (kept.queue_at s n) (waiting n)
-        ∙ ap (λ q. filter (stays c) q) (same.queues n ∙ ap (λ (v : Service). v.queue) (service_cell cs n)) ∙ queue_left n (cell_of cs n) refl ∙ sym (ap (λ (v : Service). v.queue) (service_then n));
-    sessions = λ n. same.sessions n ∙ ap (λ (v : Service). v.sessions) (service_cell cs n) ∙ sessions_left n (cell_of cs n) refl ∙ sym (ap (λ (v : Service). v.sessions) (service_then n));
+    queues = λ n. ap (λ es. map (asked_by then.places) es) (get_or-map (filter (kept.stays c s.places)) s.queues n []) ∙ entries_left c s.places
+        (kept.queue_at s n) (waiting n) ∙ ap (λ q. filter (stays c) q) (same.queues n ∙ ap (λ (v : Service). v.queue) (service_cell cs n))
+        ∙ queue_left n (cell_of cs n) refl ∙ sym (ap (λ (v : Service). v.queue) (service_then n));
+    sessions = λ n. same.sessions n ∙ ap (λ (v : Service). v.sessions) (service_cell cs n) ∙ sessions_left n (cell_of cs n) refl
+        ∙ sym (ap (λ (v : Service). v.sessions) (service_then n));
     senders = senders_then;
     waits = waits_then;
     out = out_then;
@@ -231,8 +237,8 @@ module _ (s : kept.State) (cs : List Cell) (clients : List Client) (same : SameC
       once_then y d = grind arith
 
   -- its close is asked for where its session was open
-  module _ (p : Image) (st : State) (to : Client) (tidy_left : Tidy left)
-      (server : (n session slots : ℕ) → kept.client_at s c ≡ Open n session slots → (o : Object) × (o.name ≡ n) × (named left o.name ≡ Some o) × (o.name < length then.queues)) where
+  module _ (p : Image) (st : State) (to : Client) (tidy_left : Tidy left) (server : (n session slots : ℕ) → kept.client_at s c ≡ Open n session slots →
+      (o : Object) × (o.name ≡ n) × (named left o.name ≡ Some o) × (o.name < length then.queues)) where
     abbrev moved : kept.State
     moved = kept.with_client c to then
 
@@ -247,4 +253,5 @@ module _ (s : kept.State) (cs : List Cell) (clients : List Client) (same : SameC
     told_so _ at = now
 
     pub same_left : SameClients (kept.leaving (Some to) c s) (told p c st (client_at clients c) left) (with_client c (sessionless to) clients)
-    same_left = subst (λ x. SameClients (kept.leaving (Some to) c s) (told p c st x left) (with_client c (sessionless to) clients)) (same.at c) (told_so (kept.client_at s c) refl)
+    same_left = subst (λ x. SameClients (kept.leaving (Some to) c s) (told p c st x left) (with_client c (sessionless to) clients)) (same.at c)
+        (told_so (kept.client_at s c) refl)

@@ -90,7 +90,8 @@ module _ (names : Names) (kinds_before : List ClassDecl) (natives servers : ℕ)
     words : ws ≡ kind_words said ++ rest
     means : KindMeans names version natives said K
 
-  server_sound : (version : Version) (vs : List (List ℕ)) → Sound (server (told names kinds_before)) vs (λ K rest. KindSays version (keyword_text k.Server ∷ vs) K rest)
+  server_sound : (version : Version) (vs : List (List ℕ)) →
+      Sound (server (told names kinds_before)) vs (λ K rest. KindSays version (keyword_text k.Server ∷ vs) K rest)
   server_sound version vs =
       let Q = λ (K : ClassKind) (rest : List (List ℕ)). KindSays version (keyword_text k.Server ∷ vs) K rest in
       next_sound Q (class (told names kinds_before)) _ vs (λ c us r1.
@@ -116,8 +117,7 @@ module _ (names : Names) (kinds_before : List ClassDecl) (natives servers : ℕ)
   kind_sound version k.Session vs = giving_sound _ kinds.Session vs (record { said = source.session; words = refl; means = tt })
   kind_sound version k.Active vs =
       let Q = λ (K : ClassKind) (rest : List (List ℕ)). KindSays version (keyword_text k.Active ∷ vs) K rest in
-      next_sound Q any_keyword _ vs (λ key us r1.
-      next_sound Q (provider version natives key) _ us (λ p rest r2.
+      next_sound Q any_keyword _ vs (λ key us r1. next_sound Q (provider version natives key) _ us (λ p rest r2.
       let e = begins_with vs key us r1 in
       let s = (provider_sound version natives key us).each p rest r2 in
       giving_sound Q (kinds.Active p) rest (record { said = source.active s.said; words = ap (λ v. keyword_text k.Active ∷ v) (e ∙ s.words); means = s.means })))
@@ -165,9 +165,7 @@ module _ (names : Names) (kinds_before : List ClassDecl) (natives servers : ℕ)
   said_sound : (ws : List (List ℕ)) → Sound said_budget ws (λ n rest. BudgetSays true ws n)
   said_sound ws =
       let Q = λ (n : ℕ) (rest : List (List ℕ)). BudgetSays true ws n in
-      next_sound Q (keyword k.Budget) _ ws (λ u vs r1.
-      next_sound Q (number 0 4294967295) _ vs (λ n us r2.
-      next_sound Q (nothing_more false) _ us (λ v rest r3.
+      next_sound Q (keyword k.Budget) _ ws (λ u vs r1. next_sound Q (number 0 4294967295) _ vs (λ n us r2. next_sound Q (nothing_more false) _ us (λ v rest r3.
       let e = saw_keyword k.Budget ws u vs r1 in
       let s = saw (number_in 0 4294967295) vs n us r2 in
       giving_sound Q n rest (record {
@@ -180,7 +178,8 @@ module _ (names : Names) (kinds_before : List ClassDecl) (natives servers : ℕ)
   budget_sound owns true ws = said_sound ws
   budget_sound owns false ws =
       let Q = λ (n : ℕ) (rest : List (List ℕ)). BudgetSays false ws n in
-      next_sound Q (nothing_more (not owns)) _ ws (λ u rest r. giving_sound Q 0 rest (record { said = None; words = (none_left (not owns) ws u rest r).0; means = refl }))
+      next_sound Q (nothing_more (not owns)) _ ws
+      (λ u rest r. giving_sound Q 0 rest (record { said = None; words = (none_left (not owns) ws u rest r).0; means = refl }))
 
   owns_says : (owns : Bool) (ws vs : List (List ℕ)) (list : List Thing) (rest : List (List ℕ)) →
       flag k.Own ws ≡ Ok (owns, vs) → fields (told names kinds_before) owns vs ≡ Ok (list, rest) → Part k.Own (IsList 8 (IsThing names)) [] ws list rest
@@ -202,7 +201,8 @@ module _ (names : Names) (kinds_before : List ClassDecl) (natives servers : ℕ)
     pub means : ClassMeans names version natives said c
     pub placed : place_of said.name names.classes ≡ Some place
 
-  pub class_sound : (version : Version) (place : ℕ) (ws : List (List ℕ)) → Sound (class_statement (told names kinds_before) version natives place servers) ws (λ c rest. ClassSays version place ws c)
+  pub class_sound : (version : Version) (place : ℕ) (ws : List (List ℕ)) →
+      Sound (class_statement (told names kinds_before) version natives place servers) ws (λ c rest. ClassSays version place ws c)
   class_sound version place ws =
       let Q = λ (c : ClassDecl) (rest : List (List ℕ)). ClassSays version place ws c in
       let scope = told names kinds_before in
@@ -239,12 +239,14 @@ module _ {names : Names} {scope : Scope} (looks : LooksUp names scope) where
       (takes_flag k.Own) (first (g true) (takes_seen (list_reads 8 (thing_of scope) (IsThing names) (thing_reads looks) w list says)) (later true))
 
   module _ (version : Version) (natives servers : ℕ) where
-    takes_provider : (said : ProviderText) (p : Provider) → ProviderMeans version natives said p → Takes (next any_keyword (provider version natives)) (provider_words said) p
+    takes_provider : (said : ProviderText) (p : Provider) → ProviderMeans version natives said p →
+        Takes (next any_keyword (provider version natives)) (provider_words said) p
     takes_provider source.by_itself providers.Own means = in_turn _ (takes_any_keyword k.This) (gives _)
     takes_provider source.by_timer providers.Timer means = in_turn _ (takes_any_keyword k.Timer) (gives _)
-    takes_provider (source.by_native w) (providers.Native n) means = in_turn _ (takes_any_keyword k.Native) (in_turn _ (takes_seen (number_reads 0 15 w n means.0)) (record {
-      reads = λ rest. ap (λ b. (if b then giving (providers.Native n) else failing LimitPassed) rest) (lt-ltb n natives means.1);
-    }))
+    takes_provider (source.by_native w) (providers.Native n) means =
+        in_turn _ (takes_any_keyword k.Native) (in_turn _ (takes_seen (number_reads 0 15 w n means.0)) (record {
+          reads = λ rest. ap (λ b. (if b then giving (providers.Native n) else failing LimitPassed) rest) (lt-ltb n natives means.1);
+        }))
     takes_provider source.by_token providers.Token means = search (arith, nat_tests, in_turn, takes_any_keyword, means)
     takes_provider said p means = absurd means
 
@@ -252,7 +254,8 @@ module _ {names : Names} {scope : Scope} (looks : LooksUp names scope) where
         → Takes (next any_keyword (kind scope version natives servers)) (kind_words said) K
     takes_kind source.plain kinds.Plain means few = in_turn _ (takes_any_keyword k.Plain) (gives _)
     takes_kind source.session kinds.Session means few = in_turn _ (takes_any_keyword k.Session) (gives _)
-    takes_kind (source.active said) (kinds.Active p) means few = in_turn _ (takes_any_keyword k.Active) (made any_keyword (provider version natives) kinds.Active (takes_provider said p means))
+    takes_kind (source.active said) (kinds.Active p) means few =
+        in_turn _ (takes_any_keyword k.Active) (made any_keyword (provider version natives) kinds.Active (takes_provider said p means))
     takes_kind (source.server class most) (kinds.Server sessions of_class) means few = search (
       arith,
       nat_tests,
@@ -270,12 +273,14 @@ module _ {names : Names} {scope : Scope} (looks : LooksUp names scope) where
     said_reads : (w : List ℕ) (n : ℕ) → IsBudget w n → Whole said_budget (keyword_text k.Budget ∷ w ∷ []) n
     said_reads w n says = first _ (takes_keyword k.Budget) (first _ (takes_seen (number_reads 0 4294967295 w n says)) (record { reads = refl }))
 
-    budget_reads : (dispatched : Bool) (said : Option (List ℕ)) (n : ℕ) → BudgetMeans dispatched said n → (owns : Bool) → Whole (budget owns dispatched) (part k.Budget said) n
+    budget_reads : (dispatched : Bool) (said : Option (List ℕ)) (n : ℕ) → BudgetMeans dispatched said n → (owns : Bool) →
+        Whole (budget owns dispatched) (part k.Budget said) n
     budget_reads dispatched said n means owns = grind (arith, nat_tests, said_reads, means, Whole)
 
     -- what stands behind the kind
     abbrev rest_of_fields : ClassKind → Option ℕ → ℕ → Bool → List Thing → Reading ClassDecl
-    rest_of_fields K parent words owns list = next (budget owns (is_dispatched K)) (λ n. giving (record { kind = K; parent = parent; words = words; fields = list; budget = n }))
+    rest_of_fields K parent words owns list =
+        next (budget owns (is_dispatched K)) (λ n. giving (record { kind = K; parent = parent; words = words; fields = list; budget = n }))
 
     abbrev rest_of_class : ClassKind → Option ℕ → Reading ClassDecl
     rest_of_class K parent = next (optional_number k.Words 8) (λ words. next (flag k.Own) (λ owns. next (fields scope owns) (rest_of_fields K parent words owns)))
@@ -283,7 +288,8 @@ module _ {names : Names} {scope : Scope} (looks : LooksUp names scope) where
     abbrev behind_kind : ClassKind → Reading ClassDecl
     behind_kind K = next (optional_parent scope version K) (rest_of_class K)
 
-    said_parent_reads : (v : Version) (K : ClassKind) (w : List ℕ) (c : ℕ) → ParentMeans names v K (Some w) (Some c) → (ws : List (List ℕ)) → said_parent scope v K (w ∷ ws) ≡ Ok (Some c, ws)
+    said_parent_reads : (v : Version) (K : ClassKind) (w : List ℕ) (c : ℕ) → ParentMeans names v K (Some w) (Some c) → (ws : List (List ℕ)) →
+        said_parent scope v K (w ∷ ws) ≡ Ok (Some c, ws)
     said_parent_reads x y w c means ws = grind (arith, nat_tests, in_turn, takes_class looks w c means.2, gives (Some c))
 
     parent_reads : (K : ClassKind) (said : Option (List ℕ)) (parent : Option ℕ) (ws : List (List ℕ)) →

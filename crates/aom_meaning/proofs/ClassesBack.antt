@@ -46,7 +46,8 @@ module _ {classes methods : ℕ} {scope : Scope} (names : HasNames classes metho
 
   -- ---- parents
 
-  said_reads : (version : Version) (K : ClassKind) (c : ℕ) → ParentFits version classes K (Some c) → (ws : List (List ℕ)) → said_parent scope version K (class_name c ∷ ws) ≡ Ok (Some c, ws)
+  said_reads : (version : Version) (K : ClassKind) (c : ℕ) → ParentFits version classes K (Some c) → (ws : List (List ℕ)) →
+      said_parent scope version K (class_name c ∷ ws) ≡ Ok (Some c, ws)
   said_reads x y c fits ws = grind (arith, nat_tests, in_turn, takes_class names c fits.2, gives (Some c))
 
   -- a parent stands before the word of words
@@ -60,7 +61,8 @@ module _ {classes methods : ℕ} {scope : Scope} (names : HasNames classes metho
     takes_provider : (p : Provider) → ProviderFits version natives p → Takes (next any_keyword (provider version natives)) (provider_words p) p
     takes_provider x fits = grind (arith, nat_tests, in_turn, takes_any_keyword, gives, takes_number 0 15, lt-ltb)
 
-    takes_kind : (K : ClassKind) → KindFits version classes natives K → (is_server_kind K ≡ true → servers < 8) → Takes (next any_keyword (kind scope version natives servers)) (kind_words K) K
+    takes_kind : (K : ClassKind) → KindFits version classes natives K → (is_server_kind K ≡ true → servers < 8) →
+        Takes (next any_keyword (kind scope version natives servers)) (kind_words K) K
     takes_kind x fits few =
         grind (arith, nat_tests, in_turn, takes_any_keyword, gives, made, takes_provider, lt-ltb servers 8, takes_class names, takes_keyword, takes_number 1 64)
 
@@ -83,9 +85,9 @@ module _ {classes methods : ℕ} {scope : Scope} (names : HasNames classes metho
     abbrev behind_kind : ClassKind → Reading ClassDecl
     behind_kind K = next (optional_parent scope version K) (rest_of_class K)
 
-    whole_rest : (c : ClassDecl) → ClassFits version classes natives c → Whole (rest_of_class c.kind c.parent) (field_words c ++ budget_words (is_dispatched c.kind) c.budget) c
-    whole_rest c fits =
-        first _ (takes_optional k.Words 8 c.words fits.words (omega (arith, fits.words))) (
+    whole_rest : (c : ClassDecl) → ClassFits version classes natives c →
+        Whole (rest_of_class c.kind c.parent) (field_words c ++ budget_words (is_dispatched c.kind) c.budget) c
+    whole_rest c fits = first _ (takes_optional k.Words 8 c.words fits.words (omega (arith, fits.words))) (
         first (rest_of_fields c.kind c.parent c.words) (takes_flag k.Own) (
         first _ (takes_list 8 (thing_of scope) thing_word c.fields fits.field_count (λ i d less. thing_element _ (fits.fields i d less))) (
         last _ (whole_budget (is_dispatched c.kind) c.budget fits.budget fits.budgeted) (done _))))

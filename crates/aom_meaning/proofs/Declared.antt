@@ -23,7 +23,8 @@ pub record Declared (space : List (List ℕ)) (place : ℕ) (ws rest : List (Lis
   pub is_name : is_name w ≡ true
   pub placed : place_of w space ≡ Some place
 
-pub saw_declared : (space : List (List ℕ)) (place : ℕ) (ws : List (List ℕ)) (u : Unit {0}) (rest : List (List ℕ)) → declared place space ws ≡ Ok (u, rest) → Declared space place ws rest
+pub saw_declared : (space : List (List ℕ)) (place : ℕ) (ws : List (List ℕ)) (u : Unit {0}) (rest : List (List ℕ)) → declared place space ws ≡ Ok (u, rest) →
+    Declared space place ws rest
 saw_declared space place ws u rest is =
     let s = steps (name ws) (λ x. declared_at place space x.0 >>= λ y. Ok (y, x.1)) (u, rest) is in
     let t = steps (declared_at place space s.first.0) (λ y. Ok (y, s.first.1)) (u, rest) s.second in

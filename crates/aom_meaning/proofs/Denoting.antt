@@ -113,7 +113,8 @@ as_many : {A B : Type 0} (R : A → B → Type 0) (name : A → List ℕ) (ts : 
 as_many R name _ _ no_pair = refl
 as_many R name _ _ (a_pair t ts x xs here more) = let rest = as_many R name ts xs more in omega arith
 
-module _ (last : ℕ) (text : Source) (b : Bool) (kinds : List ClassDecl) (h : Header) (cs : List ClassDecl) (ms : List Method) (says : Says (names_of text) b kinds text h cs ms) where
+module _ (last : ℕ) (text : Source) (b : Bool) (kinds : List ClassDecl) (h : Header) (cs : List ClassDecl) (ms : List Method)
+    (says : Says (names_of text) b kinds text h cs ms) where
   abbrev class_texts : List ClassText
   class_texts = classes_of text.declarations
 
@@ -137,7 +138,8 @@ module _ (last : ℕ) (text : Source) (b : Bool) (kinds : List ClassDecl) (h : H
       let few_methods = says.few_methods in
       looks_up b (names_of text) kinds says.class_names (omega arith) says.method_names (omega arith)
 
-  goes : (ss : List Statement) → all_words ss ≡ declared_statements text.declarations → Goes last (scoped b (names_of text) kinds) (read_so_far h [] [] None 24) ss whole []
+  goes : (ss : List Statement) → all_words ss ≡ declared_statements text.declarations →
+      Goes last (scoped b (names_of text) kinds) (read_so_far h [] [] None 24) ss whole []
   goes ss words =
       let few_classes = says.few_classes in
       let few_methods = says.few_methods in
@@ -150,7 +152,8 @@ module _ (last : ℕ) (text : Source) (b : Bool) (kinds : List ClassDecl) (h : H
   closes : (ss : List Statement) → all_words ss ≡ [] → read_rest last (scoped b (names_of text) kinds) whole ss ≡ Ok whole
   closes ss words = grind (arith, nat_tests, scoped b, none_left ss words, ne_eqb)
 
-  rest_reads : (ss : List Statement) → all_words ss ≡ declared_statements text.declarations → read_rest last (scoped b (names_of text) kinds) (read_so_far h [] [] None 24) ss ≡ Ok whole
+  rest_reads : (ss : List Statement) → all_words ss ≡ declared_statements text.declarations →
+      read_rest last (scoped b (names_of text) kinds) (read_so_far h [] [] None 24) ss ≡ Ok whole
   rest_reads ss words = let g = goes ss words in g.reads ∙ closes g.rest g.words
 
   program_reads : (ss : List Statement) → all_words ss ≡ source_statements text → read_program last (scoped b (names_of text) kinds) ss ≡ Ok whole
@@ -207,7 +210,8 @@ module _ (text : List ℕ) (i : Image) where
   pub read_denotes : denoted text ≡ Ok i → Denotes text i
   read_denotes is =
       let few = passed (nat_le (length text) (2 ^ 20)) (read_statements last ss) (record { line = 1; kind = LimitPassed }) i is in
-      let s = steps_then (read_program last (scope_of false ss []) ss) (λ first. and_then (read_program last (scope_of true ss first.classes) ss) (λ p. Ok (image_of p))) i few.1 in
+      let s = steps_then (read_program last (scope_of false ss []) ss)
+      (λ first. and_then (read_program last (scope_of true ss first.classes) ss) (λ p. Ok (image_of p))) i few.1 in
       let t = steps_then (read_program last (scope_of true ss s.first.classes) ss) (λ p. Ok (image_of p)) i s.second in
       let q = t.first in
       let kinds = s.first.classes in
@@ -231,8 +235,9 @@ module _ (text : List ℕ) (i : Image) where
       let says : Says (names_of source) true kinds source q.header q.classes q.methods = grind arith in
       let loose = says_beside (names_of source) kinds [] source q.header q.classes q.methods says in
       let first = by_names last source ss p.words false [] q.header q.classes loose.methods loose.says in
-      let again : s.first ≡ read_so_far q.header q.classes loose.methods None (24 + sum_by (class_bytes q.header.version) q.classes + sum_by (spelled q.header.version) loose.methods) = ok_is s.first
-      (read_so_far q.header q.classes loose.methods None (24 + sum_by (class_bytes q.header.version) q.classes + sum_by (spelled q.header.version) loose.methods)) (sym s.read ∙ first) in
+      let again : s.first ≡ read_so_far q.header q.classes loose.methods None
+      (24 + sum_by (class_bytes q.header.version) q.classes + sum_by (spelled q.header.version) loose.methods) = ok_is s.first (read_so_far q.header q.classes
+      loose.methods None (24 + sum_by (class_bytes q.header.version) q.classes + sum_by (spelled q.header.version) loose.methods)) (sym s.read ∙ first) in
       let alike : kinds ≡ q.classes = ap (λ (p : Program). p.classes) again in
       subst (Denotes text) made (record {
         source = source;

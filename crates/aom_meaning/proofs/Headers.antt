@@ -129,7 +129,8 @@ module _ (names : Names) (kinds : List ClassDecl) where
 
 -- ---- what is read
 
-version_reads : (said : Option (List ℕ)) (version : Version) (ws : List (List ℕ)) → VersionMeans said version → NotNext k.Version ws → Leaves optional_version (part k.Version said ++ ws) version ws
+version_reads : (said : Option (List ℕ)) (version : Version) (ws : List (List ℕ)) → VersionMeans said version → NotNext k.Version ws →
+    Leaves optional_version (part k.Version said ++ ws) version ws
 version_reads said version ws means other = grind (arith, nat_tests, took_same, reads_on, takes_seen, number_reads 2 2, means)
 
 module _ {names : Names} {scope : Scope} (looks : LooksUp names scope) where
@@ -154,5 +155,6 @@ module _ {names : Names} {scope : Scope} (looks : LooksUp names scope) where
       first _ (takes_seen (number_reads 0 4294967295 t.budget h.budget means.budget)) (
       last _ (root_reads t.root h.root means.root) (done _))))))))
     where
-      no_version_next : NotNext k.Version (part k.Cells t.cells ++ (part k.Messages t.messages ++ (part k.Natives t.natives ++ (keyword_text k.Budget ∷ t.budget ∷ part k.Root t.root))))
+      no_version_next : NotNext k.Version
+          (part k.Cells t.cells ++ (part k.Messages t.messages ++ (part k.Natives t.natives ++ (keyword_text k.Budget ∷ t.budget ∷ part k.Root t.root))))
       no_version_next = grind (arith, nat_tests, not_part, not_word)

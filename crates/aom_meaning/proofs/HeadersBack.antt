@@ -29,8 +29,7 @@ module _ {classes methods : ℕ} {scope : Scope} (names : HasNames classes metho
   whole_root x fits = grind (arith, nat_tests, ends, takes_class names)
 
   whole_limits : (h : Header) → HeaderFits classes h → Whole (limits_and_root scope h.version) (limits_said h) h
-  whole_limits h fits =
-      first _ (takes_optional k.Cells 4096 h.cells fits.cells (omega (arith, fits.cells))) (
+  whole_limits h fits = first _ (takes_optional k.Cells 4096 h.cells fits.cells (omega (arith, fits.cells))) (
       first _ (takes_optional k.Messages 1024 h.messages fits.messages (omega (arith, fits.messages))) (
       first _ (takes_optional k.Natives 16 h.natives fits.natives (omega (arith, fits.natives))) (
       first _ (takes_keyword k.Budget) (

@@ -95,7 +95,8 @@ module _ (names : Names) (kinds : List ClassDecl) where
     words : ws ≡ part k.Over said ++ rest
     says : OverMeans names version said over
 
-  said_over_sound : (version : Version) (ws vs : List (List ℕ)) → ws ≡ keyword_text k.Over ∷ vs → Sound (said_over scope version) vs (λ over rest. OverSays version ws over rest)
+  said_over_sound : (version : Version) (ws vs : List (List ℕ)) → ws ≡ keyword_text k.Over ∷ vs →
+      Sound (said_over scope version) vs (λ over rest. OverSays version ws over rest)
   said_over_sound versions.One ws vs words = record { each = λ p rest is. cc }
   said_over_sound versions.Two ws vs words =
       let Q = λ (over : Option ℕ) (rest : List (List ℕ)). OverSays versions.Two ws over rest in
@@ -103,7 +104,8 @@ module _ (names : Names) (kinds : List ClassDecl) where
       let s = saw_used names.methods 1024 vs m us read in
       giving_sound Q (Some m) us (record { said = Some s.w; words = words ∙ ap (λ v. keyword_text k.Over ∷ v) s.words; says = (refl, s.numbered) }))
 
-  over_says : (version : Version) (ws : List (List ℕ)) (over : Option ℕ) (rest : List (List ℕ)) → optional_over scope version ws ≡ Ok (over, rest) → OverSays version ws over rest
+  over_says : (version : Version) (ws : List (List ℕ)) (over : Option ℕ) (rest : List (List ℕ)) → optional_over scope version ws ≡ Ok (over, rest) →
+      OverSays version ws over rest
   over_says version ws over rest is = go (take_it k.Over ws)
     where
       go : Took k.Over ws → OverSays version ws over rest
@@ -128,14 +130,16 @@ module _ (names : Names) (kinds : List ClassDecl) where
   result_sound usual k.Word vs = giving_sound _ result.Word vs (record { said = source.word; words = refl; means = tt })
   result_sound usual k.Own vs = next_sound _ (thing scope) _ vs (λ t rest read.
       let s = saw (thing_of scope) vs t rest read in
-      giving_sound _ (result.Own t) rest (record { said = source.own s.w; words = ap (λ v. keyword_text k.Gives ∷ keyword_text k.Own ∷ v) s.words; means = thing_means names kinds s.w t s.says }))
+      giving_sound _ (result.Own t) rest
+      (record { said = source.own s.w; words = ap (λ v. keyword_text k.Gives ∷ keyword_text k.Own ∷ v) s.words; means = thing_means names kinds s.w t s.says }))
   result_sound usual k.Maybe vs = next_sound _ (thing scope) _ vs (λ t rest read.
       let s = saw (thing_of scope) vs t rest read in
       giving_sound _ (result.Maybe t) rest (record
       { said = source.maybe s.w; words = ap (λ v. keyword_text k.Gives ∷ keyword_text k.Maybe ∷ v) s.words; means = thing_means names kinds s.w t s.says }))
   result_sound usual k.Left vs = next_sound _ (class scope) _ vs (λ c rest read.
       let s = saw_used names.classes 256 vs c rest read in
-      giving_sound _ (result.Left c) rest (record { said = source.left s.w; words = ap (λ v. keyword_text k.Gives ∷ keyword_text k.Left ∷ v) s.words; means = s.numbered }))
+      giving_sound _ (result.Left c) rest
+      (record { said = source.left s.w; words = ap (λ v. keyword_text k.Gives ∷ keyword_text k.Left ∷ v) s.words; means = s.numbered }))
   result_sound usual key vs = record { each = λ g rest is. cc }
 
   abbrev said_gives : Reading Gives
@@ -153,9 +157,7 @@ module _ (names : Names) (kinds : List ClassDecl) where
       behind : (vs : List (List ℕ)) → ws ≡ keyword_text k.Gives ∷ vs → Sound said_gives vs (λ g rest. GivesSays usual ws g)
       behind vs words =
           let Q = λ (g : Gives) (rest : List (List ℕ)). GivesSays usual ws g in
-          next_sound Q any_keyword _ vs (λ key us r1.
-          next_sound Q (gives scope key) _ us (λ g ts r2.
-          next_sound Q (nothing_more false) _ ts (λ u rest r3.
+          next_sound Q any_keyword _ vs (λ key us r1. next_sound Q (gives scope key) _ us (λ g ts r2. next_sound Q (nothing_more false) _ ts (λ u rest r3.
           let e = begins_with vs key us r1 in
           let s = (result_sound usual key us).each g ts r2 in
           giving_sound Q g rest (record {
@@ -178,7 +180,8 @@ module _ (names : Names) (kinds : List ClassDecl) where
       }
 
       go : Took k.Gives ws → Sound (optional_gives scope usual) ws (λ g rest. GivesSays usual ws g)
-      go (is_there vs words there) = record { each = λ g rest is. (behind vs words).each g rest (sym (ap (λ p. if p.0 then said_gives p.1 else nothing_said usual p.1) there) ∙ is) }
+      go (is_there vs words there) =
+          record { each = λ g rest is. (behind vs words).each g rest (sym (ap (λ p. if p.0 then said_gives p.1 else nothing_said usual p.1) there) ∙ is) }
       go (is_not there) = search (arith, nat_tests)
 
   -- the words of a heading behind its keyword, and what they mean at its place
@@ -246,13 +249,16 @@ module _ {names : Names} {scope : Scope} (looks : LooksUp names scope) where
   takes_thing : (w : List ℕ) (t : Thing) → IsThing names w t → Takes (thing scope) (w ∷ []) t
   takes_thing w t is = takes_seen (thing_reads looks w t is)
 
-  whole_gives : (usual : Option Gives) (g : Gives) {ws : List (List ℕ)} → Takes (next any_keyword (gives scope)) ws g → Whole (optional_gives scope usual) (keyword_text k.Gives ∷ ws) g
-  whole_gives usual g takes = record { reads = (only_two any_keyword (gives scope) (λ g. next (nothing_more false) (λ u. giving g)) takes (record { reads = refl })).reads }
+  whole_gives : (usual : Option Gives) (g : Gives) {ws : List (List ℕ)} → Takes (next any_keyword (gives scope)) ws g →
+      Whole (optional_gives scope usual) (keyword_text k.Gives ∷ ws) g
+  whole_gives usual g takes =
+      record { reads = (only_two any_keyword (gives scope) (λ g. next (nothing_more false) (λ u. giving g)) takes (record { reads = refl })).reads }
 
   gives_read : (usual : Option Gives) (said : GivesText) (g : Gives) → GivesMeans names usual said g → Whole (optional_gives scope usual) (gives_words said) g
   gives_read usual said g means = grind (arith, nat_tests, means, whole_gives usual, in_turn, takes_any_keyword, gives_it, takes_thing, takes_class looks)
 
-  said_over_reads : (version : Version) (w : List ℕ) (m : ℕ) → OverMeans names version (Some w) (Some m) → (ws : List (List ℕ)) → said_over scope version (w ∷ ws) ≡ Ok (Some m, ws)
+  said_over_reads : (version : Version) (w : List ℕ) (m : ℕ) → OverMeans names version (Some w) (Some m) → (ws : List (List ℕ)) →
+      said_over scope version (w ∷ ws) ≡ Ok (Some m, ws)
   said_over_reads x w m means ws = grind (arith, nat_tests, in_turn, takes_method looks w m means.1, gives_it (Some m))
 
   over_reads : (version : Version) (said : Option (List ℕ)) (over : Option ℕ) (rest : List (List ℕ)) → OverMeans names version said over → NotNext k.Over rest
@@ -276,14 +282,14 @@ module _ {names : Names} {scope : Scope} (looks : LooksUp names scope) where
       then_reads _ (class_reads t.class h.class v3 means.class
       (not_part k.Of k.Over t.over v4 refl (not_mark k.Of k.Leaves t.leaves v5 refl (not_mark k.Of k.Quiet t.quiet v6 refl
       (not_part k.Of k.In t.before v7 refl (not_part k.Of k.Out t.after v8 refl (not_part k.Of k.Args t.arguments v9 refl (not_gives k.Of t.gives refl)))))))) (
-      then_reads (λ over. next (flag k.Leaves) (λ leaves. next (flag k.Quiet) (promised scope h.role h.class over leaves))) (over_reads version t.over h.over v4 means.over
-      (not_mark k.Over k.Leaves t.leaves v5 refl (not_mark k.Over k.Quiet t.quiet v6 refl
-      (not_part k.Over k.In t.before v7 refl (not_part k.Over k.Out t.after v8 refl (not_part k.Over k.Args t.arguments v9 refl (not_gives k.Over t.gives refl))))))) (
+      then_reads (λ over. next (flag k.Leaves) (λ leaves. next (flag k.Quiet) (promised scope h.role h.class over leaves)))
+      (over_reads version t.over h.over v4 means.over (not_mark k.Over k.Leaves t.leaves v5 refl (not_mark k.Over k.Quiet t.quiet v6 refl (not_part k.Over k.In
+      t.before v7 refl (not_part k.Over k.Out t.after v8 refl (not_part k.Over k.Args t.arguments v9 refl (not_gives k.Over t.gives refl))))))) (
       then_reads (λ leaves. next (flag k.Quiet) (promised scope h.role h.class h.over leaves)) (reads_mark k.Leaves t.leaves v5
       (not_mark k.Leaves k.Quiet t.quiet v6 refl (not_part k.Leaves k.In t.before v7 refl
       (not_part k.Leaves k.Out t.after v8 refl (not_part k.Leaves k.Args t.arguments v9 refl (not_gives k.Leaves t.gives refl)))))) (
-      then_reads (promised scope h.role h.class h.over t.leaves) (reads_mark k.Quiet t.quiet v6
-      (not_part k.Quiet k.In t.before v7 refl (not_part k.Quiet k.Out t.after v8 refl (not_part k.Quiet k.Args t.arguments v9 refl (not_gives k.Quiet t.gives refl))))) (
+      then_reads (promised scope h.role h.class h.over t.leaves) (reads_mark k.Quiet t.quiet v6 (not_part k.Quiet k.In t.before v7 refl
+      (not_part k.Quiet k.Out t.after v8 refl (not_part k.Quiet k.Args t.arguments v9 refl (not_gives k.Quiet t.gives refl))))) (
       then_reads _ (reads_part k.In states_of AreStates (states (usual_before h.role (all_states kind))) states_read t.before h.before v7 means.before
       (not_part k.In k.Out t.after v8 refl (not_part k.In k.Args t.arguments v9 refl (not_gives k.In t.gives refl)))) (
       then_reads _ (reads_part k.Out states_of AreStates (states (usual_after h.role (all_states kind))) states_read t.after h.after v8 means.after
@@ -301,7 +307,8 @@ said_or : {X : Type 0} → X → Option (List ℕ) → X → X
 said_or usual None x = usual
 said_or usual (Some w) x = x
 
-still : {X : Type 0} (Says : List ℕ → X → Type 0) (usual other : X) (said : Option (List ℕ)) (x : X) → SaidOr Says usual said x → SaidOr Says other said (said_or other said x)
+still : {X : Type 0} (Says : List ℕ → X → Type 0) (usual other : X) (said : Option (List ℕ)) (x : X) → SaidOr Says usual said x →
+    SaidOr Says other said (said_or other said x)
 unfolding said_or
 still x usual other y z says = grind (arith, nat_tests, says)
 
@@ -309,7 +316,8 @@ gives_or : Gives → GivesText → Gives → Gives
 gives_or usual source.unsaid g = usual
 gives_or usual said g = g
 
-still_gives : (names : Names) (usual : Option Gives) (other : Gives) (said : GivesText) (g : Gives) → GivesMeans names usual said g → GivesMeans names (Some other) said (gives_or other said g)
+still_gives : (names : Names) (usual : Option Gives) (other : Gives) (said : GivesText) (g : Gives) → GivesMeans names usual said g →
+    GivesMeans names (Some other) said (gives_or other said g)
 unfolding gives_or
 still_gives names usual other said g means = grind (arith, nat_tests, means)
 
@@ -332,7 +340,8 @@ pub record Beside (names : Names) (version : Version) (kinds : List ClassDecl) (
   pub heading : Heading
   pub means : HeadingMeans names version false kinds t heading
 
-pub beside_others : (names : Names) (version : Version) (kinds others : List ClassDecl) (t : HeadingText) (h : Heading) → HeadingMeans names version true kinds t h → Beside names version others t
+pub beside_others : (names : Names) (version : Version) (kinds others : List ClassDecl) (t : HeadingText) (h : Heading) →
+    HeadingMeans names version true kinds t h → Beside names version others t
 beside_others names version kinds others t h means =
     let kind = kind_of kinds h.class in
     let other = kind_of others h.class in

@@ -99,7 +99,8 @@ module _ (place : ℕ) (labels : List (List ℕ)) where
     is_placed : IsPlaced label
     there : is_in version m ≡ true
 
-  begins : (version : Version) (ws : List (List ℕ)) (m : Mnemonic) (rest : List (List ℕ)) → seen (named_mnemonic version) (after_label place labels) ws ≡ Ok (m, rest) → Begins version ws m rest
+  begins : (version : Version) (ws : List (List ℕ)) (m : Mnemonic) (rest : List (List ℕ)) →
+      seen (named_mnemonic version) (after_label place labels) ws ≡ Ok (m, rest) → Begins version ws m rest
   begins version ws m rest is =
       let s = steps (after_label place labels ws) (λ x. named_mnemonic version x.0 >>= λ y. Ok (y, x.1)) (m, rest) is in
       let t = steps (named_mnemonic version s.first.0) (λ y. Ok (y, s.first.1)) (m, rest) s.second in
@@ -107,7 +108,8 @@ module _ (place : ℕ) (labels : List (List ℕ)) where
       let both : pair t.first s.first.1 ≡ (m, rest) = ok_is (pair t.first s.first.1) (m, rest) t.second in
       let known = known_is version s.first.0 (mnemonic_of s.first.0) t.first t.read in
       let found : mnemonic_of s.first.0 ≡ Some m = known.found ∙ ap (λ p. Some p.0) both in
-      let text : mnemonic_text m ≡ s.first.0 = (bytes_eq-Decides (mnemonic_text m) s.first.0).0 (found_passes (λ n. bytes_eq (mnemonic_text n) s.first.0) mnemonics m found) in
+      let text : mnemonic_text m ≡ s.first.0 =
+      (bytes_eq-Decides (mnemonic_text m) s.first.0).0 (found_passes (λ n. bytes_eq (mnemonic_text n) s.first.0) mnemonics m found) in
       record {
         label = l.label;
         words = l.words ∙ ap (λ v. label_words l.label ++ (v ∷ s.first.1)) (sym text) ∙ ap (λ p. label_words l.label ++ (mnemonic_text m ∷ p.1)) both;
@@ -128,13 +130,12 @@ module _ (place : ℕ) (labels : List (List ℕ)) where
     instruction_sound ws =
         let Q = λ (i : Instr) (rest : List (List ℕ)). InstructionSays ws i in
         let scope = scoped true names kinds in
-        next_sound Q (seen (named_mnemonic version) (after_label place labels)) _ ws (λ m v1 r1.
-        next_sound Q (words_operands scope labels m) _ v1 (λ i v2 r2.
-        next_sound Q (nothing_more false) _ v2 (λ u v3 r3.
+        next_sound Q (seen (named_mnemonic version) (after_label place labels)) _ ws
+        (λ m v1 r1. next_sound Q (words_operands scope labels m) _ v1 (λ i v2 r2. next_sound Q (nothing_more false) _ v2 (λ u v3 r3.
         let b = begins version ws m v1 r1 in
         let none = (none_left false v2 u v3 r3).0 in
-        let found = (operands_follow scope (lookup names) labels (finds_more true 256 names [] kinds names.classes) (finds_more true 1024 names [] kinds names.methods)
-        (finds_more true 1024 names [] kinds labels) m).each v1 i v2 r2 in
+        let found = (operands_follow scope (lookup names) labels (finds_more true 256 names [] kinds names.classes)
+        (finds_more true 1024 names [] kinds names.methods) (finds_more true 1024 names [] kinds labels) m).each v1 i v2 r2 in
         giving_sound Q i v3 (record {
           said = record { label = b.label; mnemonic = m; operands = v1 };
           words = b.words;

@@ -58,7 +58,8 @@ labelled : (labels : List (List ℕ)) (i : Instr) → HasLabel labels i → Labe
 labelled labels x to = grind arith
 
 module _ {classes methods : ℕ} {scope : Scope} (names : HasNames classes methods scope) (version : Version) (labels : List (List ℕ)) (places : ℕ) where
-  takes_large : (k : LargeKind) (o : Large) → LargeFits (limits version classes methods places) k o → Labelled labels o → Takes (large_operand scope labels k) (large_words o) o
+  takes_large : (k : LargeKind) (o : Large) → LargeFits (limits version classes methods places) k o → Labelled labels o →
+      Takes (large_operand scope labels k) (large_words o) o
   takes_large x y fits to = grind (arith, nat_tests, gives, makes, takes_signed, takes_rounds, takes_label scope labels, takes_class names, takes_method names)
 
   takes_in_order : (k : Kinds) (order : OperandOrder) (o : Operands) → OperandsFit (limits version classes methods places) k o → Labelled labels o.d

@@ -25,9 +25,8 @@ one_or_none : (b : Bool) (k : ℕ) → (label_or_none b k ≡ label_name k) ⊎ 
 one_or_none x k = grind arith
 
 pub label_placed : (code : List Instr) (k : ℕ) → length code ≤ 1024 → k < length code → is_target code k ≡ true → place_of (label_name k) (code_labels code) ≡ Some k
-label_placed code k few within jumped =
-    place_found 76 k (code_labels code) (omega arith) (omega (arith, length_names (λ n. label_or_none (is_target code n) n) 0 code))
-    (label_at code k within ∙ ap (λ b. label_or_none b k) jumped)
+label_placed code k few within jumped = place_found 76 k (code_labels code) (omega arith)
+    (omega (arith, length_names (λ n. label_or_none (is_target code n) n) 0 code)) (label_at code k within ∙ ap (λ b. label_or_none b k) jumped)
     (λ j less. subst (λ l. (l ≡ label_name j) ⊎ (l ≡ [])) (sym (label_at code j (omega arith))) (one_or_none (is_target code j) j))
 
 -- ---- jumps
@@ -38,7 +37,8 @@ jump_is_target code place d i there jumps =
     grind (arith, nat_tests, list_any_at, slice_get_within code place i there, get_or_from_slice_get code place i i there, eq-eqb d d)
 
 -- an instruction that fits jumps into the code
-jump_within : (version : Version) (classes methods places : ℕ) (i : Instr) → InstrFits (limits version classes methods places) i → IfSome (jump_of i) (λ d. d < places)
+jump_within : (version : Version) (classes methods places : ℕ) (i : Instr) → InstrFits (limits version classes methods places) i →
+    IfSome (jump_of i) (λ d. d < places)
 jump_within version classes methods places x fits = grind arith
 
 pub has_label : (version : Version) (classes methods : ℕ) (code : List Instr) (place : ℕ) (i : Instr) →

@@ -47,11 +47,13 @@ plain_form w form = all_of is_name_byte is_plain name_byte_is_plain w (and_parts
 
 behind_is_plain : (ps : List (List ℕ)) → All HasForm ps → list_all is_plain (behind 44 ps) ≡ true
 behind_is_plain [] forms = refl
-behind_is_plain (p ∷ ps) forms = list_all-append is_plain p (behind 44 ps) ∙ rw (plain_form p (All-head HasForm p ps forms), behind_is_plain ps (All-tail HasForm p ps forms))
+behind_is_plain (p ∷ ps) forms = list_all-append is_plain p (behind 44 ps)
+    ∙ rw (plain_form p (All-head HasForm p ps forms), behind_is_plain ps (All-tail HasForm p ps forms))
 
 parted_is_plain : (ps : List (List ℕ)) → All HasForm ps → list_all is_plain (list_word ps) ≡ true
 parted_is_plain [] forms = refl
-parted_is_plain (p ∷ ps) forms = list_all-append is_plain p (behind 44 ps) ∙ rw (plain_form p (All-head HasForm p ps forms), behind_is_plain ps (All-tail HasForm p ps forms))
+parted_is_plain (p ∷ ps) forms = list_all-append is_plain p (behind 44 ps)
+    ∙ rw (plain_form p (All-head HasForm p ps forms), behind_is_plain ps (All-tail HasForm p ps forms))
 
 -- parts between commas are found again
 parts_again : (p : List ℕ) (ps : List (List ℕ)) → has_name_form p ≡ true → All HasForm ps → slice_split (λ b. b == 44) (parted_by 44 (p ∷ ps)) ≡ p ∷ ps

@@ -56,7 +56,8 @@ flags_again flags small =
     let same = agree_below_at (λ n. (flags_of (has n 1) (has n 2)).0 == n) (λ n. true) 4 flags refl small in
     ap (λ n. record { 0 = n }) (eqb-true _ _ same)
 
-flags_read : (role : Role) (flags : MethodFlags) → flags.0 < 4 → (is_quiet_role role ≡ true → has flags.0 2 ≡ true) → flags_of (has flags.0 1) (has flags.0 2 || is_quiet_role role) ≡ flags
+flags_read : (role : Role) (flags : MethodFlags) → flags.0 < 4 → (is_quiet_role role ≡ true → has flags.0 2 ≡ true) →
+    flags_of (has flags.0 1) (has flags.0 2 || is_quiet_role role) ≡ flags
 flags_read role flags small implied = grind (arith, nat_tests, quiet_said, flags_again flags.0 small)
 
 -- ---- sets of states
@@ -96,14 +97,17 @@ flagged leaves quiet ws = (word_where leaves k.Leaves ++ word_where quiet k.Quie
 no_over : (leaves quiet : Bool) (ws : List (List ℕ)) → took k.Over (flagged leaves quiet ws) ≡ (false, flagged leaves quiet ws)
 no_over x y ws = grind arith
 
-no_class : (over : Option ℕ) (leaves quiet : Bool) (ws : List (List ℕ)) → took k.Of (method_after k.Over over ++ flagged leaves quiet ws) ≡ (false, method_after k.Over over ++ flagged leaves quiet ws)
+no_class : (over : Option ℕ) (leaves quiet : Bool) (ws : List (List ℕ)) →
+    took k.Of (method_after k.Over over ++ flagged leaves quiet ws) ≡ (false, method_after k.Over over ++ flagged leaves quiet ws)
 no_class x leaves quiet ws = grind arith
 
 module _ {classes methods : ℕ} {scope : Scope} (names : HasNames classes methods scope) where
-  class_before : (class : Option ℕ) → IfSome class (λ c. c < classes) → (ws : List (List ℕ)) → took k.Of ws ≡ (false, ws) → optional_class scope (class_after k.Of class ++ ws) ≡ Ok (class, ws)
+  class_before : (class : Option ℕ) → IfSome class (λ c. c < classes) → (ws : List (List ℕ)) → took k.Of ws ≡ (false, ws) →
+      optional_class scope (class_after k.Of class ++ ws) ≡ Ok (class, ws)
   class_before x fits ws other = grind (arith, nat_tests, takes_class names)
 
-  said_reads : (version : Version) (m : ℕ) → OverFits version methods (Some m) → (ws : List (List ℕ)) → said_over scope version (method_name m ∷ ws) ≡ Ok (Some m, ws)
+  said_reads : (version : Version) (m : ℕ) → OverFits version methods (Some m) → (ws : List (List ℕ)) →
+      said_over scope version (method_name m ∷ ws) ≡ Ok (Some m, ws)
   said_reads x m fits ws = grind (arith, nat_tests, in_turn, takes_method names m fits.1, gives_it (Some m))
 
   over_before : (version : Version) (over : Option ℕ) → OverFits version methods over →
@@ -117,7 +121,8 @@ module _ {classes methods : ℕ} {scope : Scope} (names : HasNames classes metho
 
   takes_arguments : (usual : ℕ) (xs : List Argument) →
       length xs ≤ 6 → All (ArgumentFits classes) xs → Takes (optional_arguments scope usual) (keyword_text k.Args ∷ list_word (map argument_word xs) ∷ []) xs
-  takes_arguments usual xs few fits = record { reads = (takes_list 6 (argument_of scope) argument_word xs few (λ i d less. argument_element _ (fits i d less))).reads }
+  takes_arguments usual xs few fits =
+      record { reads = (takes_list 6 (argument_of scope) argument_word xs few (λ i d less. argument_element _ (fits i d less))).reads }
 
   takes_gives : (g : Gives) → GivesFits classes g → Takes (next any_keyword (gives scope)) (gives_words g) g
   takes_gives x fits = grind (arith, nat_tests, in_turn, takes_any_keyword, gives_it, takes_thing names, takes_class names)
@@ -129,12 +134,12 @@ module _ {classes methods : ℕ} {scope : Scope} (names : HasNames classes metho
 
   -- a heading, with flags of its own
   abbrev with_flags : Method → MethodFlags → Heading
-  with_flags m flags = record { class = m.class; over = m.over; role = m.role; flags = flags; before = m.before; after = m.after; arguments = m.arguments; gives = m.gives }
+  with_flags m flags =
+      record { class = m.class; over = m.over; role = m.role; flags = flags; before = m.before; after = m.after; arguments = m.arguments; gives = m.gives }
 
   whole_promise : (version : Version) (m : Method) → MethodFits version classes methods m → (leaves quiet : Bool) →
       Whole (promised scope m.role m.class m.over leaves quiet) (promise_words m) (with_flags m (flags_of leaves (quiet || is_quiet_role m.role)))
-  whole_promise version m fits leaves quiet =
-      first _ (takes_states_in (usual_before m.role (all_states (kind_of scope.kinds m.class))) m.before fits.before) (
+  whole_promise version m fits leaves quiet = first _ (takes_states_in (usual_before m.role (all_states (kind_of scope.kinds m.class))) m.before fits.before) (
       first _ (takes_states_out (usual_after m.role (all_states (kind_of scope.kinds m.class))) m.after fits.after) (
       first _ (takes_arguments (usual_words m.role) m.arguments fits.argument_count fits.arguments) (
       last _ (whole_gives (usual_gives scope.is_strict m.role (kind_of scope.kinds m.class)) m.gives fits.gives) (done _))))
@@ -145,7 +150,8 @@ module _ {classes methods : ℕ} {scope : Scope} (names : HasNames classes metho
 
   -- what is read behind the class, and behind the role
   abbrev behind_class : Version → Role → Option ℕ → Reading Heading
-  behind_class version role class = next (optional_over scope version) (λ over. next (flag k.Leaves) (λ leaves. next (flag k.Quiet) (promised scope role class over leaves)))
+  behind_class version role class =
+      next (optional_over scope version) (λ over. next (flag k.Leaves) (λ leaves. next (flag k.Quiet) (promised scope role class over leaves)))
 
   abbrev behind_role : Version → Role → Reading Heading
   behind_role version role = next (optional_class scope) (behind_class version role)

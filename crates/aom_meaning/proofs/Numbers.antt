@@ -22,7 +22,8 @@ pub size_of_decimal : (n : ℕ) → n < 2 ^ 64 → digits_size (decimal n) ≡ n
 size_of_decimal n small = digits_value-decimal own n small
 
 -- digits, of which there is one, spell their number
-of_digits : (b : Bool) (ds : List ℕ) (n : ℕ) → 0 < length ds → list_all is_digit ds ≡ true → digits_size ds ≡ n → n < 2 ^ 50 → number_from b ds ≡ Some (record { is_negative = b; size = n })
+of_digits : (b : Bool) (ds : List ℕ) (n : ℕ) → 0 < length ds → list_all is_digit ds ≡ true → digits_size ds ≡ n → n < 2 ^ 50 →
+    number_from b ds ≡ Some (record { is_negative = b; size = n })
 of_digits b ds n some digits is small = grind (arith, nat_tests, common_steps)
 
 pub number_from_decimal : (b : Bool) (n : ℕ) → n < 2 ^ 50 → number_from b (decimal n) ≡ Some (record { is_negative = b; size = n })

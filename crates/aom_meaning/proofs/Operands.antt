@@ -21,7 +21,8 @@ pub record Follows {X : Type 0} (r t : Reading X) : Type 0 where
 same : {X : Type 0} (r : Reading X) → Follows r r
 same r = record { each = λ ws x rest is. is }
 
-follows : {A B : Type 0} (a : Reading A) (b : A → Reading B) (c : Reading A) (d : A → Reading B) → Follows a c → ((x : A) → Follows (b x) (d x)) → Follows (next a b) (next c d)
+follows : {A B : Type 0} (a : Reading A) (b : A → Reading B) (c : Reading A) (d : A → Reading B) → Follows a c → ((x : A) → Follows (b x) (d x)) →
+    Follows (next a b) (next c d)
 follows a b c d first later = record {
   each = λ ws y rest is.
       let s = steps (a ws) (λ x. b x.0 x.1) (y, rest) is in

@@ -59,5 +59,6 @@ module _ {classes methods : ℕ} {scope : Scope} (names : HasNames classes metho
   pub takes_method : (m : ℕ) → m < methods → Takes (method scope) (method_name m ∷ []) m
   takes_method m there = takes_used scope.is_strict 1024 109 m scope.methods refl (omega arith) (omega arith) (names.method m there)
 
-pub takes_label : (scope : Scope) (labels : List (List ℕ)) (d : ℕ) → d < 1024 → place_of (label_name d) labels ≡ Some d → Takes (label scope labels) (label_name d ∷ []) d
+pub takes_label : (scope : Scope) (labels : List (List ℕ)) (d : ℕ) → d < 1024 → place_of (label_name d) labels ≡ Some d →
+    Takes (label scope labels) (label_name d ∷ []) d
 takes_label scope labels d few there = takes_used scope.is_strict 1024 76 d labels refl few (omega arith) there

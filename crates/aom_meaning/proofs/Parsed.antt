@@ -79,7 +79,8 @@ module _ (last : ℕ) (names : Names) (kinds : List ClassDecl) where
       let servers = count_by is_server cs in
       let i = passed (nat_lt (length cs) 256) (class_statement scope h.version h.natives
       (length cs) servers ws >>= λ c. grown (28 + family_bytes h.version) size >>= λ n. Ok (read_so_far h (cs ++ c.0 ∷ []) ms None n)) LimitPassed q is in
-      let s = steps (class_statement scope h.version h.natives (length cs) servers ws) (λ c. grown (28 + family_bytes h.version) size >>= λ n. Ok (read_so_far h (cs ++ c.0 ∷ []) ms None n)) q i.1 in
+      let s = steps (class_statement scope h.version h.natives (length cs) servers ws)
+      (λ c. grown (28 + family_bytes h.version) size >>= λ n. Ok (read_so_far h (cs ++ c.0 ∷ []) ms None n)) q i.1 in
       let t = steps (grown (28 + family_bytes h.version) size) (λ n. Ok (read_so_far h (cs ++ s.first.0 ∷ []) ms None n)) q s.second in
       record {
         class = s.first.0;
@@ -275,7 +276,8 @@ module _ (last : ℕ) (names : Names) (kinds : List ClassDecl) where
           later = subst (λ (l : List Instr). Later h ss cs (ms ++ whole_of (with_code b l) ∷ []) q) same later;
         }
 
-    add_code : (b : Body) (i : Instr) → InstructionSays (length b.code) b.labels h.version names kinds s.words i → Inside h ss (with_code b (b.code ++ i ∷ [])) cs ms q → Inside h (s ∷ ss) b cs ms q
+    add_code : (b : Body) (i : Instr) → InstructionSays (length b.code) b.labels h.version names kinds s.words i →
+        Inside h ss (with_code b (b.code ++ i ∷ [])) cs ms q → Inside h (s ∷ ss) b cs ms q
     add_code b i says inside =
         let same : (b.code ++ i ∷ []) ++ inside.more ≡ b.code ++ i ∷ inside.more = append_assoc b.code (i ∷ []) inside.more in
         record {
@@ -295,7 +297,8 @@ module _ (last : ℕ) (names : Names) (kinds : List ClassDecl) where
         any_keyword s.words ≡ Ok (key, rest) → declaration scope ss (read_so_far h cs ms None size) key rest ≡ Ok p → Later h (s ∷ ss) cs ms q
     declared_after all size p behind k.Class rest read is =
         let c = class_taken h cs ms size rest p is in
-        add_class rest (begins_with s.words k.Class rest read) c.class c.says (all None h (cs ++ c.class ∷ []) ms c.size q tt (ap (λ p. read_rest last scope p ss) (sym c.same) ∙ behind))
+        add_class rest (begins_with s.words k.Class rest read) c.class c.says
+        (all None h (cs ++ c.class ∷ []) ms c.size q tt (ap (λ p. read_rest last scope p ss) (sym c.same) ∙ behind))
     declared_after all size p behind k.Method rest read is =
         let m = heading_taken h cs ms size ss rest p is in
         add_method rest (begins_with s.words k.Method rest read) m.begun m.says (all (Some (record { heading = m.begun; labels = labels_until [] ss; code = [] })) h cs ms m.size q (omega arith)
@@ -304,7 +307,8 @@ module _ (last : ℕ) (names : Names) (kinds : List ClassDecl) where
 
     -- an instruction, or the end of a method
     abbrev in_method : ℕ → Body → Bool × List (List ℕ) → Result Program AsmFaultKind
-    in_method size b t = if t.0 then with_method (read_so_far h cs ms None size) b t.1 else (with_instruction scope h.version b t.1 >>= λ c. grown 8 size >>= λ n. Ok (read_so_far h cs ms (Some c) n))
+    in_method size b t = if t.0 then with_method (read_so_far h cs ms None size) b t.1 else
+        (with_instruction scope h.version b t.1 >>= λ c. grown 8 size >>= λ n. Ok (read_so_far h cs ms (Some c) n))
 
     spoken_after : AllAfter ss → (size : ℕ) (b : Body) → length b.code ≤ 1024 → (p : Program) → read_rest last scope p ss ≡ Ok q → Took k.End s.words
         → in_method size b (took k.End s.words) ≡ Ok p → Inside h (s ∷ ss) b cs ms q
@@ -315,7 +319,8 @@ module _ (last : ℕ) (names : Names) (kinds : List ClassDecl) where
         let c = code_taken h cs ms size b s.words p (sym (ap (in_method size b) there) ∙ is) in
         let less = c.few in
         let count : length (b.code ++ c.instr ∷ []) ≡ length b.code + 1 = length_push b.code c.instr in
-        add_code b c.instr c.says (all (Some (with_code b (b.code ++ c.instr ∷ []))) h cs ms c.size q (omega arith) (ap (λ p. read_rest last scope p ss) (sym c.same) ∙ behind))
+        add_code b c.instr c.says
+        (all (Some (with_code b (b.code ++ c.instr ∷ []))) h cs ms c.size q (omega arith) (ap (λ p. read_rest last scope p ss) (sym c.same) ∙ behind))
 
   statement_after : (s : Statement) (ss : List Statement) → AllAfter ss → AllAfter (s ∷ ss)
   statement_after s ss all None h cs ms size q few is =

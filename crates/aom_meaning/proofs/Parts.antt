@@ -73,9 +73,8 @@ labels_there code place (i ∷ is) labels left ss words =
     let jumped = is_target code place in
     ap (labels_of labels) f.is ∙ ap (λ ws. if is_end ws then labels else labels_of (labels ++ label_in ws ∷ []) f.rest) f.here
     ∙ ap (λ b. if b then labels else labels_of (labels ++ label_in (instr_words code place i) ∷ []) f.rest) (is_no_end jumped place i)
-    ∙ ap (λ l. labels_of (labels ++ l ∷ []) f.rest) (has_its_label jumped place i)
-    ∙ labels_there code (place + 1) is (labels ++ label_or_none jumped place ∷ []) left f.rest f.behind
-    ∙ append_assoc labels (label_or_none jumped place ∷ []) (labels_from code (place + 1) is)
+    ∙ ap (λ l. labels_of (labels ++ l ∷ []) f.rest) (has_its_label jumped place i) ∙ labels_there code (place + 1) is
+    (labels ++ label_or_none jumped place ∷ []) left f.rest f.behind ∙ append_assoc labels (label_or_none jumped place ∷ []) (labels_from code (place + 1) is)
 
 -- ---- programs
 
@@ -88,7 +87,8 @@ abbrev counted : ClassDecl → ℕ
 counted c = cond (is_server c) 1 0
 
 -- a class is a server while few have been, where few are in all
-pub few_before : (cs : List ClassDecl) (c : ClassDecl) (todo : List ClassDecl) → count_by is_server (cs ++ c ∷ todo) ≤ 8 → is_server c ≡ true → count_by is_server cs < 8
+pub few_before : (cs : List ClassDecl) (c : ClassDecl) (todo : List ClassDecl) → count_by is_server (cs ++ c ∷ todo) ≤ 8 → is_server c ≡ true →
+    count_by is_server cs < 8
 few_before cs c todo few serves =
     let one : counted c ≡ 1 = ap (λ (b : Bool). cond {A = ℕ} b 1 0) serves in
     let parted : sum_by counted (cs ++ c ∷ todo) ≡ sum_by counted cs + sum_by counted (c ∷ todo) = sum_by-append counted cs (c ∷ todo) in
@@ -143,21 +143,21 @@ module _ (last : ℕ) (h : Header) (classes methods : ℕ) (scope : Scope) (name
     abbrev opened : List Method → Method → List Instr → ℕ → Program
     opened ms m code size = read_so_far h cs ms (Some (body_of m code)) size
 
-    heading_steps : (ms : List Method) (m : Method) (size : ℕ) (left : List (List (List ℕ))) (rest : List Statement) →
-        length ms < methods → MethodFits h.version classes methods m → OverFits h.version methods m.over → SaysQuiet m → size + (24 + more) ≤ 2 ^ 20
-        → all_words rest ≡ instr_statements m.code 0 m.code ++ end_words ∷ left
-        → step scope rest (read_so_far h cs ms None size) (heading_words (length ms) m) ≡ Ok (opened ms m [] (size + (24 + more)))
+    heading_steps : (ms : List Method) (m : Method) (size : ℕ) (left : List (List (List ℕ))) (rest : List Statement) → length ms < methods → MethodFits
+        h.version classes methods m → OverFits h.version methods m.over → SaysQuiet m → size + (24 + more) ≤ 2 ^ 20 → all_words rest ≡ instr_statements m.code 0
+        m.code ++ end_words ∷ left → step scope rest (read_so_far h cs ms None size) (heading_words (length ms) m) ≡ Ok (opened ms m [] (size + (24 + more)))
     heading_steps ms m size left rest there fits over quiet enough words =
         let few_methods = names.few_methods in
         let ws = others_of (heading_words (length ms) m) in
         let p = read_so_far h cs ms None size in
         ap (λ e. e >>= λ key. declaration scope rest p key.0 key.1) ((takes_any_keyword k.Method).reads ws)
         ∙ ap (λ b. if b then (heading scope h.version (length ms) ws >>= λ x. grown (24 + more) size >>= λ n. Ok (read_so_far h cs ms
-        (Some (record { heading = x.0; labels = labels_of [] rest; code = [] })) n)) else Err LimitPassed) (lt-ltb (length ms) 1024 (omega arith))
-        ∙ ap (λ e. e >>= λ x. grown (24 + more) size >>= λ n. Ok (read_so_far h cs ms
-        (Some (record { heading = x.0; labels = labels_of [] rest; code = [] })) n)) (heading_reads names h.version (length ms) m there fits over quiet)
-        ∙ ap (λ e. e >>= λ n. Ok (read_so_far h cs ms (Some (record { heading = heading_of m; labels = labels_of [] rest; code = [] })) n)) (room (24 + more) size enough)
-        ∙ ap (λ l. Ok (read_so_far h cs ms (Some (record { heading = heading_of m; labels = l; code = [] })) (size + (24 + more)))) (labels_there m.code 0 m.code [] left rest words)
+        (Some (record { heading = x.0; labels = labels_of [] rest; code = [] })) n)) else Err LimitPassed) (lt-ltb (length ms) 1024 (omega arith)) ∙ ap (λ e. e
+        >>= λ x. grown (24 + more) size >>= λ n. Ok (read_so_far h cs ms (Some (record { heading = x.0; labels = labels_of [] rest; code = [] })) n))
+        (heading_reads names h.version (length ms) m there fits over quiet)
+        ∙ ap (λ e. e >>= λ n. Ok (read_so_far h cs ms (Some (record { heading = heading_of m; labels = labels_of [] rest; code = [] })) n)) (room
+        (24 + more) size enough) ∙ ap (λ l. Ok (read_so_far h cs ms (Some (record { heading = heading_of m; labels = l; code = [] })) (size + (24 + more))))
+        (labels_there m.code 0 m.code [] left rest words)
 
     -- the instruction is read behind those that were read, and put behind them
     abbrev added : List Method → Method → List Instr → ℕ → Result (Instr × List (List ℕ)) AsmFaultKind → Result Program AsmFaultKind
@@ -199,10 +199,9 @@ module _ (last : ℕ) (h : Header) (classes methods : ℕ) (scope : Scope) (name
         1 ≤ length m.code → step scope rest (opened ms m m.code size) end_words ≡ Ok (read_so_far h cs (ms ++ m ∷ []) None size)
     end_steps ms m size rest some = grind (arith, nat_tests, ne_eqb)
 
-    method_goes : (ms : List Method) (m : Method) (size : ℕ) (left : List (List (List ℕ))) (ss : List Statement) →
-        length ms < methods → MethodFits h.version classes methods m → OverFits h.version methods m.over → SaysQuiet m → size + spelled h.version m ≤ 2 ^ 20
-        → all_words ss ≡ method_statements (length ms) m ++ left
-        → Goes last scope (read_so_far h cs ms None size) ss (read_so_far h cs (ms ++ m ∷ []) None (size + spelled h.version m)) left
+    method_goes : (ms : List Method) (m : Method) (size : ℕ) (left : List (List (List ℕ))) (ss : List Statement) → length ms < methods → MethodFits
+        h.version classes methods m → OverFits h.version methods m.over → SaysQuiet m → size + spelled h.version m ≤ 2 ^ 20 → all_words ss ≡ method_statements
+        (length ms) m ++ left → Goes last scope (read_so_far h cs ms None size) ss (read_so_far h cs (ms ++ m ∷ []) None (size + spelled h.version m)) left
     method_goes ms m size left ss there fits over quiet enough words =
         let code = instr_statements m.code 0 m.code in
         let heading = heading_words (length ms) m in

@@ -70,7 +70,8 @@ take_it key [] = is_not refl
 take_it key (w ∷ ws) = go (bytes_eq w (keyword_text key)) refl
   where
     go : (b : Bool) → bytes_eq w (keyword_text key) ≡ b → Took key (w ∷ ws)
-    go true same = is_there ws (ap (λ v. v ∷ ws) ((bytes_eq-Decides w (keyword_text key)).0 same)) (ap (λ (b : Bool). if b then (true, ws) else (false, w ∷ ws)) same)
+    go true same = is_there ws (ap (λ v. v ∷ ws) ((bytes_eq-Decides w (keyword_text key)).0 same))
+        (ap (λ (b : Bool). if b then (true, ws) else (false, w ∷ ws)) same)
     go false other = is_not (ap (λ (b : Bool). if b then (true, ws) else (false, w ∷ ws)) other)
 
 -- the next word is another one
@@ -80,11 +81,13 @@ pub record NotNext (key : Keyword) (ws : List (List ℕ)) : Type 0 where
 pub not_word : (key : Keyword) (w : List ℕ) (ws : List (List ℕ)) → bytes_eq w (keyword_text key) ≡ false → NotNext key (w ∷ ws)
 not_word key w ws other = record { left = ap (λ (b : Bool). if b then (true, ws) else (false, w ∷ ws)) other }
 
-pub not_part : (key other : Keyword) (said : Option (List ℕ)) (ws : List (List ℕ)) → bytes_eq (keyword_text other) (keyword_text key) ≡ false → NotNext key ws → NotNext key (part other said ++ ws)
+pub not_part : (key other : Keyword) (said : Option (List ℕ)) (ws : List (List ℕ)) → bytes_eq (keyword_text other) (keyword_text key) ≡ false → NotNext key ws →
+    NotNext key (part other said ++ ws)
 not_part key other None ws apart rest = rest
 not_part key other (Some w) ws apart rest = not_word key (keyword_text other) (w ∷ ws) apart
 
-pub not_mark : (key other : Keyword) (said : Bool) (ws : List (List ℕ)) → bytes_eq (keyword_text other) (keyword_text key) ≡ false → NotNext key ws → NotNext key (mark other said ++ ws)
+pub not_mark : (key other : Keyword) (said : Bool) (ws : List (List ℕ)) → bytes_eq (keyword_text other) (keyword_text key) ≡ false → NotNext key ws →
+    NotNext key (mark other said ++ ws)
 not_mark key other x ws apart rest = grind (arith, nat_tests, not_word key)
 
 -- ---- a part that may be missing
@@ -98,7 +101,8 @@ module _ {X : Type 0} (key : Keyword) (f : List ℕ → Result X AsmFaultKind) (
   abbrev pub optional : Reading X
   optional ws = if (took key ws).0 then seen f word (took key ws).1 else Ok (usual, (took key ws).1)
 
-  pub saw_part : ((w : List ℕ) (x : X) → f w ≡ Ok x → Says w x) → (ws : List (List ℕ)) (x : X) (rest : List (List ℕ)) → optional ws ≡ Ok (x, rest) → Part key Says usual ws x rest
+  pub saw_part : ((w : List ℕ) (x : X) → f w ≡ Ok x → Says w x) → (ws : List (List ℕ)) (x : X) (rest : List (List ℕ)) → optional ws ≡ Ok (x, rest) →
+      Part key Says usual ws x rest
   saw_part means ws x rest is = go (take_it key ws)
     where
       go : Took key ws → Part key Says usual ws x rest
@@ -114,7 +118,8 @@ pub record Leaves {X : Type 0} (r : Reading X) (ws : List (List ℕ)) (x : X) (r
   pub reads : r ws ≡ Ok (x, rest)
 
 -- and so it goes on
-pub then_reads : {X Y : Type 0} {r : Reading X} (f : X → Reading Y) {ws vs : List (List ℕ)} {x : X} {y : Y} → Leaves r ws x vs → Whole (f x) vs y → Whole (next r f) ws y
+pub then_reads : {X Y : Type 0} {r : Reading X} (f : X → Reading Y) {ws vs : List (List ℕ)} {x : X} {y : Y} → Leaves r ws x vs →
+    Whole (f x) vs y → Whole (next r f) ws y
 then_reads {r = r} f first later = record { reads = reads_on r f first.reads later.reads }
 
 pub leaves : {X : Type 0} {r : Reading X} {us : List (List ℕ)} {x : X} (rest : List (List ℕ)) → Takes r us x → Leaves r (us ++ rest) x rest

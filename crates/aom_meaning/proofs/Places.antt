@@ -43,16 +43,19 @@ refers b limit n below = ap (λ c. if c then Ok n else nowhere b) (lt-ltb n limi
 abbrev pub scoped : Bool → Names → List ClassDecl → Scope
 scoped b names kinds = record { is_strict = b; classes = names.classes; methods = names.methods; kinds = kinds }
 
-looks : (b : Bool) (limit : ℕ) (space : List (List ℕ)) → DeclaredOnce space → length space ≤ limit → (w : List ℕ) (n : ℕ) → IsNumbered space w n → referred b limit (place_of w space) ≡ Ok n
+looks : (b : Bool) (limit : ℕ) (space : List (List ℕ)) → DeclaredOnce space → length space ≤ limit → (w : List ℕ) (n : ℕ) → IsNumbered space w n →
+    referred b limit (place_of w space) ≡ Ok n
 looks b limit space once few w n is = grind (arith, nat_tests, slice_get_within space n w is.declared, found_once space w n once is, refers b limit n)
 
 pub looks_up : (b : Bool) (names : Names) (kinds : List ClassDecl) →
     DeclaredOnce names.classes → length names.classes ≤ 256 → DeclaredOnce names.methods → length names.methods ≤ 1024 → LooksUp names (scoped b names kinds)
-looks_up b names kinds classes few_classes methods few_methods = record { class = looks b 256 names.classes classes few_classes; method = looks b 1024 names.methods methods few_methods }
+looks_up b names kinds classes few_classes methods few_methods =
+    record { class = looks b 256 names.classes classes few_classes; method = looks b 1024 names.methods methods few_methods }
 
 -- what is found where names are told apart is found where they are not
 loosens : (b : Bool) (limit : ℕ) (o : Option ℕ) (n : ℕ) → referred true limit o ≡ Ok n → referred b limit o ≡ Ok n
 loosens b limit o n is = grind (arith, nat_tests, some_given, true_given)
 
-pub finds_more : (b : Bool) (limit : ℕ) (names : Names) (kinds before : List ClassDecl) (space : List (List ℕ)) → FindsMore limit (scoped true names before) (scoped b names kinds) space space
+pub finds_more : (b : Bool) (limit : ℕ) (names : Names) (kinds before : List ClassDecl) (space : List (List ℕ)) →
+    FindsMore limit (scoped true names before) (scoped b names kinds) space space
 finds_more b limit names kinds before space = record { finds = λ w n is. loosens b limit (place_of w space) n is }

@@ -29,21 +29,25 @@ pub gives : {X : Type 0} (x : X) → Takes (giving x) [] x
 gives x = record { reads = λ rest. refl }
 
 -- one after another
-pub in_turn : {X Y : Type 0} {r : Reading X} (f : X → Reading Y) {us vs : List (List ℕ)} {x : X} {y : Y} → Takes r us x → Takes (f x) vs y → Takes (next r f) (us ++ vs) y
+pub in_turn : {X Y : Type 0} {r : Reading X} (f : X → Reading Y) {us vs : List (List ℕ)} {x : X} {y : Y} → Takes r us x → Takes (f x) vs y →
+    Takes (next r f) (us ++ vs) y
 in_turn {r = r} f {us = us} {vs = vs} first second = record {
   reads = λ rest. ap (next r f) (append_assoc us vs rest) ∙ ap (λ e. e >>= λ p. f p.0 p.1) (first.reads (vs ++ rest)) ∙ second.reads rest;
 }
 
 -- what was read, and what is made of it
-pub reads_on : {X Y : Type 0} (r : Reading X) (f : X → Reading Y) {ws vs : List (List ℕ)} {x : X} {e : Result (Y × List (List ℕ)) AsmFaultKind} → r ws ≡ Ok (x, vs) → f x vs ≡ e → next r f ws ≡ e
+pub reads_on : {X Y : Type 0} (r : Reading X) (f : X → Reading Y) {ws vs : List (List ℕ)} {x : X} {e : Result (Y × List (List ℕ)) AsmFaultKind} →
+    r ws ≡ Ok (x, vs) → f x vs ≡ e → next r f ws ≡ e
 reads_on r f first second = ap (λ e. e >>= λ p. f p.0 p.1) first ∙ second
 
 -- what comes before is read first
-pub before : {X Y : Type 0} {r : Reading X} (f : X → Reading Y) {us vs : List (List ℕ)} {x : X} {e : Result (Y × List (List ℕ)) AsmFaultKind} → Takes r us x → f x vs ≡ e → next r f (us ++ vs) ≡ e
+pub before : {X Y : Type 0} {r : Reading X} (f : X → Reading Y) {us vs : List (List ℕ)} {x : X} {e : Result (Y × List (List ℕ)) AsmFaultKind} → Takes r us x →
+    f x vs ≡ e → next r f (us ++ vs) ≡ e
 before {r = r} f {vs = vs} first second = reads_on r f (first.reads vs) second
 
 -- what is read last
-pub ends : {X Y : Type 0} {r : Reading X} (f : X → Reading Y) {us : List (List ℕ)} {x : X} {e : Result (Y × List (List ℕ)) AsmFaultKind} → Takes r us x → f x [] ≡ e → next r f us ≡ e
+pub ends : {X Y : Type 0} {r : Reading X} (f : X → Reading Y) {us : List (List ℕ)} {x : X} {e : Result (Y × List (List ℕ)) AsmFaultKind} → Takes r us x →
+    f x [] ≡ e → next r f us ≡ e
 ends {r = r} f {us = us} last second = ap (next r f) (sym (append-nil us)) ∙ before f last second
 
 -- it reads these words as that value, and leaves none
@@ -54,7 +58,8 @@ pub done : {X : Type 0} (x : X) → Whole (giving x) [] x
 done x = record { reads = refl }
 
 -- what comes first, and all the rest
-pub first : {X Y : Type 0} {r : Reading X} (f : X → Reading Y) {us vs : List (List ℕ)} {x : X} {y : Y} → Takes r us x → Whole (f x) vs y → Whole (next r f) (us ++ vs) y
+pub first : {X Y : Type 0} {r : Reading X} (f : X → Reading Y) {us vs : List (List ℕ)} {x : X} {y : Y} → Takes r us x → Whole (f x) vs y →
+    Whole (next r f) (us ++ vs) y
 first f takes rest = record { reads = before f takes rest.reads }
 
 -- what comes last, and what is made of it
@@ -71,7 +76,8 @@ settle same whole = record { reads = whole.reads ∙ ap (λ z. Ok (z, [])) same 
 
 -- ---- readings within readings
 
-bind_assoc : {A B C : Type 0} (r : Result A AsmFaultKind) (f : A → Result B AsmFaultKind) (g : B → Result C AsmFaultKind) → (r >>= λ x. f x >>= g) ≡ ((r >>= f) >>= g)
+bind_assoc : {A B C : Type 0} (r : Result A AsmFaultKind) (f : A → Result B AsmFaultKind) (g : B → Result C AsmFaultKind) →
+    (r >>= λ x. f x >>= g) ≡ ((r >>= f) >>= g)
 bind_assoc x f g = grind arith
 
 module _ {X Y Z : Type 0} (a : Reading X) (f : X → Reading Y) (g : Y → Reading Z) where
@@ -87,7 +93,8 @@ module _ {X Y Z : Type 0} (a : Reading X) (f : X → Reading Y) (g : Y → Readi
   only_two {us = us} takes rest = record { reads = regrouped us ∙ ends g takes rest.reads }
 
 -- something is made of what two readings gave
-pub made : {X Y Z : Type 0} (a : Reading X) (f : X → Reading Y) (h : Y → Z) {us : List (List ℕ)} {y : Y} → Takes (next a f) us y → Takes (next a (λ x. next (f x) (λ y. giving (h y)))) us (h y)
+pub made : {X Y Z : Type 0} (a : Reading X) (f : X → Reading Y) (h : Y → Z) {us : List (List ℕ)} {y : Y} → Takes (next a f) us y →
+    Takes (next a (λ x. next (f x) (λ y. giving (h y)))) us (h y)
 made a f h {us = us} takes = record {
   reads = λ rest. regrouped a f (λ y. giving (h y)) (us ++ rest) ∙ ap (λ e. e >>= λ p. giving (h p.0) p.1) (takes.reads rest);
 }
@@ -139,7 +146,8 @@ pub declared_there : (letter n : ℕ) (names : List (List ℕ)) → place_of (le
 declared_there letter n names there = grind (arith, nat_tests, eq-eqb n n)
 
 -- a name that is declared, at its place
-pub takes_declared : (letter n : ℕ) (names : List (List ℕ)) → is_letter letter ≡ true → n < 2 ^ 32 → place_of (lettered letter n) names ≡ Some n → Takes (declared n names) (lettered letter n ∷ []) tt
+pub takes_declared : (letter n : ℕ) (names : List (List ℕ)) → is_letter letter ≡ true → n < 2 ^ 32 → place_of (lettered letter n) names ≡ Some n →
+    Takes (declared n names) (lettered letter n ∷ []) tt
 takes_declared letter n names is small there = sees (declared_at n names) (takes_name letter n is small) (declared_there letter n names there)
 
 -- ---- operands
@@ -147,5 +155,6 @@ takes_declared letter n names is small there = sees (declared_at n names) (takes
 pub indexed_reads : (letter highest n : ℕ) → n ≤ highest → n < 2 ^ 50 → indexed letter highest (lettered letter n) ≡ Ok n
 indexed_reads letter highest n below small = grind (arith, nat_tests, eq-eqb letter letter, number_of_decimal n small, within 0 highest n)
 
-pub takes_indexed : (letter highest n : ℕ) → is_letter letter ≡ true → n ≤ highest → n < 2 ^ 50 → Takes (seen (indexed letter highest) word) (lettered letter n ∷ []) n
+pub takes_indexed : (letter highest n : ℕ) → is_letter letter ≡ true → n ≤ highest → n < 2 ^ 50 →
+    Takes (seen (indexed letter highest) word) (lettered letter n ∷ []) n
 takes_indexed letter highest n is below small = grind (arith, plain_lettered, indexed_reads)

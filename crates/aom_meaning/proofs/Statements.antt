@@ -45,7 +45,8 @@ module _ (version : Version) (place : ℕ) (labels : List (List ℕ)) (m : Mnemo
   plainly = search (arith, nat_tests, in_turn, takes_word, mnemonic_is_plain m, mnemonic_is_no_label m)
 
   -- a label is skipped
-  past_label : place < 1024 → place_of (label_name place) labels ≡ Some place → Takes (after_label place labels) ((label_name place ++ 58 ∷ []) ∷ mnemonic_text m ∷ []) (mnemonic_text m)
+  past_label : place < 1024 → place_of (label_name place) labels ≡ Some place →
+      Takes (after_label place labels) ((label_name place ++ 58 ∷ []) ∷ mnemonic_text m ∷ []) (mnemonic_text m)
   past_label few there = in_turn _ (takes_word (label_name place ++ 58 ∷ []) (colon_is_plain place few)) (record {
     reads = λ rest. ap (λ o. skip_label place labels (label_name place ++ 58 ∷ []) o (mnemonic_text m ∷ rest)) (label_cut (label_name place))
         ∙ ap (λ e. e >>= λ u. word (mnemonic_text m ∷ rest)) (checked few there) ∙ (takes_word (mnemonic_text m) (mnemonic_is_plain m)).reads rest;
@@ -68,7 +69,7 @@ module _ {classes methods : ℕ} {scope : Scope} (names : HasNames classes metho
       let labels = code_labels code in
       let said = says names version labels (length code) i fits (has_label version classes methods code place i few there fits) in
       let front = label_words (is_target code place) place in
-      let labelled = takes_mnemonic version place labels said.mnemonic said.there (is_target code place) (λ jumped. (omega arith, label_placed code place few within jumped)) in
-      ap (λ ws. instruction scope version labels place (front ++ ws)) said.words
-      ∙ ap (instruction scope version labels place) (sym (append_assoc front (mnemonic_text said.mnemonic ∷ []) said.operands))
-      ∙ before _ labelled (ends _ said.takes refl)
+      let labelled = takes_mnemonic version place labels said.mnemonic said.there (is_target code place)
+      (λ jumped. (omega arith, label_placed code place few within jumped)) in
+      ap (λ ws. instruction scope version labels place (front ++ ws)) said.words ∙ ap (instruction scope version labels place)
+      (sym (append_assoc front (mnemonic_text said.mnemonic ∷ []) said.operands)) ∙ before _ labelled (ends _ said.takes refl)

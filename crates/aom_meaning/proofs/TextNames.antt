@@ -35,7 +35,8 @@ name_there name n (x ∷ xs) (suc j) within = grind (arith, nat_tests, name_ther
 pub name_at : {X : Type 0} (name : ℕ → List ℕ) (xs : List X) (j : ℕ) → j < length xs → get_or (names_from name 0 xs) j [] ≡ name j
 name_at name xs j within = let same : 0 + j ≡ j = omega arith in name_there name 0 xs j within ∙ ap name same
 
-numbered : {X : Type 0} (letter : ℕ) (xs : List X) (j : ℕ) → length xs ≤ 1024 → j < length xs → place_of (lettered letter j) (names_from (lettered letter) 0 xs) ≡ Some j
+numbered : {X : Type 0} (letter : ℕ) (xs : List X) (j : ℕ) → length xs ≤ 1024 → j < length xs →
+    place_of (lettered letter j) (names_from (lettered letter) 0 xs) ≡ Some j
 numbered letter xs j few within = grind (
   arith,
   nat_tests,
@@ -56,7 +57,8 @@ pub declared_by_words : (key : Keyword) (names : List (List ℕ)) (ss : List Sta
 declared_by_words key names [] = refl
 declared_by_words key names (s ∷ ss) = declared_by_words key (with_name names (name_after key s.words)) ss
 
-pub by_words_more : (key : Keyword) (names : List (List ℕ)) (front behind : List (List (List ℕ))) → by_words key names (front ++ behind) ≡ by_words key (by_words key names front) behind
+pub by_words_more : (key : Keyword) (names : List (List ℕ)) (front behind : List (List (List ℕ))) →
+    by_words key names (front ++ behind) ≡ by_words key (by_words key names front) behind
 by_words_more key names [] behind = refl
 by_words_more key names (ws ∷ wss) behind = by_words_more key (with_name names (name_after key ws)) wss behind
 
@@ -86,9 +88,11 @@ module _ (key : Keyword) (silent : Silent key) where
 
 -- ---- classes and methods
 
-class_names_of_classes : (n : ℕ) (cs : List ClassDecl) (names : List (List ℕ)) → by_words k.Class names (classes_statements n cs) ≡ names ++ names_from class_name n cs
+class_names_of_classes : (n : ℕ) (cs : List ClassDecl) (names : List (List ℕ)) →
+    by_words k.Class names (classes_statements n cs) ≡ names ++ names_from class_name n cs
 class_names_of_classes n [] names = sym (append-nil names)
-class_names_of_classes n (c ∷ cs) names = class_names_of_classes (n + 1) cs (names ++ class_name n ∷ []) ∙ append_assoc names (class_name n ∷ []) (names_from class_name (n + 1) cs)
+class_names_of_classes n (c ∷ cs) names = class_names_of_classes (n + 1) cs (names ++ class_name n ∷ [])
+    ∙ append_assoc names (class_name n ∷ []) (names_from class_name (n + 1) cs)
 
 method_names_of_classes : (n : ℕ) (cs : List ClassDecl) (names : List (List ℕ)) → by_words k.Method names (classes_statements n cs) ≡ names
 method_names_of_classes n [] names = refl
@@ -98,7 +102,8 @@ class_names_of_methods : (n : ℕ) (ms : List Method) (names : List (List ℕ)) 
 class_names_of_methods n [] names = refl
 class_names_of_methods n (m ∷ ms) names = grind (arith, by_words_more, body_silent, class_names_of_methods (n + 1) ms names)
 
-method_names_of_methods : (n : ℕ) (ms : List Method) (names : List (List ℕ)) → by_words k.Method names (methods_statements n ms) ≡ names ++ names_from method_name n ms
+method_names_of_methods : (n : ℕ) (ms : List Method) (names : List (List ℕ)) →
+    by_words k.Method names (methods_statements n ms) ≡ names ++ names_from method_name n ms
 method_names_of_methods n [] names = sym (append-nil names)
 method_names_of_methods n (m ∷ ms) names = by_words_more k.Method names (method_statements n m) (methods_statements (n + 1) ms)
     ∙ ap (λ l. by_words k.Method l (methods_statements (n + 1) ms)) (body_silent k.Method silent_method m.code (names ++ method_name n ∷ []))

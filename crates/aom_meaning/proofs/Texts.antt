@@ -87,7 +87,8 @@ class_names (source.method t ∷ ds) names = by_words_more k.Class names (declar
     ∙ ap (λ l. by_words k.Class l (declared_statements ds)) (body_nameless k.Class (record { mnemonic = class_foreign; label = refl }) t.code names)
     ∙ class_names ds names
 
-method_names : (ds : List Declaration) (names : List (List ℕ)) → by_words k.Method names (declared_statements ds) ≡ names ++ map (λ t. t.heading.name) (methods_of ds)
+method_names : (ds : List Declaration) (names : List (List ℕ)) →
+    by_words k.Method names (declared_statements ds) ≡ names ++ map (λ t. t.heading.name) (methods_of ds)
 method_names [] names = sym (append-nil names)
 method_names (source.class t ∷ ds) names = method_names ds names
 method_names (source.method t ∷ ds) names = by_words_more k.Method names (declaration_statements (source.method t)) (declared_statements ds) ∙ ap (λ l. by_words

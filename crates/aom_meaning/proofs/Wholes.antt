@@ -51,11 +51,13 @@ use Rattle.aom_meaning.proofs.Pairs.{Pairs, pairs, no_pair, a_pair}
 regrouped : {X : Type 0} (front : List X) (x : X) (xs : List X) → front ++ x ∷ xs ≡ (front ++ x ∷ []) ++ xs
 regrouped front x xs = sym (append_assoc front (x ∷ []) xs)
 
-at_place : (space front : List (List ℕ)) (w : List ℕ) (ws : List (List ℕ)) → DeclaredOnce space → space ≡ front ++ w ∷ ws → is_name w ≡ true → place_of w space ≡ Some (length front)
+at_place : (space front : List (List ℕ)) (w : List ℕ) (ws : List (List ℕ)) → DeclaredOnce space → space ≡ front ++ w ∷ ws → is_name w ≡ true →
+    place_of w space ≡ Some (length front)
 at_place space front w ws once whole is = search (arith, nat_tests, found_once space w, at_seam front w ws)
 
-pub classes_placed : (names : Names) (version : Version) (natives : ℕ) (space : List (List ℕ)) → DeclaredOnce space → (front : List (List ℕ)) (ts : List ClassText) (cs : List ClassDecl)
-    → Pairs (ClassMeans names version natives) ts cs → space ≡ front ++ map (λ t. t.name) ts → Placed space (length front) (map (λ t. t.name) ts)
+pub classes_placed : (names : Names) (version : Version) (natives : ℕ) (space : List (List ℕ)) → DeclaredOnce space →
+    (front : List (List ℕ)) (ts : List ClassText) (cs : List ClassDecl) → Pairs (ClassMeans names version natives) ts cs →
+    space ≡ front ++ map (λ t. t.name) ts → Placed space (length front) (map (λ t. t.name) ts)
 classes_placed names version natives space once front _ _ no_pair whole = tt
 classes_placed names version natives space once front _ _ (a_pair t ts c cs here more) whole = (
   at_place space front t.name (map (λ t. t.name) ts) once whole here.name,
@@ -125,9 +127,9 @@ module _ (last : ℕ) (names : Names) (h : Header) (b : Bool) (kinds : List Clas
         ∙ ap (λ b. if b then (heading scope h.version (length ms) ws >>= λ x. grown (24 + more) size >>= λ n. Ok
         (read_so_far h cs ms (Some (record { heading = x.0; labels = labels_until [] rest; code = [] })) n)) else Err LimitPassed) (lt-ltb (length ms) 1024 few)
         ∙ ap (λ e. e >>= λ x. grown (24 + more) size >>= λ n. Ok (read_so_far h cs ms (Some (record { heading = x.0; labels = labels_until [] rest; code = [] })) n))
-        (heading_reads looks h.version (length ms) t.heading (heading_of m) means placed).reads
-        ∙ ap (λ e. e >>= λ n. Ok (read_so_far h cs ms (Some (record { heading = heading_of m; labels = labels_until [] rest; code = [] })) n)) (room (24 + more) size enough)
-        ∙ ap (λ l. Ok (read_so_far h cs ms (Some (record { heading = heading_of m; labels = l; code = [] })) (size + (24 + more)))) (labels_there t.code left [] rest words)
+        (heading_reads looks h.version (length ms) t.heading (heading_of m) means placed).reads ∙ ap (λ e. e >>= λ n. Ok (read_so_far h cs ms
+        (Some (record { heading = heading_of m; labels = labels_until [] rest; code = [] })) n)) (room (24 + more) size enough) ∙ ap (λ l. Ok
+        (read_so_far h cs ms (Some (record { heading = heading_of m; labels = l; code = [] })) (size + (24 + more)))) (labels_there t.code left [] rest words)
 
     -- the instruction is put behind those that were read
     abbrev added : List Method → MethodText → Method → List Instr → ℕ → Result (Instr × List (List ℕ)) AsmFaultKind → Result Program AsmFaultKind
@@ -140,8 +142,8 @@ module _ (last : ℕ) (names : Names) (h : Header) (b : Bool) (kinds : List Clas
         let ws = instruction_words one in
         ap (λ t'. if t'.0 then with_method (read_so_far h cs ms None size) (body_of t m done) t'.1 else
         (with_instruction scope h.version (body_of t m done) t'.1 >>= λ b. grown 8 size >>= λ n. Ok (read_so_far h cs ms (Some b) n))) (takes_no_end one).left
-        ∙ ap (λ t'. (if t' then (instruction scope h.version (labels_of t.code) (length done) ws >>= λ x. Ok (body_of t m (done ++ x.0 ∷ []))) else Err LimitPassed) >>= λ b. grown 8 size >>= λ n. Ok
-        (read_so_far h cs ms (Some b) n)) (lt-ltb (length done) 1024 few)
+        ∙ ap (λ t'. (if t' then (instruction scope h.version (labels_of t.code) (length done) ws >>= λ x. Ok (body_of t m (done ++ x.0 ∷ [])))
+        else Err LimitPassed) >>= λ b. grown 8 size >>= λ n. Ok (read_so_far h cs ms (Some b) n)) (lt-ltb (length done) 1024 few)
         ∙ ap (added ms t m done size) (instruction_reads h.version (length done) (labels_of t.code) b names kinds one i means placed).reads
         ∙ ap (λ e. e >>= λ n. Ok (open_method ms t m (done ++ i ∷ []) n)) (room 8 size enough)
 
@@ -159,10 +161,10 @@ module _ (last : ℕ) (names : Names) (h : Header) (b : Bool) (kinds : List Clas
     code_goes ms t m done _ _ size left ss few (a_pair one ts i todo here more) placed enough words =
         let count : length (done ++ i ∷ []) ≡ length done + 1 = length_push done i in
         let summed : (size + 8) + 8 * length todo ≡ size + 8 * suc (length todo) = omega arith in
-        goes_on (steps {q = open_method ms t m (done ++ i ∷ []) (size + 8)} {left = map instruction_words ts ++ left} ss words
-        (λ rest behind. code_step ms t m done one i size rest (omega arith) here placed.0 (omega arith)))
-        (λ rest behind. arrives (ap (λ l. open_method ms t m l ((size + 8) + 8 * length todo)) (append_assoc done (i ∷ []) todo) ∙ ap (λ n. open_method ms t m (done ++ i ∷ todo) n) summed)
-        (code_goes ms t m (done ++ i ∷ []) ts todo (size + 8) left rest (omega arith) more (subst (λ n. LabelsPlaced (labels_of t.code) n ts) (sym count) placed.1) (omega arith) behind))
+        goes_on (steps {q = open_method ms t m (done ++ i ∷ []) (size + 8)} {left = map instruction_words ts ++ left} ss words (λ rest behind. code_step ms t m
+        done one i size rest (omega arith) here placed.0 (omega arith))) (λ rest behind. arrives (ap (λ l. open_method ms t m l ((size + 8) + 8 * length todo))
+        (append_assoc done (i ∷ []) todo) ∙ ap (λ n. open_method ms t m (done ++ i ∷ todo) n) summed) (code_goes ms t m (done ++ i ∷ []) ts todo
+        (size + 8) left rest (omega arith) more (subst (λ n. LabelsPlaced (labels_of t.code) n ts) (sym count) placed.1) (omega arith) behind))
 
     method_goes : (ms : List Method) (t : MethodText) (m : Method) (size : ℕ) (left : List (List (List ℕ))) (ss : List Statement) →
         length ms < 1024 → MethodMeans names h.version b kinds t m → place_of t.heading.name names.methods ≡ Some (length ms) →

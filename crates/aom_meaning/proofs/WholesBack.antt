@@ -37,7 +37,8 @@ module _ (last : ℕ) (i : Image) (formed : WellFormed i) (quiet : AllSayQuiet i
   small : whole_size i ≤ 2 ^ 20
   small = grind (arith, nat_tests, spelled i.header.version, class_sizes i.header.version i.classes)
 
-  parts_go : (ss : List Statement) → all_words ss ≡ classes_statements 0 i.classes ++ methods_statements 0 i.methods → Goes last scope (read_so_far i.header [] [] None 24) ss (all_read i) []
+  parts_go : (ss : List Statement) → all_words ss ≡ classes_statements 0 i.classes ++ methods_statements 0 i.methods →
+      Goes last scope (read_so_far i.header [] [] None 24) ss (all_read i) []
   parts_go ss words =
       let enough = small in
       goes_on (classes_go last i.header (length i.classes) (length i.methods) scope names formed.header.natives [] i.classes 24
@@ -49,7 +50,8 @@ module _ (last : ℕ) (i : Image) (formed : WellFormed i) (quiet : AllSayQuiet i
   closes : (ss : List Statement) → all_words ss ≡ [] → read_rest last scope (all_read i) ss ≡ Ok (all_read i)
   closes ss words = grind (arith, nat_tests, none_left ss words, ne_eqb)
 
-  rest_reads : (ss : List Statement) → all_words ss ≡ classes_statements 0 i.classes ++ methods_statements 0 i.methods → read_rest last scope (read_so_far i.header [] [] None 24) ss ≡ Ok (all_read i)
+  rest_reads : (ss : List Statement) → all_words ss ≡ classes_statements 0 i.classes ++ methods_statements 0 i.methods →
+      read_rest last scope (read_so_far i.header [] [] None 24) ss ≡ Ok (all_read i)
   rest_reads ss words = let goes = parts_go ss words in goes.reads ∙ closes goes.rest goes.words
 
   program_reads : (ss : List Statement) → all_words ss ≡ listing i → read_program last scope ss ≡ Ok (all_read i)
@@ -61,5 +63,5 @@ pub statements_denote : (i : Image) → WellFormed i → AllSayQuiet i → (last
 statements_denote i formed quiet last ss words =
     let strict : Bool → Scope = λ b. scope_of b ss (if b then i.classes else []) in
     let named = λ (b : Bool). has_names i ss b (if b then i.classes else []) formed.classes.count formed.methods.count words in
-    ap (λ r. and_then r (λ first. and_then (read_program last (scope_of true ss first.classes) ss) (λ p. Ok (image_of p)))) (program_reads last i formed quiet (strict false) (named false) ss words)
-    ∙ ap (λ r. and_then r (λ p. Ok (image_of p))) (program_reads last i formed quiet (strict true) (named true) ss words)
+    ap (λ r. and_then r (λ first. and_then (read_program last (scope_of true ss first.classes) ss) (λ p. Ok (image_of p)))) (program_reads last i formed quiet
+    (strict false) (named false) ss words) ∙ ap (λ r. and_then r (λ p. Ok (image_of p))) (program_reads last i formed quiet (strict true) (named true) ss words)

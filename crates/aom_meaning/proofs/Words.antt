@@ -60,8 +60,7 @@ module _ {names : Names} {scope : Scope} (looks : LooksUp names scope) where
 -- ---- what may be owned
 
 pub thing_means : (names : Names) (kinds : List ClassDecl) (w : List ℕ) (t : Thing) → thing_of (told names kinds) w ≡ Ok t → IsThing names w t
-thing_means names kinds w t is =
-    marked_or (IsThing names w) (bytes_eq w (codes "msg")) owned.Message (class_of (told names kinds) w) (λ c. owned.Object c) t
+thing_means names kinds w t is = marked_or (IsThing names w) (bytes_eq w (codes "msg")) owned.Message (class_of (told names kinds) w) (λ c. owned.Object c) t
     (λ same. (bytes_eq-Decides w (codes "msg")).0 same) (λ c said. numbered names.classes 256 w c said) is
 
 pub argument_means : (names : Names) (kinds : List ClassDecl) (w : List ℕ) (a : Argument) → argument_of (told names kinds) w ≡ Ok a → IsArgument names w a
@@ -73,10 +72,12 @@ not_reserved : (w : List ℕ) → is_name w ≡ true → is_reserved w ≡ false
 not_reserved w is = not-true (is_reserved w) (and_parts (has_name_form w && nat_le (length w) 32) (not (is_reserved w)) is).1
 
 no_message : (w : List ℕ) → is_name w ≡ true → bytes_eq w (codes "msg") ≡ false
-no_message w is = false_from_ne_true (bytes_eq w (codes "msg")) (λ same. (let clash : true ≡ false = sym (ap is_reserved ((bytes_eq-Decides w (codes "msg")).0 same)) ∙ not_reserved w is in cc))
+no_message w is = false_from_ne_true (bytes_eq w (codes "msg"))
+    (λ same. (let clash : true ≡ false = sym (ap is_reserved ((bytes_eq-Decides w (codes "msg")).0 same)) ∙ not_reserved w is in cc))
 
 no_word : (w : List ℕ) → is_name w ≡ true → bytes_eq w (codes "word") ≡ false
-no_word w is = false_from_ne_true (bytes_eq w (codes "word")) (λ same. (let clash : true ≡ false = sym (ap is_reserved ((bytes_eq-Decides w (codes "word")).0 same)) ∙ not_reserved w is in cc))
+no_word w is = false_from_ne_true (bytes_eq w (codes "word"))
+    (λ same. (let clash : true ≡ false = sym (ap is_reserved ((bytes_eq-Decides w (codes "word")).0 same)) ∙ not_reserved w is in cc))
 
 module _ {names : Names} {scope : Scope} (looks : LooksUp names scope) where
   pub thing_reads : (w : List ℕ) (t : Thing) → IsThing names w t → Reads (thing_of scope) w t
@@ -116,12 +117,12 @@ module _ {X : Type 0} (most : ℕ) (one : List ℕ → Result X AsmFaultKind) (S
   module _ (reads : (w : List ℕ) (x : X) → Says w x → Reads one w x) where
     parts_read : (ps : List (List ℕ)) (front xs : List X) → length front + length xs ≤ most → Pairs Says ps xs → elements most one front ps ≡ Ok (front ++ xs)
     parts_read _ front _ few no_pair = ap Ok (sym (append-nil front))
-    parts_read _ front _ few (a_pair p ps x xs here more) =
-        ap (λ b. if b then (one p >>= λ y. elements most one (front ++ y ∷ []) ps) else Err LimitPassed) (lt-ltb (length front) most (omega arith))
-        ∙ ap (λ e. e >>= λ y. elements most one (front ++ y ∷ []) ps) (reads p x here).says
+    parts_read _ front _ few (a_pair p ps x xs here more) = ap (λ b. if b then (one p >>= λ y. elements most one (front ++ y ∷ []) ps) else Err LimitPassed)
+        (lt-ltb (length front) most (omega arith)) ∙ ap (λ e. e >>= λ y. elements most one (front ++ y ∷ []) ps) (reads p x here).says
         ∙ parts_read ps (front ++ x ∷ []) xs (omega (arith, length-append front (x ∷ []))) more ∙ ap Ok (append_assoc front (x ∷ []) xs)
 
-    whole_read : (w : List ℕ) (xs : List X) (b : Bool) → length xs ≤ most → Elements Says b w xs → (if b then Ok [] else elements most one [] (slice_split (λ b. b == 44) w)) ≡ Ok xs
+    whole_read : (w : List ℕ) (xs : List X) (b : Bool) → length xs ≤ most → Elements Says b w xs →
+        (if b then Ok [] else elements most one [] (slice_split (λ b. b == 44) w)) ≡ Ok xs
     whole_read w xs true few none = ap Ok (sym none)
     whole_read w xs false few each = parts_read (slice_split (λ b. b == 44) w) [] xs (omega arith) (pairs Says (slice_split (λ b. b == 44) w) xs each)
 

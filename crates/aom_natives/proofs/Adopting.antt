@@ -1,5 +1,6 @@
 -- What is known of the slots once one more native has moved in.
-use Rattle.std.proofs.Common.{◌≡◌, ℕ, ◌+◌, ◌<◌, List, [], ◌∷◌, ◌++◌, Option, None, Some, append_assoc, length, map, take, refl, sym, ap, subst, ◌∙◌, inl, inr, arith}
+use Rattle.std.proofs.Common.{◌≡◌, ℕ, ◌+◌, ◌<◌, List, [], ◌∷◌, ◌++◌, Option, None, Some, append_assoc, length, map, take, refl, sym, ap, subst, ◌∙◌, inl, inr}
+use Rattle.std.proofs.Common.{arith}
 use Rattle.std.specs.Prelude.{option_map, remove, replicate, slice_index_or, IfSome}
 use Rattle.std.proofs.lemmas.Bool.{cases_eq, cases_lt}
 use Rattle.std.proofs.lemmas.Grind.{replicate_next}
@@ -48,9 +49,8 @@ module _ {L : Type 0} (slots : List (Option L)) (l : L) where
     each = each-more (λ s. IfSome s (λ l. Agrees (ids l) (owed l))) tt (subst (λ xs. Agrees xs (owed l)) (sym none) (agrees-nothing (owed l) nothing)) old.each;
   }
 
-  pub moved-more : {B : Type 0} (native : L → B) (all : List (Option B)) (bs rest : List B) → bs ≡ native l ∷ rest → map (option_map native) slots ++ map (λ b. Some b) bs ≡ all
-      → map (option_map native) (slots ++ Some l ∷ []) ++ map (λ b. Some b) rest ≡ all
-  moved-more native all bs rest is whole =
-      ap (λ xs. xs ++ map (λ b. Some b) rest) (map-append (option_map native) slots (Some l ∷ []))
+  pub moved-more : {B : Type 0} (native : L → B) (all : List (Option B)) (bs rest : List B) → bs ≡ native l ∷ rest →
+      map (option_map native) slots ++ map (λ b. Some b) bs ≡ all → map (option_map native) (slots ++ Some l ∷ []) ++ map (λ b. Some b) rest ≡ all
+  moved-more native all bs rest is whole = ap (λ xs. xs ++ map (λ b. Some b) rest) (map-append (option_map native) slots (Some l ∷ []))
       ∙ append_assoc (map (option_map native) slots) (Some (native l) ∷ []) (map (λ b. Some b) rest)
       ∙ ap (λ ys. map (option_map native) slots ++ map (λ b. Some b) ys) (sym is) ∙ whole

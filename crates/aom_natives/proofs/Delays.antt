@@ -1,5 +1,6 @@
 -- The entries of a delay: where the first of a kind stands, and what is left of the ids once it is out.
-use Rattle.std.proofs.Common.{◌≡◌, ℕ, suc, ◌+◌, ◌≤◌, Bool, true, false, cond, List, [], ◌∷◌, length, map, take, drop, get_or, Some, None, slice_get, refl, sym, ap, ◌∙◌, inl, inr, arith, nat_lt, not}
+use Rattle.std.proofs.Common.{◌≡◌, ℕ, suc, ◌+◌, ◌≤◌, Bool, true, false, cond, List, [], ◌∷◌, length, map, take, drop, get_or, Some, None, slice_get, refl, sym}
+use Rattle.std.proofs.Common.{ap, ◌∙◌, inl, inr, arith, nat_lt, not}
 use Rattle.std.specs.Prelude.{find, position, ◌==◌}
 use Rattle.std.specs.List.{position_or_len, refill}
 use Rattle.std.proofs.lemmas.Bool.{cases_eq, cases_lt, lt-ltb, eqb-true, eq-eqb, ne_eqb}

@@ -1,5 +1,6 @@
 -- How often ids stand in lists: what a push, a removal and a native's answer make of it, by counting.
-use Rattle.std.proofs.Common.{◌≡◌, ◌≢◌, ℕ, suc, ◌<◌, ◌≤◌, List, [], ◌∷◌, ◌++◌, length, take, drop, get_or, refl, sym, ap, subst, ◌∙◌, inl, inr, Contains, arith, drop-cons}
+use Rattle.std.proofs.Common.{◌≡◌, ◌≢◌, ℕ, suc, ◌<◌, ◌≤◌, List, [], ◌∷◌, ◌++◌, length, take, drop, get_or, refl, sym, ap, subst, ◌∙◌, inl, inr, Contains, arith}
+use Rattle.std.proofs.Common.{drop-cons}
 use Rattle.std.specs.Prelude.{remove, true, false, ◌||◌, ◌==◌}
 use Rattle.std.specs.List.{list_any}
 use Rattle.std.proofs.lemmas.Bool.{cases_eq, eq-eqb, ne_eqb}
@@ -37,13 +38,12 @@ fewer y xs id other some = grind (arith, common_steps)
 
 pub owed-contains : (xs : List ℕ) (id : ℕ) → IsOwed xs id → Contains xs id
 owed-contains [] id some = absurd (omega arith)
-owed-contains (y ∷ xs) id some =
-    elim (cases_eq id y) [
-      | inl same ↦ (0, omega arith, sym same)
-      | inr other ↦
-          let later : Contains xs id = owed-contains xs id (fewer y xs id other some) in
-          (suc later.0, omega (arith, later.1), later.2)
-    ]
+owed-contains (y ∷ xs) id some = elim (cases_eq id y) [
+  | inl same ↦ (0, omega arith, sym same)
+  | inr other ↦
+      let later : Contains xs id = owed-contains xs id (fewer y xs id other some) in
+      (suc later.0, omega (arith, later.1), later.2)
+]
 
 -- a look through the ids finds those that are counted
 passed : (x : ℕ) (xs : List ℕ) (id : ℕ) → id ≢ x → times id (x ∷ xs) ≡ times id xs
@@ -83,7 +83,8 @@ module _ (kept owed : List ℕ) (agree : Agrees kept owed) where
   owed-at id some = omega (arith, agree.same.at id, some)
 
   -- the native took the id, and it was put in
-  pub agrees-taken : (id : ℕ) (kept_after owed_after : List ℕ) → IsNew kept id → kept_after ≡ kept ++ id ∷ [] → SameIds owed_after (id ∷ owed) → Agrees kept_after owed_after
+  pub agrees-taken : (id : ℕ) (kept_after owed_after : List ℕ) → IsNew kept id → kept_after ≡ kept ++ id ∷ [] → SameIds owed_after (id ∷ owed) →
+      Agrees kept_after owed_after
   agrees-taken id kept_after owed_after new put taken = record {
     same = record { at = λ x. ap (times x) put ∙ times-push kept id x ∙ times-cons kept owed id x (agree.same.at x) ∙ sym (taken.at x) };
     once = λ x. omega (arith, ap (times x) put, times-push kept id x, times-new kept id x new (agree.once x));

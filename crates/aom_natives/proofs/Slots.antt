@@ -57,7 +57,8 @@ pub record IsCalled {L : Type 0} (kept owed : L → List ℕ) (old new : List (O
   pub ids : R (ids_at kept old n) (ids_at kept new n)
 
 -- a call at the living native l of the slot n, which an index gives as s; m is the native after the call
-module _ {L : Type 0} (slots : List (Option L)) (n : ℕ) (s : Option L) (l : L) (alive : IsSome (living_at slots n)) (at : s ≡ slice_index_or slots n s) (is : s ≡ Some l) where
+module _ {L : Type 0} (slots : List (Option L)) (n : ℕ) (s : Option L) (l : L) (alive : IsSome (living_at slots n))
+    (at : s ≡ slice_index_or slots n s) (is : s ≡ Some l) where
   -- what is known of the slot is known of the native, and the other way round
   pub from-slot : (P : Option L → Type 0) → P (living_at slots n) → P (Some l)
   from-slot P known = subst P (living-is slots n s l alive at is) known
@@ -87,7 +88,8 @@ module _ {L : Type 0} (slots : List (Option L)) (n : ℕ) (s : Option L) (l : L)
     agree = agree-set kept owed slots agree n (Some m) (within slots n alive) here;
     alive = subst (λ o. IsSome o) (sym now) refl;
     others = keeps-set slots n (Some m);
-    ids = subst (λ ids. R (ids_at kept slots n) ids) (sym (ap (ids_of kept) now)) (subst (λ ids. R ids (kept m)) (sym (ap (ids_of kept) (living-is slots n s l alive at is))) made);
+    ids = subst (λ ids. R (ids_at kept slots n) ids) (sym (ap (ids_of kept) now))
+        (subst (λ ids. R ids (kept m)) (sym (ap (ids_of kept) (living-is slots n s l alive at is))) made);
   }
     where
       now : living_at (slice_set slots n (Some m)) n ≡ Some m

@@ -42,7 +42,8 @@ module _ (p : Image) (t : Typing) (wired : IsWired p) (linked : IsLinked p) (typ
 
   -- from each state of such a rank
   abbrev From : ℕ → Type 0
-  From k = (s : State) → rank p s < k → WellTyped p t s → (dealt rest : List Item) → entries ≡ dealt ++ rest → Unwinds p code below from dealt s → IsLeaving p code below rest items s → Comes_from s
+  From k = (s : State) → rank p s < k → WellTyped p t s → (dealt rest : List Item) → entries ≡ dealt ++ rest → Unwinds p code below from dealt s →
+      IsLeaving p code below rest items s → Comes_from s
 
   higher : (k : ℕ) → From k → From (suc k)
   higher k comes s lt w dealt rest all course l = go s.tasks refl l.over

@@ -39,7 +39,8 @@ found test [] place e = absurd (true≢false (sym e ∙ ap (list_any test) (drop
 or_right : (a : Bool) → (a || true) ≡ true
 or_right x = grind arith
 
-pub finds : (test : Instr → Bool) (code : List Instr) (place q : ℕ) (x : Instr) → place ≤ q → slice_get code q ≡ Some x → test x ≡ true → list_any test (drop place code) ≡ true
+pub finds : (test : Instr → Bool) (code : List Instr) (place q : ℕ) (x : Instr) → place ≤ q → slice_get code q ≡ Some x → test x ≡ true →
+    list_any test (drop place code) ≡ true
 finds test (y ∷ xs) zero zero x le s e = let same : y ≡ x = cc in ap (λ b. b || list_any test xs) (ap test same ∙ e)
 finds test (y ∷ xs) zero (suc q) x le s e = ap (λ b. test y || b) (finds test xs zero q x (omega arith) s e) ∙ or_right (test y)
 finds test (y ∷ xs) (suc k) (suc q) x le s e = finds test xs k q x (omega (arith, le)) s e

@@ -95,7 +95,8 @@ standing_unslotted (c ∷ clients) cs = standing_unslotted clients (all_unslotte
 
 -- the cell is gone, and what waited in its queue
 pub standing_gone : (clients : List ℕ) (g : Place) (n : ℕ) (cs : List Cell) → standing (each_unslotted clients (without g (without_queue n cs))) ≤ standing cs
-standing_gone clients g n cs = omega (arith, standing_unslotted clients (without g (without_queue n cs)), standing_without g (without_queue n cs), standing_unqueued n cs)
+standing_gone clients g n cs =
+    omega (arith, standing_unslotted clients (without g (without_queue n cs)), standing_without g (without_queue n cs), standing_unqueued n cs)
 
 pub field_stands : (h : Home) (f : ℕ) → is_going (field_place h f) ≡ false
 field_stands x f = grind arith

@@ -59,7 +59,8 @@ module _ (p : Image) (linked : IsLinked p) (x : ℕ) where
             let b = perhaps_price c (role_of p session Service) in
             let d = c.destruction (An_object_of session) in
             let none = no_answer (Some (Server most y)) at refl in
-            let is : object_price p c x ≡ max a (max b d) = ap (λ k. dispatch_price p c x k) at ∙ ap (λ i. max a (max (perhaps_price c (role_of p i Service)) (c.destruction (An_object_of i)))) same in
+            let is : object_price p c x ≡ max a (max b d) =
+            ap (λ k. dispatch_price p c x k) at ∙ ap (λ i. max a (max (perhaps_price c (role_of p i Service)) (c.destruction (An_object_of i)))) same in
             record {
               accepts = omega (arith, none, is, le-max_left a (max b d));
               attends = omega (arith, none, is, le-max_left b d, le-max_right a (max b d));

@@ -44,7 +44,8 @@ pub body_paid : (p : Image) (c : Prices) (m : ℕ) (view : Option ℕ) → price
 unfolding method_at
 body_paid p c m view = elim (body_runs p m view) [
   | inl same ↦ let e = ap (price c) same in omega (arith, e, call_paid p c m)
-  | inr over ↦ let k = overrides_there p (body_of p m view) m over in run_has p (price c) m (body_of p m view) (inr over) (slice_get_within p.methods (body_of p m view) k.0 k.1)
+  | inr over ↦ let k = overrides_there p (body_of p m view) m over in
+      run_has p (price c) m (body_of p m view) (inr over) (slice_get_within p.methods (body_of p m view) k.0 k.1)
 ]
 
 module _ (p : Image) (c : Prices) (fr : Frame) (sh : Shape) where
@@ -132,7 +133,8 @@ module _ (p : Image) (t : Typing) (c : Prices) (main_none : (m : ℕ) → method
   abbrev StandsHere : Instr → Type 0
   StandsHere i = Stands p t fr.method fr.place sh i
 
-  paid : (i : Instr) → StandsHere i → loop_in (Some i) ≡ None → next_in (Some i) ≡ None → AllPaid c fr.method (own p fr.method c sh i) (c.from fr.method fr.place) (flows p fr.method fr.place sh i)
+  paid : (i : Instr) → StandsHere i → loop_in (Some i) ≡ None → next_in (Some i) ≡ None →
+      AllPaid c fr.method (own p fr.method c sh i) (c.from fr.method fr.place) (flows p fr.method fr.place sh i)
   paid i it straight no_next = priced.flows fr.method fr.place sh i it straight no_next
 
   some : (i : Instr) → StandsHere i → own p fr.method c sh i ≤ c.from fr.method fr.place
@@ -147,18 +149,16 @@ module _ (p : Image) (t : Typing) (c : Prices) (main_none : (m : ℕ) → method
       let left = some_left p t main_none ch s fr sh ls at_hand (active_listed (own_kind p fr.method) active) in
       on_states outstanding inactive to (in_phase is_busy r) (λ e. left outstanding (busy_in r e)) (λ e. left inactive (free_in r e)) pays
 
-  on_listed : (to : ℕ) → is_listed_kind (own_kind p fr.method) ≡ true →
-      AllPaid c fr.method 1 (c.from fr.method fr.place) (flow_narrowed sh (suc fr.place) unlisted ++ flow_narrowed sh to enlisted) →
-      Covers p c fr sh (jumps_if fr (is_some (own_request s.cells fr.home)) to)
+  on_listed : (to : ℕ) → is_listed_kind (own_kind p fr.method) ≡ true → AllPaid c fr.method 1 (c.from fr.method fr.place)
+      (flow_narrowed sh (suc fr.place) unlisted ++ flow_narrowed sh to enlisted) → Covers p c fr sh (jumps_if fr (is_some (own_request s.cells fr.home)) to)
   on_listed to listed pays =
       let r = own_request s.cells fr.home in
       let left = some_left p t main_none ch s fr sh ls at_hand listed in
       on_states enlisted unlisted to (is_some r) (λ e. left enlisted (listed_in r e)) (λ e. left unlisted (unlisted_in r e)) pays
 
   -- a jump by what a field has
-  on_field : (f to : ℕ) → is_some (field_thing p (holder_of p fr.method) f) ≡ true →
-      AllPaid c fr.method 1 (c.from fr.method fr.place) (flow_jump_empty p fr.method fr.place sh (field sh f) f to) →
-      Covers p c fr sh (jumps_unless fr (held s.cells (field_place fr.home f)) to)
+  on_field : (f to : ℕ) → is_some (field_thing p (holder_of p fr.method) f) ≡ true → AllPaid c fr.method 1 (c.from fr.method fr.place)
+      (flow_jump_empty p fr.method fr.place sh (field sh f) f to) → Covers p c fr sh (jumps_unless fr (held s.cells (field_place fr.home f)) to)
   on_field f to some pays = grind (arith, nat_tests, houses_field p, on_empty f to, field_fits p t ch s fr sh ls at_hand f some)
 
   cancelled : 1 + cancel_price p c (method_class p fr.method) + c.from fr.method (suc fr.place) ≤ c.from fr.method fr.place →

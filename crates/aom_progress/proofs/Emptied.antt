@@ -29,7 +29,8 @@ module _ (c : Prices) where
   bare : (cs : List Cell) (items : List Item) → ((k : ℕ) → held cs (Entry k) ≡ None) → forms items ≡ [] → objects_left c cs + operations_left c items ≡ 0
   bare cs items none e = omega (arith, no_objects cs none, no_operations items e)
 
-  pub none_at_hand : (p : Image) (t : Typing) (cs : List Cell) (items : List Item) → Good p t cs [] → forms items ≡ items_of [] → objects_left c cs + operations_left c items ≡ 0
+  pub none_at_hand : (p : Image) (t : Typing) (cs : List Cell) (items : List Item) → Good p t cs [] → forms items ≡ items_of [] →
+      objects_left c cs + operations_left c items ≡ 0
   none_at_hand p t cs items good e = bare cs items (λ k. nothing_of_null p (seen cs) (held cs (Entry k)) (good.fits (Entry k))) e
 
   pub none_at_end : (p : Image) (t : Typing) (cs : List Cell) (items : List Item) (d : Dispatch) (seats : List Seat) →

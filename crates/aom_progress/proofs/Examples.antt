@@ -81,10 +81,9 @@ table = record { from = λ m place. at 0 (at [] costs m) place; round = λ m q. 
 -- ---- at each place
 
 -- the instructions of the image, one after another
-module _ (P : ℕ → ℕ → Shape → Instr → Type 0)
-    (ends : P 0 0 (holding Unset) (Return 0)) (loops : P 1 0 (holding Unset) (Loop 0 3)) (makes : P 1 1 (holding Unset) (New 0 0))
-    (deletes : P 1 2 (holding made) (Delete 0)) (nexts : P 1 3 (holding Null) (Next 0 1)) (stops : P 1 4 (holding Null) Stop)
-    (returns : P 1 5 (holding Null) (Return 0)) where
+module _ (P : ℕ → ℕ → Shape → Instr → Type 0) (ends : P 0 0 (holding Unset) (Return 0)) (loops : P 1 0 (holding Unset) (Loop 0 3))
+    (makes : P 1 1 (holding Unset) (New 0 0)) (deletes : P 1 2 (holding made) (Delete 0)) (nexts : P 1 3 (holding Null) (Next 0 1))
+    (stops : P 1 4 (holding Null) Stop) (returns : P 1 5 (holding Null) (Return 0)) where
   abbrev At_place : ℕ → ℕ → Shape → Type 0
   At_place m place sh = (i : Instr) × (instr_at image m place ≡ Some i) × P m place sh i
 
@@ -121,7 +120,8 @@ abbrev Loops : ℕ → ℕ → Shape → Instr → Type 0
 Loops m place sh i = (d n : ℕ) → i ≡ Loop d n → 1 + (n - 1) * table.round m place + table.from m (suc place) ≤ table.from m place
 
 loops_pay : (m place : ℕ) (sh : Shape) (i : Instr) → Stands image typing m place sh i → Loops m place sh i
-loops_pay = at_each Loops (λ d n e. cc) (λ d n e. let is : 3 ≡ n = cc in subst (λ k. 1 + (k - 1) * 5 + 7 ≤ 18) is (omega arith)) (λ d n e. cc) (λ d n e. cc) (λ d n e. cc) (λ d n e. cc) (λ d n e. cc)
+loops_pay = at_each Loops (λ d n e. cc) (λ d n e. let is : 3 ≡ n = cc in subst (λ k. 1 + (k - 1) * 5 + 7 ≤ 18) is (omega arith)) (λ d n e. cc) (λ d n e. cc)
+    (λ d n e. cc) (λ d n e. cc) (λ d n e. cc)
 
 abbrev Nexts : ℕ → ℕ → Shape → Instr → Type 0
 Nexts m place sh i = (d to : ℕ) → i ≡ Next d to → 1 + table.from m (suc place) ≤ table.from m place
@@ -200,7 +200,8 @@ one_register k l w = record { registers = each; fields = λ i. alike_filling; en
     each zero = w
     each (suc i) = alike
 
-entered : (x : Filling) → WeakerFilling Perhaps x → SaysNoMore (holding Unset) (record { registers = []; fields = replicate 8 x; entries = []; states = 0; delivery = Here })
+entered : (x : Filling) → WeakerFilling Perhaps x →
+    SaysNoMore (holding Unset) (record { registers = []; fields = replicate 8 x; entries = []; states = 0; delivery = Here })
 entered x w = record { registers = unset; fields = λ i. each 8 i; entries = refl; states = refl; delivery = refl }
   where
     unset : (i : ℕ) → Weaker (at Unset (Unset ∷ []) i) Unset
@@ -248,5 +249,6 @@ outcome (Goes s) = Some (s.rest.steps, s.rest.ended)
 outcome (IsStuck kind) = None
 
 runs_to_its_end : outcome (after 20 (Goes (boot_state image))) ≡ Some (18, Some Stopped)
-unfolding main_of role_number method_at instr_in gives_in quiet_in role_in class_in class_at fields_in role_of own_role keeper_in parent_in plays kind_of kind_in sessions_in sessions_of
+unfolding main_of role_number method_at instr_in gives_in quiet_in role_in class_in class_at fields_in role_of own_role keeper_in parent_in plays kind_of
+    kind_in sessions_in sessions_of
 runs_to_its_end = refl

@@ -48,7 +48,8 @@ use Rattle.aom_semantics.specs.Enlisted.{cancel_method, ended_cells, on_request,
 
 -- ---- an instruction
 
-module _ (p : Image) (linked : IsLinked p) (c : Choice) (s : State) (fr : Frame) (ts : List Task) (d : Method_declared) (declared_there : method_at p fr.method ≡ Some d) where
+module _ (p : Image) (linked : IsLinked p) (c : Choice) (s : State) (fr : Frame) (ts : List Task) (d : Method_declared)
+    (declared_there : method_at p fr.method ≡ Some d) where
   abbrev pub before : ℕ
   before = tasks_rank p (Run fr ∷ ts) + (standing s.cells + operations s.items) * cell_rank p
 
@@ -64,7 +65,8 @@ module _ (p : Image) (linked : IsLinked p) (c : Choice) (s : State) (fr : Frame)
   paid cs k less = grind (arith, nat_tests, scaled)
 
   -- the method goes on there, with as many cells and operations or fewer
-  goes : (cs : List ℕ) (k m : ℕ) → left d.code cs k < left d.code fr.counters fr.place → m ≤ standing s.cells + operations s.items → rest_at cs k + beyond + m * cell_rank p < before
+  goes : (cs : List ℕ) (k m : ℕ) → left d.code cs k < left d.code fr.counters fr.place → m ≤ standing s.cells + operations s.items →
+      rest_at cs k + beyond + m * cell_rank p < before
   goes cs k m less fewer = omega (arith, paid cs k less, price_some p fr.method, scaled_le m (standing s.cells + operations s.items) (cell_rank p) fewer)
 
   module _ (i : Instr) (stands : slice_get d.code fr.place ≡ Some i) where
@@ -82,22 +84,19 @@ module _ (p : Image) (linked : IsLinked p) (c : Choice) (s : State) (fr : Frame)
   unfolding method_at
   nests = at_place (λ _ x. LoopsNest x.code) p.methods fr.method d linked.loops declared_there
 
-  calls :
-      (target : Target) (m first x : ℕ) → slice_get d.code fr.place ≡ Some (Call target m first x) → only_if (is_quiet p fr.method) (is_quiet p m) ≡ true →
+  calls : (target : Target) (m first x : ℕ) → slice_get d.code fr.place ≡ Some (Call target m first x) → only_if (is_quiet p fr.method) (is_quiet p m) ≡ true →
       rank p (applied p fr ts s (Calls target m first)) < before
   unfolding loop_in
   calls target m first x stands quiet =
       let less = paid fr.counters (suc fr.place) (straight (Call target m first x) stands refl) in
       let view = target_view p fr ts s target (method_class p m) in
       let k = run_by p fr ts s target m in
-      let lower =
-      called_lower p fr.method k (called_before p linked fr.method fr.place d target m first x declared_there stands view)
+      let lower = called_lower p fr.method k (called_before p linked fr.method fr.place d target m first x declared_there stands view)
       (λ q. body_quiet p linked.overriders.each m view (subst (λ b. only_if b (is_quiet p m) ≡ true) q quiet)) in
       let run = run_paid p k _ lower in
       let passed = passed_less standing standing_passes p fr ts s (length (Run fr ∷ ts)) (arguments_of p m) first 0 s.cells in
-      let cells =
-      scaled_le (standing (passed_cells p fr ts s (length (Run fr ∷ ts)) (arguments_of p m) first 0 s.cells) + operations s.items) (standing s.cells + operations s.items) (cell_rank p)
-      (omega (arith, passed)) in
+      let cells = scaled_le (standing (passed_cells p fr ts s (length (Run fr ∷ ts)) (arguments_of p m) first 0 s.cells) + operations s.items)
+      (standing s.cells + operations s.items) (cell_rank p) (omega (arith, passed)) in
       omega (arith, less, run, cells)
 
   cancels : (m : ℕ) → slice_get d.code fr.place ≡ Some Cancel → (m < fr.method) × (is_quiet p m ≡ true) → rank p (applied p fr ts s (Cancels m)) < before
@@ -113,19 +112,18 @@ module _ (p : Image) (linked : IsLinked p) (c : Choice) (s : State) (fr : Frame)
     scaled_le,
   )
 
-  traps : (target : Target) (m first x : ℕ) → slice_get d.code fr.place ≡ Some (Trap target m first x) → is_quiet p fr.method ≡ false → rank p (applied p fr ts s (Sets_trap target m first)) < before
+  traps : (target : Target) (m first x : ℕ) → slice_get d.code fr.place ≡ Some (Trap target m first x) → is_quiet p fr.method ≡ false →
+      rank p (applied p fr ts s (Sets_trap target m first)) < before
   unfolding loop_in
   traps target m first x stands loud =
       let less = paid fr.counters (suc fr.place) (straight (Trap target m first x) stands refl) in
       let k = run_by p fr ts s target m in
-      let lower =
-      called_lower p fr.method k (grind (arith, nat_tests, trapped_before p linked fr.method fr.place d target m first x declared_there stands))
+      let lower = called_lower p fr.method k (grind (arith, nat_tests, trapped_before p linked fr.method fr.place d target m first x declared_there stands))
       (λ q. absurd (true≢false (sym q ∙ loud))) in
       let run = run_paid p k _ lower in
       let passed = passed_less standing standing_passes p fr ts s (length (Trapped ∷ Run fr ∷ ts)) (arguments_of p m) first 0 s.cells in
-      let cells =
-      scaled_le (standing (passed_cells p fr ts s (length (Trapped ∷ Run fr ∷ ts)) (arguments_of p m) first 0 s.cells) + operations s.items) (standing s.cells + operations s.items)
-      (cell_rank p) (omega (arith, passed)) in
+      let cells = scaled_le (standing (passed_cells p fr ts s (length (Trapped ∷ Run fr ∷ ts)) (arguments_of p m) first 0 s.cells) + operations s.items)
+      (standing s.cells + operations s.items) (cell_rank p) (omega (arith, passed)) in
       omega (arith, less, run, cells)
 
   -- ---- the cleanup stack, and leaves
@@ -217,18 +215,22 @@ module _ (p : Image) (linked : IsLinked p) (c : Choice) (s : State) (fr : Frame)
     pub falls : AllUndo p s.items → (i : Instr) → slice_get d.code fr.place ≡ Some i → Ruled i → (e : Effect) → Fits p c fr ts s i e → ((g : Gives) (a : ℕ) →
         slice_get d.code fr.place ≡ Some (Return a) → rank p (returned p fr ts (record s { cells = ended_cells p fr s.cells }) g a ts) < before) →
         ((a : ℕ) (o : Object) → i ≡ Delete a → held s.cells (here fr ts s a) ≡ Some o → is_object o.thing ≡ true) →
-        ((o : Object) → held s.cells (top_place s.items) ≡ Some o → is_object o.thing ≡ true) →
-        ((m : ℕ) → slice_get d.code fr.place ≡ Some Cancel → cancel_method p fr ≡ Some m → (m < fr.method) × (is_quiet p m ≡ true)) → rank p (applied p fr ts s e) < before
+        ((o : Object) → held s.cells (top_place s.items) ≡ Some o → is_object o.thing ≡ true) → ((m : ℕ) → slice_get d.code fr.place ≡ Some Cancel →
+        cancel_method p fr ≡ Some m → (m < fr.method) × (is_quiet p m ≡ true)) → rank p (applied p fr ts s e) < before
     falls undos i stands r (Goes_on ch) f returns plain lasts lower = goes_after i stands f.0 r ch.update f.1
     falls undos i stands r (Jumps to) f returns plain lasts lower = to_jump i stands to f
     falls undos i stands r (Counts depth n) f returns plain lasts lower = counts i stands depth n f
     falls undos i stands r (Repeats depth n to) f returns plain lasts lower = grind (arith, nat_tests, goes, back, nests)
-    falls undos i stands r (Calls target m first) f returns plain lasts lower = calls target m first f.0 (stands ∙ ap (λ x. Some x) f.1) (grind (arith, nat_tests, all_parts))
+    falls undos i stands r (Calls target m first) f returns plain lasts lower =
+        calls target m first f.0 (stands ∙ ap (λ x. Some x) f.1) (grind (arith, nat_tests, all_parts))
     falls undos i stands r (Cancels m) f returns plain lasts lower = grind (arith, nat_tests, cancels m)
     falls undos i stands r (Sets_trap target m first) f returns plain lasts lower = grind (arith, nat_tests, traps target m first f.0, loud_by)
     falls undos i stands r (Returns g a) f returns plain lasts lower = returns g a (stands ∙ ap (λ x. Some x) f.0)
-    falls undos i stands r (Leaves code u) f returns plain lasts lower = leaves_on i stands (straight_by p c fr ts s i (Leaves code u) f) (loud_leaving i code f.1 r) (count_after u) (more u)
-    falls undos i stands r (Destroys o a words) f returns plain lasts lower = deletes i stands (straight_by p c fr ts s i (Destroys o a words) f) o a words f.1 (plain a o f.0 f.1)
-    falls undos i stands r (Destroys_last o) f returns plain lasts lower = deletes_last i stands (straight_by p c fr ts s i (Destroys_last o) f) o f.1 f.2 (lasts o f.2)
+    falls undos i stands r (Leaves code u) f returns plain lasts lower =
+        leaves_on i stands (straight_by p c fr ts s i (Leaves code u) f) (loud_leaving i code f.1 r) (count_after u) (more u)
+    falls undos i stands r (Destroys o a words) f returns plain lasts lower =
+        deletes i stands (straight_by p c fr ts s i (Destroys o a words) f) o a words f.1 (plain a o f.0 f.1)
+    falls undos i stands r (Destroys_last o) f returns plain lasts lower =
+        deletes_last i stands (straight_by p c fr ts s i (Destroys_last o) f) o f.1 f.2 (lasts o f.2)
     falls undos i stands r (Operates m w) f returns plain lasts lower =
         grind (arith, nat_tests, paid, straight, undo_paid, one_less, price_some, straight_by p c fr ts s i (Operates m w) f)

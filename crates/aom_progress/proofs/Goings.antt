@@ -84,7 +84,8 @@ held_below cs n (Ending o left ∷ ls) le h = held_below cs n ls (omega (arith, 
 held_below cs n (Dying o ∷ ls) le h = search (arith, nat_tests, other_depth cs n, ne_eqb n, held_below cs n ls)
 held_below cs n (Dispatching d seats ∷ ls) le h = held_below cs n ls (omega (arith, le)) h
 
-counted_cells : (ls : List Layer) (cs : List Cell) → Tidy cs → DyingHeld cs ls → ((k : ℕ) → goes_at ls k ≡ false → held cs (Going k) ≡ None) → staying cs + destructions (tasks_of ls) ≡ length cs
+counted_cells : (ls : List Layer) (cs : List Cell) → Tidy cs → DyingHeld cs ls → ((k : ℕ) → goes_at ls k ≡ false → held cs (Going k) ≡ None) →
+    staying cs + destructions (tasks_of ls) ≡ length cs
 counted_cells [] cs t h none = omega (arith, all_stand cs (λ k. none k refl))
 counted_cells (Method fr sh ∷ ls) cs t h none = counted_cells ls cs t h none
 counted_cells (Mark gv ∷ ls) cs t h none = counted_cells ls cs t h none
@@ -149,5 +150,6 @@ stays_or_stands (c ∷ cs) t plain = go c.owner refl (is_object c.object.thing) 
     go _ at true e ih = omega (arith, ih)
     go _ at false e ih = omega (arith, ih)
 
-pub cells_stand_or_go : (p : Image) (t : Typing) (s : State) → WellTyped p t s → GoesNoMessage s.cells → standing s.cells + destructions s.tasks ≡ count_cells s.cells
+pub cells_stand_or_go : (p : Image) (t : Typing) (s : State) → WellTyped p t s → GoesNoMessage s.cells →
+    standing s.cells + destructions s.tasks ≡ count_cells s.cells
 cells_stand_or_go p t s w plain = omega (arith, all_told p t s w, stays_or_stands s.cells w.good.tidy plain, objects_and_messages s.cells)

@@ -68,7 +68,8 @@ IsApart depth r = (k : ℕ) → k < depth → same_place r (Going k) ≡ false
 pub going_apart : (depth n : ℕ) → depth ≤ n → IsApart depth (Going n)
 going_apart depth n le k lt = ap (λ b. b && (0 == 0)) (ne_eqb n k (λ e. absurd (omega (arith, le, lt, e))))
 
-pub lasts_moved : (depth : ℕ) (from to : Place) (cs : List Cell) → IsApart depth from → IsApart depth to → ((n : ℕ) → is_session_with n to ≡ false) → Lasts depth cs (moved from to cs)
+pub lasts_moved : (depth : ℕ) (from to : Place) (cs : List Cell) → IsApart depth from → IsApart depth to → ((n : ℕ) → is_session_with n to ≡ false) →
+    Lasts depth cs (moved from to cs)
 lasts_moved depth from to cs a b none = record {
   going = λ k lt. held_elsewhere cs from to (Going k) (b k lt) ∙ ap (λ x. cond x None (held cs (Going k))) (a k lt);
   sessions = λ c n. moved_less c (is_session_with n) from to cs (none n);
@@ -97,9 +98,11 @@ module _ (depth : ℕ) (p : Image) (fr : Frame) (ts : List Task) (s : State) whe
   spot_no_session x n = grind (arith, nat_tests, field_no_session n fr.home)
 
   pub lasts_update : (u : Update) → Lasts depth s.cells (cells_after p fr ts s u)
-  lasts_update (Carried from to) = lasts_moved depth (spot_place p fr ts s from) (spot_place p fr ts s to) s.cells (spot_apart from) (spot_apart to) (spot_no_session to)
+  lasts_update (Carried from to) =
+      lasts_moved depth (spot_place p fr ts s from) (spot_place p fr ts s to) s.cells (spot_apart from) (spot_apart to) (spot_no_session to)
   lasts_update (Made name x a) = record { going = λ k lt. refl; sessions = λ c n. omega arith }
-  lasts_update (Written w v) = record { going = λ k lt. grind (arith, nat_tests, held_set_word); sessions = λ c n. omega (arith, stored_same c (is_session_with n) s.cells fr.home w v) }
+  lasts_update (Written w v) =
+      record { going = λ k lt. grind (arith, nat_tests, held_set_word); sessions = λ c n. omega (arith, stored_same c (is_session_with n) s.cells fr.home w v) }
   lasts_update (Requested r) = lasts_asked depth s.cells fr.home r
   lasts_update (Sessioned b) = record {
     going = λ k lt. (resessioned_alike s.cells fr.home b).held_so (Going k);

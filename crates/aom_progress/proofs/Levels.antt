@@ -135,11 +135,13 @@ line_paid p linked (Object_of c) = go (parent_of p c) refl
         omega (arith, all, more)
 
 -- a line of destructors and the going after it are paid by what goes before a server, with one left
-pub destructed_paid : (p : Image) → IsLinked p → (o : Object) (height : ℕ) (below : List Task) → tasks_rank p (destructed p o height below) + 1 ≤ closing_rank p + waiting_rank p below
+pub destructed_paid : (p : Image) → IsLinked p → (o : Object) (height : ℕ) (below : List Task) →
+    tasks_rank p (destructed p o height below) + 1 ≤ closing_rank p + waiting_rank p below
 destructed_paid p linked o height below = grind (arith, nat_tests, closing_two p linked, line_first p, line_paid p linked o.thing)
 
 -- a destruction that begins is paid by its cell, with one left
-pub begun_paid : (p : Image) → IsLinked p → (o : Object) (height : ℕ) (below : List Task) → tasks_rank p (begun p o height below) + 1 ≤ cell_rank p + waiting_rank p below
+pub begun_paid : (p : Image) → IsLinked p → (o : Object) (height : ℕ) (below : List Task) →
+    tasks_rank p (begun p o height below) + 1 ≤ cell_rank p + waiting_rank p below
 begun_paid p linked o height below = grind (arith, nat_tests, pow_step, double_le, closing_two p linked, destructed_paid p linked o height below)
 
 -- what an instruction of a method runs comes before the method

@@ -71,11 +71,13 @@ destructed_left p c o height below us = grind (arith, nat_tests, fresh_rounds c,
 -- a destruction that begins costs what that of its class does, where what goes before a server is no more than its class pays for
 pub begun_left : (p : Image) (t : Typing) (c : Prices) → IsPriced p t c → (o : Object) (height : ℕ) (below : List Task) (us : List Cell) → (is_server p o.thing
     ≡ true → (held us (Going (length below)) ≡ Some o) × (sessions_left c o.name us ≤ sessions_cost p (λ k. c.destruction (An_object_of k)) o.thing)) →
-    tasks_left p c (begun p o height below) + closings_left p c us (begun p o height below) ≤ c.destruction o.thing + (waiting_left p c below + closings_left p c us below)
+    tasks_left p c (begun p o height below) + closings_left p c us (begun p o height below)
+    ≤ c.destruction o.thing + (waiting_left p c below + closings_left p c us below)
 begun_left p t c priced o height below us few = grind (arith, nat_tests, destructed_left p c o height below us)
 
 -- a register's kind pays for what it owns
-kind_pays : (p : Image) (t : Typing) (c : Prices) → IsPriced p t c → (h : Sight) (o : Object) (k : Kind) → Holds_of p h (Some o) k → c.destruction o.thing ≤ kind_price c k
+kind_pays : (p : Image) (t : Typing) (c : Prices) → IsPriced p t c → (h : Sight) (o : Object) (k : Kind) → Holds_of p h (Some o) k →
+    c.destruction o.thing ≤ kind_price c k
 kind_pays p t c priced h o k f = grind (arith, priced.stands_in)
 
 -- ---- a method at its place
@@ -114,7 +116,8 @@ module _ (p : Image) (t : Typing) (c : Prices) (linked : IsLinked p) (priced : I
   there cs k n adds takes loops pays = grind (arith, nat_tests)
 
   -- the method goes on there, with so much for what it pushes, and no more goes before servers
-  goes : (cs : List ℕ) (k n x y : ℕ) → 1 + n + rest_at cs k ≤ rest_at fr.counters fr.place → x ≤ n + pushed → y ≤ closings → 1 + (rest_at cs k + beyond + y + x) ≤ before
+  goes : (cs : List ℕ) (k n x y : ℕ) → 1 + n + rest_at cs k ≤ rest_at fr.counters fr.place → x ≤ n + pushed → y ≤ closings →
+      1 + (rest_at cs k + beyond + y + x) ≤ before
   goes cs k n x y less most few = omega (arith, less, most, few)
 
   -- a destruction begins over the method
@@ -124,12 +127,14 @@ module _ (p : Image) (t : Typing) (c : Prices) (linked : IsLinked p) (priced : I
   destruction o from height waits there apart =
       let depth = length (Run fr ∷ ts) in
       let us = moved from (Going depth) s.cells in
-      let begins = begun_left p t c priced o height (Run waits ∷ ts) us (stands_at_going p t c priced s.cells (Method fr sh ∷ ls) at_hand.good few o from depth there (omega arith)) in
+      let begins = begun_left p t c priced o height (Run waits ∷ ts) us
+      (stands_at_going p t c priced s.cells (Method fr sh ∷ ls) at_hand.good few o from depth there (omega arith)) in
       omega (arith, begins, lasting p c s.cells us ts (grind (arith, nat_tests, lasts_moved, going_apart)))
 
   straight : (i : Instr) → slice_get d.code fr.place ≡ Some i → loop_in (Some i) ≡ None → (n : ℕ) → Affords p c fr sh n (suc fr.place) →
       n + rest_at fr.counters (suc fr.place) ≤ rest_at fr.counters fr.place
-  straight i stands plain n pays = there fr.counters (suc fr.place) n 0 0 (omega (arith, straight_on d.code worth grows fr.counters fr.place i stands plain)) (omega (arith, pays))
+  straight i stands plain n pays =
+      there fr.counters (suc fr.place) n 0 0 (omega (arith, straight_on d.code worth grows fr.counters fr.place i stands plain)) (omega (arith, pays))
 
   nests : LoopsNest d.code
   unfolding method_at
@@ -148,7 +153,8 @@ module _ (p : Image) (t : Typing) (c : Prices) (linked : IsLinked p) (priced : I
   after (Sessioned b) = omega (arith, resessioned_same c is_entry s.cells fr.home b)
   after (Pushed a) = of_object (held s.cells (here fr ts s a)) refl
     where
-      of_object : (o : Option Object) → held s.cells (here fr ts s a) ≡ o → objects_left c (cells_after p fr ts s (Pushed a)) + operations_left c s.items ≤ kind_price c (register sh a) + pushed
+      of_object : (o : Option Object) → held s.cells (here fr ts s a) ≡ o →
+          objects_left c (cells_after p fr ts s (Pushed a)) + operations_left c s.items ≤ kind_price c (register sh a) + pushed
       of_object None e = omega (arith, none_moves c is_entry (here fr ts s a) (Entry (length s.items)) s.cells e)
       of_object (Some o) e = let pays = kind_pays p t c priced
           (seen s.cells) o (register sh a) (subst (λ y. Holds_of p (seen s.cells) y (register sh a)) e (kind_fits p t ch s fr sh ls at_hand a)) in
@@ -196,7 +202,8 @@ module _ (p : Image) (t : Typing) (c : Prices) (linked : IsLinked p) (priced : I
           goes (put_at 0 fr.counters depth 0) (suc fr.place) 0 pushed closings less (omega arith) (omega arith)
 
   -- another round is one that was paid for
-  again : (depth to n : ℕ) → slice_get d.code fr.place ≡ Some (Next depth to) → Stands p t fr.method fr.place sh (Next depth to) → counter fr depth - 1 ≡ suc n → Pays (Repeats depth (suc n) to)
+  again : (depth to n : ℕ) → slice_get d.code fr.place ≡ Some (Next depth to) → Stands p t fr.method fr.place sh (Next depth to) →
+      counter fr depth - 1 ≡ suc n → Pays (Repeats depth (suc n) to)
   again depth to n stands it e =
       let r = closed_loop d.code fr.place depth to nests stands in
       let pays = priced.rounds fr.method fr.place depth r.0 sh (rw r.2 at it) in
@@ -215,13 +222,15 @@ module _ (p : Image) (t : Typing) (c : Prices) (linked : IsLinked p) (priced : I
       omega (
         arith,
         less,
-        passed_less (objects_left c) (λ d i e j cs. moved_less c is_entry (Register d i) (Register e j) cs refl) p fr ts s (length (Run fr ∷ ts)) (arguments_of p m) first 0 s.cells,
+        passed_less (objects_left c) (λ d i e j cs. moved_less c is_entry (Register d i) (Register e j) cs refl) p fr ts s (length (Run fr ∷ ts))
+            (arguments_of p m) first 0 s.cells,
         closings_passed (length (Run fr ∷ ts)) m first,
         fresh_rounds c k (method_at p k),
         run,
       )
 
-  cancels : (i : Instr) → slice_get d.code fr.place ≡ Some i → loop_in (Some i) ≡ None → (m : ℕ) → Affords p c fr sh (1 + price c m) (suc fr.place) → Pays (Cancels m)
+  cancels : (i : Instr) → slice_get d.code fr.place ≡ Some i → loop_in (Some i) ≡ None → (m : ℕ) →
+      Affords p c fr sh (1 + price c m) (suc fr.place) → Pays (Cancels m)
   cancels i stands plain m pays =
       let less = straight i stands plain (1 + price c m) pays in
       let after = on_request cancelling (own_request s.cells fr.home) in
@@ -236,7 +245,8 @@ module _ (p : Image) (t : Typing) (c : Prices) (linked : IsLinked p) (priced : I
       omega (
         arith,
         less,
-        passed_less (objects_left c) (λ d i e j cs. moved_less c is_entry (Register d i) (Register e j) cs refl) p fr ts s (length (Trapped ∷ Run fr ∷ ts)) (arguments_of p m) first 0 s.cells,
+        passed_less (objects_left c) (λ d i e j cs. moved_less c is_entry (Register d i) (Register e j) cs refl) p fr ts s (length (Trapped ∷ Run fr ∷ ts))
+            (arguments_of p m) first 0 s.cells,
         closings_passed (length (Trapped ∷ Run fr ∷ ts)) m first,
         fresh_rounds c k (method_at p k),
         run,
@@ -278,7 +288,8 @@ module _ (p : Image) (t : Typing) (c : Prices) (linked : IsLinked p) (priced : I
     over_result : (over below : List Task) (x : ℕ) → closings_left p c (result_cells p fr over ended g a x below) below ≤ closings_left p c s.cells below
     over_result over below x = omega (arith, over_ended below, lasting p c ended.cells _ below (lasts_result (length below) p fr over ended g a x below))
 
-    line_closings : (cs : List Cell) (m : ℕ) (home : Home) (height : ℕ) (below : List Task) → closings_left p c cs (line_on p m home height below) ≡ closings_left p c cs below
+    line_closings : (cs : List Cell) (m : ℕ) (home : Home) (height : ℕ) (below : List Task) →
+        closings_left p c cs (line_on p m home height below) ≡ closings_left p c cs below
     line_closings cs m (Inside o from) height below = go (next_destructor p m)
       where
         go : (k : Option ℕ) → closings_left p c cs (begun_by p k o height below) ≡ closings_left p c cs below
@@ -300,7 +311,8 @@ module _ (p : Image) (t : Typing) (c : Prices) (linked : IsLinked p) (priced : I
       (λ d e i. grind (arith, nat_tests, served_same, moved_less)) lines_fall ls at_hand.good.stack in
       omega (arith, some, less.0, less.1, returned_closings g a ls at_hand.good.stack)
 
-  pub pays : (i : Instr) → slice_get d.code fr.place ≡ Some i → Stands p t fr.method fr.place sh i → (e : Effect) → Fits p ch fr ts s i e → Covers p c fr sh e → Pays e
+  pub pays : (i : Instr) → slice_get d.code fr.place ≡ Some i → Stands p t fr.method fr.place sh i → (e : Effect) → Fits p ch fr ts s i e →
+      Covers p c fr sh e → Pays e
   pays i stands it (Goes_on change) f covered =
       let n = pushes p c fr sh change.update in
       goes fr.counters (suc fr.place) n _ _ (straight i stands f.0 (1 + n) covered) (after change.update) (closings_after change.update)
@@ -311,7 +323,8 @@ module _ (p : Image) (t : Typing) (c : Prices) (linked : IsLinked p) (priced : I
   pays i stands it (Cancels m) f covered = cancels i stands (straight_by p ch fr ts s i (Cancels m) f) m covered
   pays i stands it (Sets_trap target m first) f covered = traps i stands (straight_by p ch fr ts s i (Sets_trap target m first) f) target m first covered
   pays i stands it (Returns g a) f covered = returns g a covered
-  pays i stands it (Leaves code u) f covered = omega (arith, covered, after u, closings_after u, to_trap_closings p c (cells_after p fr ts s u) ts, to_trap_less (left_worths p c) ts)
+  pays i stands it (Leaves code u) f covered =
+      omega (arith, covered, after u, closings_after u, to_trap_closings p c (cells_after p fr ts s u) ts, to_trap_less (left_worths p c) ts)
   pays i stands it (Destroys o a words) f covered = destroys i stands (straight_by p ch fr ts s i (Destroys o a words) f) o a words f.1 covered
   pays i stands it (Destroys_last o) f covered = destroys_last i stands (straight_by p ch fr ts s i (Destroys_last o) f) o f.1 f.2 covered
   pays i stands it (Operates m w) f covered = operates i stands (straight_by p ch fr ts s i (Operates m w) f) m w f.1 covered

@@ -45,7 +45,8 @@ straight_on code cs k i stands none =
     omega (arith, less, rounds.straight_on code (rounds_weight code) (grows code) cs k i stands none)
 
 -- a jump goes forward
-pub jumps : (code : List Instr) (cs : List ℕ) (k to : ℕ) (i : Instr) → JumpsWell code → slice_get code k ≡ Some i → jump_of i ≡ Some to → left code cs to < left code cs k
+pub jumps : (code : List Instr) (cs : List ℕ) (k to : ℕ) (i : Instr) → JumpsWell code → slice_get code k ≡ Some i → jump_of i ≡ Some to →
+    left code cs to < left code cs k
 jumps code cs k to i well stands jump =
     let keeps = at_place (KeepsWithin (length code)) code k i well.each stands in
     let later : k < to = (let h = keeps.forward in rw jump at h) in
@@ -53,7 +54,8 @@ jumps code cs k to i well stands jump =
     omega (arith, less, rounds.jumps code (rounds_weight code) (grows code) cs k to i well stands jump)
 
 -- a loop begins all its rounds
-pub enters : (code : List Instr) (cs : List ℕ) (k d n : ℕ) → LoopsNest code → slice_get code k ≡ Some (Loop d n) → left code (put_at 0 cs d n) (suc k) < left code cs k
+pub enters : (code : List Instr) (cs : List ℕ) (k d n : ℕ) → LoopsNest code → slice_get code k ≡ Some (Loop d n) →
+    left code (put_at 0 cs d n) (suc k) < left code cs k
 enters code cs k d n nest stands =
     let pays = weight_loop code k n (slice_get_within code k (Loop d n) stands) (rounds_less code k d n stands) in
     omega (arith, pays, rounds.enters code (rounds_weight code) (grows code) cs k d n nest stands)
@@ -65,7 +67,8 @@ leaves code cs k d t stands =
     omega (arith, less, rounds.leaves code (rounds_weight code) (grows code) cs k d t stands)
 
 -- one more round begins
-pub back : (code : List Instr) (cs : List ℕ) (k d t n : ℕ) → LoopsNest code → slice_get code k ≡ Some (Next d t) → at 0 cs d - 1 ≡ suc n → left code (put_at 0 cs d (suc n)) t < left code cs k
+pub back : (code : List Instr) (cs : List ℕ) (k d t n : ℕ) → LoopsNest code → slice_get code k ≡ Some (Next d t) → at 0 cs d - 1 ≡ suc n →
+    left code (put_at 0 cs d (suc n)) t < left code cs k
 back code cs k d t n nest stands fewer =
     let r = rounds.closed_loop code k d t nest stands in
     let again = rounds.back code (rounds_weight code) (grows code) cs k d t (suc n) nest stands (omega (arith, fewer)) r.0 r.1 in

@@ -44,7 +44,8 @@ module _ (c : Prices) (counts : Place → Bool) where
   none_moves from to (x ∷ cs) e = grind (arith, none_moves from to cs)
 
   -- what is there comes to any place
-  pub enters_place : (from to : Place) (o : Object) (cs : List Cell) → Tidy cs → held cs from ≡ Some o → owned_left c counts (moved from to cs) ≤ owned_left c counts cs + c.destruction o.thing
+  pub enters_place : (from to : Place) (o : Object) (cs : List Cell) → Tidy cs → held cs from ≡ Some o →
+      owned_left c counts (moved from to cs) ≤ owned_left c counts cs + c.destruction o.thing
   enters_place from to o [] tidy there = omega arith
   enters_place from to o (x ∷ cs) tidy there = grind (arith, enters_place from to o cs tidy.2, none_moves from to cs, same_place-true x.owner from, tidy.0)
 
@@ -104,7 +105,8 @@ module _ (c : Prices) (counts : Place → Bool) where
   queue_less n (x ∷ cs) = grind (arith, queue_less n cs)
 
   -- of messages in queues nothing counts
-  pub withdrawn_same : ((r : Place) → is_queue r ≡ true → counts r ≡ false) → (client : ℕ) (cs : List Cell) → owned_left c counts (withdrawn client cs) ≡ owned_left c counts cs
+  pub withdrawn_same : ((r : Place) → is_queue r ≡ true → counts r ≡ false) → (client : ℕ) (cs : List Cell) →
+      owned_left c counts (withdrawn client cs) ≡ owned_left c counts cs
   withdrawn_same none client [] = refl
   withdrawn_same none client (x ∷ cs) = grind (arith, withdrawn_same none client cs, none x.owner)
 

@@ -67,9 +67,8 @@ returns : (p : Image) (t : Typing) (s : State) (fr : Frame) (sh : Shape) (ls : L
     (Run fr ∷ tasks_of ls) + (standing s.cells + operations s.items) * cell_rank p
 returns p t s fr sh ls h some g a =
     let u = returned p fr (tasks_of ls) (record s { cells = ended_cells p fr s.cells }) g a (tasks_of ls) in
-    let less =
-    returned_less (rank_worths p) standing operations standing_passes operations_below standing_asked (λ x answer. omega arith) (grind arith) p t s fr sh g a
-    (λ d e i. standing_accepted d e i (ended_cells p fr s.cells)) (grind (arith, nat_tests, some_given, line_next)) ls h in
+    let less = returned_less (rank_worths p) standing operations standing_passes operations_below standing_asked (λ x answer. omega arith)
+    (grind arith) p t s fr sh g a (λ d e i. standing_accepted d e i (ended_cells p fr s.cells)) (grind (arith, nat_tests, some_given, line_next)) ls h in
     let cells = scaled_le (standing u.cells + operations u.items) (standing s.cells + operations s.items) (cell_rank p) less.1 in
     omega (arith, some, less.0, cells)
 
@@ -94,7 +93,8 @@ module _ (p : Image) (t : Typing) (linked : IsLinked p) (typed : IsTyped p t) (c
       AllTrue (needs p c fr ts (counted p s) i) → Fits p c fr ts (counted p s) i e → rank p (applied p fr ts (counted p s) e) < total (Run fr ∷ ts)
 
   -- what a register owns that is deleted
-  plain : (fr : Frame) (ts : List Task) (a : ℕ) (o : Object) → is_no_message (held s.cells (here fr ts s a)) ≡ true → held s.cells (here fr ts s a) ≡ Some o → is_object o.thing ≡ true
+  plain : (fr : Frame) (ts : List Task) (a : ℕ) (o : Object) → is_no_message (held s.cells (here fr ts s a)) ≡ true → held s.cells (here fr ts s a) ≡ Some o →
+      is_object o.thing ≡ true
   plain fr ts a o met owns = sym (ap is_no_message owns) ∙ met
 
   acts_there : (fr : Frame) (sh : Shape) (ls : List Layer) → Good p t s.cells (Method fr sh ∷ ls) → ActsLower fr (tasks_of ls)
@@ -111,7 +111,8 @@ module _ (p : Image) (t : Typing) (linked : IsLinked p) (typed : IsTyped p t) (c
   acts ls good fr ts at = method_layer (Good p t s.cells) fr ts ls at good (λ sh below under there. subst (ActsLower fr) under (acts_there fr sh below there))
 
   -- so many cells stand at most
-  fewer_stand : (cs : List Cell) → standing cs ≤ standing s.cells → (standing cs + operations s.items) * cell_rank p ≤ (standing s.cells + operations s.items) * cell_rank p
+  fewer_stand : (cs : List Cell) → standing cs ≤ standing s.cells →
+      (standing cs + operations s.items) * cell_rank p ≤ (standing s.cells + operations s.items) * cell_rank p
   fewer_stand cs fewer = scaled_le (standing cs + operations s.items) (standing s.cells + operations s.items) (cell_rank p) (omega (arith, fewer))
 
   -- a server lets go of a session, which pays for its destruction, or its destructor begins
@@ -124,10 +125,12 @@ module _ (p : Image) (t : Typing) (linked : IsLinked p) (typed : IsTyped p t) (c
       let destruction = begun_paid p linked x.object (length s.items) over in
       let object = session_object p o.name found.client t s w x.object (ap (λ q. held s.cells q) (sym found.place) ∙ found.there) in
       let goes = standing_goes x.place (length over) x.object s.cells (ap is_going found.place) object found.there in
-      let cells = one_less (standing (moved x.place (Going (length over)) s.cells) + operations s.items) (standing s.cells + operations s.items) (cell_rank p) (omega (arith, goes)) in
+      let cells = one_less (standing (moved x.place (Going (length over)) s.cells) + operations s.items) (standing s.cells + operations s.items) (cell_rank p)
+      (omega (arith, goes)) in
       omega (arith, destruction, cells)
 
-  kept_alike : (v : State) → v.cells ≡ s.cells → v.items ≡ s.items → (standing v.cells + operations v.items) * cell_rank p ≡ (standing s.cells + operations s.items) * cell_rank p
+  kept_alike : (v : State) → v.cells ≡ s.cells → v.items ≡ s.items →
+      (standing v.cells + operations v.items) * cell_rank p ≡ (standing s.cells + operations s.items) * cell_rank p
   kept_alike v same alike = grind (arith, nat_tests)
 
   -- main's end is worth 2: the root's destruction may begin, with its own end before it
@@ -136,23 +139,24 @@ module _ (p : Image) (t : Typing) (linked : IsLinked p) (typed : IsTyped p t) (c
   ends_main true (Some o) there v same alike =
       let destruction = begun_paid p linked o (length v.items) (Dispatched Of_root ∷ []) in
       let goes = standing_goes (Elsewhere Root) (length (Dispatched Of_root ∷ [])) o s.cells refl (root_object p t s w o there) there in
-      let cells =
-      one_less (standing (moved (Elsewhere Root) (Going (length (Dispatched Of_root ∷ []))) s.cells) + operations s.items) (standing s.cells + operations s.items) (cell_rank p)
-      (omega (arith, goes)) in
+      let cells = one_less (standing (moved (Elsewhere Root) (Going (length (Dispatched Of_root ∷ []))) s.cells) + operations s.items)
+      (standing s.cells + operations s.items) (cell_rank p) (omega (arith, goes)) in
       let these : (standing (moved (Elsewhere Root) (Going (length (Dispatched Of_root ∷ []))) v.cells) + operations v.items) * cell_rank p
-      ≡ (standing (moved (Elsewhere Root) (Going (length (Dispatched Of_root ∷ []))) s.cells) + operations s.items) * cell_rank p =
-      grind (arith, nat_tests) in
+      ≡ (standing (moved (Elsewhere Root) (Going (length (Dispatched Of_root ∷ []))) s.cells) + operations s.items) * cell_rank p = grind (arith, nat_tests) in
       omega (arith, destruction, cells, these)
   ends_main _ _ there v same alike = omega (arith, kept_alike v same alike)
 
   -- what is served ends as an object's dispatch does
-  of_stage : (ts : List Task) (x : Seat) (client : ℕ) (stage : Stage) → rank p (stage_ends x client stage (counted p s)) < total (Dispatched (Of_server x client stage) ∷ ts)
+  of_stage : (ts : List Task) (x : Seat) (client : ℕ) (stage : Stage) →
+      rank p (stage_ends x client stage (counted p s)) < total (Dispatched (Of_server x client stage) ∷ ts)
   of_stage ts x client (Service_left code) = omega (arith, fewer_stand (without (Elsewhere In_service) s.cells) (standing_without (Elsewhere In_service) s.cells))
-  of_stage ts x client Parts = omega (arith, fewer_stand (reserved (parted client) x.object.name s.cells) (omega (arith, standing_reserved (parted client) x.object.name s.cells)))
+  of_stage ts x client Parts =
+      omega (arith, fewer_stand (reserved (parted client) x.object.name s.cells) (omega (arith, standing_reserved (parted client) x.object.name s.cells)))
   of_stage ts x client _ = omega arith
 
   -- the mark is no operation
-  unmarked : (items : List Item) → s.items ≡ A_mark ∷ items → (standing s.cells + operations items) * cell_rank p ≤ (standing s.cells + operations s.items) * cell_rank p
+  unmarked : (items : List Item) → s.items ≡ A_mark ∷ items →
+      (standing s.cells + operations items) * cell_rank p ≤ (standing s.cells + operations s.items) * cell_rank p
   unmarked items e = grind (arith, nat_tests, scaled_le)
 
   -- a leave deals with an item
@@ -164,9 +168,8 @@ module _ (p : Image) (t : Typing) (linked : IsLinked p) (typed : IsTyped p t) (c
       let destruction = begun_paid p linked o (length items) (Unwind code ∷ ts) in
       let goes = standing_goes (Entry (length items)) (length (Unwind code ∷ ts)) o s.cells refl (entry_object p t s w o (length items) there) there in
       let same : operations s.items ≡ operations items = ap operations e in
-      let cells =
-      one_less (standing (moved (Entry (length items)) (Going (length (Unwind code ∷ ts))) s.cells) + operations items) (standing s.cells + operations s.items) (cell_rank p)
-      (omega (arith, goes, same)) in
+      let cells = one_less (standing (moved (Entry (length items)) (Going (length (Unwind code ∷ ts))) s.cells) + operations items)
+      (standing s.cells + operations s.items) (cell_rank p) (omega (arith, goes, same)) in
       omega (arith, destruction, cells)
 
   -- what a move leads to, by what was at hand
@@ -185,7 +188,8 @@ module _ (p : Image) (t : Typing) (linked : IsLinked p) (typed : IsTyped p t) (c
   lowers busy u (Comes_out code d ts items at top same) = grind (arith, nat_tests, by, unmarked)
   lowers busy u (Ends d ts at same) = by (Dispatched d ∷ ts) u _ at same (grind (arith, nat_tests, ends_main, of_stage))
 
-pub moves_lower_ranks : (p : Image) (t : Typing) → IsLinked p → IsTyped p t → (c : Choice) (s u : State) → WellTyped p t s → IsBusy s → step p c s ≡ Goes u → rank p u < rank p s
+pub moves_lower_ranks : (p : Image) (t : Typing) → IsLinked p → IsTyped p t → (c : Choice) (s u : State) → WellTyped p t s → IsBusy s →
+    step p c s ≡ Goes u → rank p u < rank p s
 moves_lower_ranks p t linked typed c s u w busy e = lowers p t linked typed c s w busy u (steps_are_moves p c s u e)
 
 -- a move that goes on keeps the typing
@@ -200,5 +204,6 @@ module _ (p : Image) (t : Typing) (wired : IsWired p) (linked : IsLinked p) (typ
       let kept = keeps_on p t u (step p c s) goes (step_keeps p t wired typed c s w unused) in
       omega (arith, lower, bound kept more)
 
-pub ranks_bound_moves : (p : Image) (t : Typing) → IsWired p → IsLinked p → IsTyped p t → (n : ℕ) (s u : State) → WellTyped p t s → Moves p n s u → n + rank p u ≤ rank p s
+pub ranks_bound_moves : (p : Image) (t : Typing) → IsWired p → IsLinked p → IsTyped p t → (n : ℕ) (s u : State) → WellTyped p t s →
+    Moves p n s u → n + rank p u ≤ rank p s
 ranks_bound_moves p t wired linked typed n s u w moves = bound p t wired linked typed w moves

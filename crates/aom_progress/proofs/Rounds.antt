@@ -38,7 +38,8 @@ as_body : (code : List Instr) (d p q : ℕ) → Closes code d p q → Body code 
 as_body code d p q c = record { begins = begins_there code p d c.begins; later = c.later; back = goes_back code q d (suc p) c.ends }
 
 -- a jump goes into no body from outside
-jumps_within : (code : List Instr) (k to : ℕ) (i : Instr) → JumpsWell code → slice_get code k ≡ Some i → jump_of i ≡ Some to → (p d : ℕ) → IsIn code d p to → IsIn code d p k
+jumps_within : (code : List Instr) (k to : ℕ) (i : Instr) → JumpsWell code → slice_get code k ≡ Some i → jump_of i ≡ Some to → (p d : ℕ) →
+    IsIn code d p to → IsIn code d p k
 jumps_within code k to i well stands jump p d w =
     let body = as_body code d p w.end w.closes in
     let closed = well.bodies w.end (next_within code w.end _ w.closes.ends) p body in
@@ -65,7 +66,8 @@ total_alike : (f g : ℕ → ℕ) (n : ℕ) → ((j : ℕ) → f j ≡ g j) → 
 total_alike f g zero h = refl
 total_alike f g (suc n) h = ap (λ k. k + f n) (total_alike f g n h) ∙ ap (λ k. total g n + k) (h n)
 
-pub worth_alike : (code : List Instr) (worth : ℕ → ℕ → ℕ) (cs ds : List ℕ) → ((i : ℕ) → at 0 cs i ≡ at 0 ds i) → (place : ℕ) → loops_worth code worth cs place ≡ loops_worth code worth ds place
+pub worth_alike : (code : List Instr) (worth : ℕ → ℕ → ℕ) (cs ds : List ℕ) → ((i : ℕ) → at 0 cs i ≡ at 0 ds i) → (place : ℕ) →
+    loops_worth code worth cs place ≡ loops_worth code worth ds place
 worth_alike code worth cs ds alike place = grind (arith, nat_tests, total_alike)
 
 -- ---- a worth that grows with the counter
@@ -130,7 +132,8 @@ module _ (code : List Instr) (worth : ℕ → ℕ → ℕ) (grows : (p a b : ℕ
   leaves cs k d t stands = forward cs (put_at 0 cs d 0) k (suc k) (λ p c w. (from_here code k p c (ap loop_in stands) w, grind (arith, nat_tests, at-put_at)))
 
   -- one more round begins of the loop that a next closes, with a counter that is no greater
-  module _ (cs : List ℕ) (k d t n : ℕ) (nest : LoopsNest code) (stands : slice_get code k ≡ Some (Next d t)) (fewer : n ≤ at 0 cs d) (r : ℕ) (it : Closes code d r k) where
+  module _ (cs : List ℕ) (k d t n : ℕ) (nest : LoopsNest code) (stands : slice_get code k ≡ Some (Next d t)) (fewer : n ≤ at 0 cs d) (r : ℕ)
+      (it : Closes code d r k) where
     -- the loop at r has its number, and those round it have others
     other_loop : (c p : ℕ) → IsIn code c p r → c ≢ d
     unfolding loop_in
@@ -139,7 +142,8 @@ module _ (code : List Instr) (worth : ℕ → ℕ → ℕ) (grows : (p a b : ℕ
     around : (p : ℕ) → p ≢ r → (c : ℕ) → IsIn code c p (suc r) → IsIn code c p k × (at 0 (put_at 0 cs d n) c ≤ at 0 cs c)
     around p other c w =
         let before : p < r = ⊎_elim (λ (lt : p < r). lt) (λ (ge : r ≤ p). absurd (other (omega (arith, ge, w.after)))) (cases_lt p r) in
-        let later : k < w.end = ⊎_elim (λ (a : w.end < r). absurd (omega (arith, a, w.upto))) (λ (a : k < w.end). a) (nest.nested c d p w.end r k w.closes it before) in
+        let later : k < w.end = ⊎_elim (λ (a : w.end < r). absurd (omega (arith, a, w.upto))) (λ (a : k < w.end). a)
+        (nest.nested c d p w.end r k w.closes it before) in
         let inside : IsIn code c p r = record { after = before; end = w.end; upto = omega (arith, w.upto); closes = w.closes } in
         let same = at_other cs c d n (other_loop c p inside) in
         (record { after = omega (arith, before, it.later); end = w.end; upto = omega (arith, later); closes = w.closes }, omega (arith, same))

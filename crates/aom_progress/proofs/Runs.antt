@@ -54,7 +54,8 @@ module _ (p : Image) (t : Typing) (outside : Environment) (formed : WellFormed p
   rounds : (lines : List Line) (s : State) → Reaches p outside (boot_state p) lines s → RoundsLeft p s.tasks
   rounds _ _ begins = loops_keep.boot p
   rounds _ _ (moves {lines = lines} {s = s} {u = u} c before busy choice e) = loops_keep.moves p (loops_keep.linked p formed linked) c s u (rounds lines s before) e
-  rounds _ _ (turns {lines = lines} {s = s} {u = u} heard before between owed e) = loops_keep.turns p (loops_keep.linked p formed linked) outside heard s u (rounds lines s before) e
+  rounds _ _ (turns {lines = lines} {s = s} {u = u} heard before between owed e) =
+      loops_keep.turns p (loops_keep.linked p formed linked) outside heard s u (rounds lines s before) e
 
   calm : (lines : List Line) (s : State) → Reaches p outside (boot_state p) lines s → IsCalm p s.tasks
   calm _ _ begins = calm_keeps.boot p
@@ -66,7 +67,8 @@ module _ (p : Image) (t : Typing) (outside : Environment) (formed : WellFormed p
     sound = typed_is_sound p t outside wired typed;
     ends = λ lines s reached choose unused. each choose unused (suc (rank p s)) s (omega arith) (well lines s reached);
     falls = λ lines s reached n u more. ranks_bound_moves p t wired linked typed n s u (well lines s reached) more;
-    begins = λ lines s reached c u unused fr ts i code at stands leaves e. leaves_move.begins p t wired typed c s u (well lines s reached) unused fr ts i code at stands leaves e;
+    begins = λ lines s reached c u unused fr ts i code at stands leaves e. leaves_move.begins p t wired typed c s u
+        (well lines s reached) unused fr ts i code at stands leaves e;
     arrives = leaves_arrive p t outside wired typed;
     comes = grind (arith, nat_tests, leaves_come, wired, well);
     stands = traps_keep.stand p outside;

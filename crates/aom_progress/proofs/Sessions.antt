@@ -74,8 +74,7 @@ module _ (c : Prices) (n most : ℕ) where
   abbrev Sessions : List Cell → List ℕ → Type 0
   Sessions cs xs = (client : ℕ) (x : Object) → held cs (Elsewhere (Session n client)) ≡ Some x → (is_among client xs ≡ true) × (c.destruction x.thing ≤ most)
 
-  one_fewer :
-      (y : Cell) (cs : List Cell) (xs : List ℕ) (client : ℕ) → y.owner ≡ Elsewhere (Session n client) → held cs y.owner ≡ None → Sessions (y ∷ cs) xs →
+  one_fewer : (y : Cell) (cs : List Cell) (xs : List ℕ) (client : ℕ) → y.owner ≡ Elsewhere (Session n client) → held cs y.owner ≡ None → Sessions (y ∷ cs) xs →
       Sessions cs (filter (is_other client) xs)
   one_fewer y cs xs client at free all k x there =
       let other : (client == k) ≡ false = grind (arith, nat_tests, ne_eqb client k) in
@@ -120,15 +119,18 @@ module _ (c : Prices) (n most : ℕ) where
 abbrev pub FewSeats : Image → List Cell → Type 0
 FewSeats p cs = (o : Object) → named cs o.name ≡ Some o → seats_taken (service_of cs o.name) ≤ most_of (thing_kind p o.thing)
 
-sessions_paid : (p : Image) (cost : ℕ → ℕ) (x : Thing) (session : ℕ) → session_class p x ≡ Some session → sessions_cost p cost x ≡ most_of (thing_kind p x) * cost session
+sessions_paid : (p : Image) (cost : ℕ → ℕ) (x : Thing) (session : ℕ) → session_class p x ≡ Some session →
+    sessions_cost p cost x ≡ most_of (thing_kind p x) * cost session
 unfolding kind_of sessions_in sessions_of
 sessions_paid p cost x session e = grind arith
 
 module _ (p : Image) (t : Typing) (c : Prices) (priced : IsPriced p t c) (cs : List Cell) (ls : List Layer) (good : Good p t cs ls) (few : FewSeats p cs) where
-  few_sessions : (o : Object) → named cs o.name ≡ Some o → is_server p o.thing ≡ true → sessions_left c o.name cs ≤ sessions_cost p (λ k. c.destruction (An_object_of k)) o.thing
+  few_sessions : (o : Object) → named cs o.name ≡ Some o → is_server p o.thing ≡ true →
+      sessions_left c o.name cs ≤ sessions_cost p (λ k. c.destruction (An_object_of k)) o.thing
   few_sessions o lives server = go (session_class p o.thing) refl server
     where
-      go : (k : Option ℕ) → session_class p o.thing ≡ k → is_some k ≡ true → sessions_left c o.name cs ≤ sessions_cost p (λ k. c.destruction (An_object_of k)) o.thing
+      go : (k : Option ℕ) → session_class p o.thing ≡ k → is_some k ≡ true →
+          sessions_left c o.name cs ≤ sessions_cost p (λ k. c.destruction (An_object_of k)) o.thing
       go None at e = cc
       go (Some k) at e =
           let most = c.destruction (An_object_of k) in
@@ -139,8 +141,7 @@ module _ (p : Image) (t : Typing) (c : Prices) (priced : IsPriced p t c) (cs : L
         where
           all : Sessions c o.name (c.destruction (An_object_of k)) cs (service_of cs o.name).sessions
           all client x there =
-              let has =
-              of_claim p t cs o.name client o x lives Now ls good.stack (rw there at (good.fits (Elsewhere (Session o.name client)))) in
+              let has = of_claim p t cs o.name client o x lives Now ls good.stack (rw there at (good.fits (Elsewhere (Session o.name client)))) in
               let fits = rw at at has.1 in
               (has.0, priced.stands_in x.thing (An_object_of k) fits.0)
 

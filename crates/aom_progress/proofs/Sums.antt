@@ -60,7 +60,8 @@ pub whole_run : (x a c : ℕ) → x ≤ a → 1 ≤ c → x * c + 2 ≤ (a + 2) 
 whole_run x a c le some = let more = scaled_le x a c le in grind (arith, more, some)
 
 -- what one element counts is no more than what all count
-pub one_of_all : {X : Type 0} (f : X → ℕ) (whole : List X → ℕ) → ((x : X) (xs : List X) → whole (x ∷ xs) ≡ f x + whole xs) → (xs : List X) (k : ℕ) (x : X) → slice_get xs k ≡ Some x → f x ≤ whole xs
+pub one_of_all : {X : Type 0} (f : X → ℕ) (whole : List X → ℕ) → ((x : X) (xs : List X) → whole (x ∷ xs) ≡ f x + whole xs) → (xs : List X) (k : ℕ) (x : X) →
+    slice_get xs k ≡ Some x → f x ≤ whole xs
 one_of_all f whole more (y ∷ xs) zero x e = omega (arith, more y xs, ap f (same_Some y x e))
 one_of_all f whole more (y ∷ xs) (suc k) x e = omega (arith, more y xs, one_of_all f whole more xs k x e)
 one_of_all f whole more _ _ x e = cc

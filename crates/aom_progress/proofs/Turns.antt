@@ -90,7 +90,8 @@ module _ (p : Image) (c : Prices) (s : State) (idle : s.tasks ≡ []) where
 
       leaves : (to : Option Client) → Passed (leaving p client v to)
       leaves None = with_cells v refl refl refl
-      leaves (Some to) = with_cells (leaving p client v (Some to)) refl refl (told_same (client_at s.clients client) (withdrawn client s.cells) ∙ withdrawn_same c is_entry unqueued client s.cells)
+      leaves (Some to) = with_cells (leaving p client v (Some to)) refl refl
+          (told_same (client_at s.clients client) (withdrawn client s.cells) ∙ withdrawn_same c is_entry unqueued client s.cells)
 
       by : (command : ClientCommand) → Passed (commanded p client v command name)
       by (Connect class slots) = connects _ _ slots
@@ -183,23 +184,21 @@ module _ (p : Image) (t : Typing) (c : Prices) (family : IsFamily p) (linked : I
       asked_same c is_entry x.object.name (on_request taken_up (requested s.cells x.object.name)) s.cells,
     )
     | accepts client m at ↦ omega (arith, accepts_within x.object.thing m at, fresh_rounds c m (method_at p m), bare, taken_same)
-    | attends client message m o here at ↦
-        omega (
-          arith,
-          attends_within x.object.thing o m (session_there client o here) at,
-          fresh_rounds c m (method_at p m),
-          bare,
-          taken_same,
-          moved_less c is_entry (Elsewhere (Queued x.object.name message)) (Elsewhere In_service) (taken_from x.object.name s).cells refl,
-        )
+    | attends client message m o here at ↦ omega (
+      arith,
+      attends_within x.object.thing o m (session_there client o here) at,
+      fresh_rounds c m (method_at p m),
+      bare,
+      taken_same,
+      moved_less c is_entry (Elsewhere (Queued x.object.name message)) (Elsewhere In_service) (taken_from x.object.name s).cells refl,
+    )
     | parts client o here ↦ parted_pays client o (session_there client o here)
   ]
     where
-      parted_pays : (client : ℕ) (o : Object) → IsSessionOf x.object.thing o →
-          Paid (record (taken_from x.object.name s) {
-            cells = moved (Elsewhere (Session x.object.name client)) (Going 1) (taken_from x.object.name s).cells;
-            tasks = begun p o (length s.items) (Dispatched (Of_server x client Parts) ∷ []);
-          })
+      parted_pays : (client : ℕ) (o : Object) → IsSessionOf x.object.thing o → Paid (record (taken_from x.object.name s) {
+        cells = moved (Elsewhere (Session x.object.name client)) (Going 1) (taken_from x.object.name s).cells;
+        tasks = begun p o (length s.items) (Dispatched (Of_server x client Parts) ∷ []);
+      })
       parted_pays client o is =
           let below = Dispatched (Of_server x client Parts) ∷ [] in
           let us = moved (Elsewhere (Session x.object.name client)) (Going 1) (taken_from x.object.name s).cells in
@@ -209,7 +208,8 @@ module _ (p : Image) (t : Typing) (c : Prices) (family : IsFamily p) (linked : I
 
 pub picking : (p : Image) (t : Typing) (c : Prices) → IsFamily p → IsLinked p → IsPriced p t c → (s : State) → WellTyped p t s →
     s.tasks ≡ [] → (x : Turning) → Lives s x → starts x ≡ true → (u : State) → turned p s x ≡ Goes u → left p c u ≤ price_of p c (payer u.tasks)
-picking p t c family linked priced s w idle (Picks x) there f u e = picked_pays p t c family linked priced s (at_rest_good p t s w idle) (none_between p t c s w idle) x there u (picked_so p s u x e)
+picking p t c family linked priced s w idle (Picks x) there f u e =
+    picked_pays p t c family linked priced s (at_rest_good p t s w idle) (none_between p t c s w idle) x there u (picked_so p s u x e)
 picking p t c family linked priced s w idle _ there f u e = cc
 
 pub turns_pay : TurnsPay

@@ -58,7 +58,8 @@ use Rattle.aom_progress.proofs.Sessions.{FewSeats, stands_at_going}
 
 -- ---- every move
 
-module _ (p : Image) (t : Typing) (c : Prices) (linked : IsLinked p) (typed : IsTyped p t) (priced : IsPriced p t c) (ch : Choice) (s : State) (w : WellTyped p t s) (few : FewSeats p s.cells) where
+module _ (p : Image) (t : Typing) (c : Prices) (linked : IsLinked p) (typed : IsTyped p t) (priced : IsPriced p t c) (ch : Choice) (s : State)
+    (w : WellTyped p t s) (few : FewSeats p s.cells) where
   -- the state with these tasks
   abbrev all_left : List Task → ℕ
   all_left ts = tasks_left p c ts + closings_left p c s.cells ts + (objects_left c s.cells + operations_left c s.items)
@@ -66,7 +67,8 @@ module _ (p : Image) (t : Typing) (c : Prices) (linked : IsLinked p) (typed : Is
   -- ---- an instruction
 
   abbrev ActsPay : Frame → List Task → Type 0
-  ActsPay fr ts = (i : Instr) (u : State) → instr_at p fr.method fr.place ≡ Some i → step_task p ch (counted p s) (Run fr ∷ ts) ≡ Goes u → 1 + left p c u ≤ all_left (Run fr ∷ ts)
+  ActsPay fr ts = (i : Instr) (u : State) → instr_at p fr.method fr.place ≡ Some i → step_task p ch (counted p s) (Run fr ∷ ts) ≡ Goes u →
+      1 + left p c u ≤ all_left (Run fr ∷ ts)
 
   acts_there : (fr : Frame) (sh : Shape) (ls : List Layer) →
       s.tasks ≡ Run fr ∷ tasks_of ls → forms s.items ≡ items_of (Method fr sh ∷ ls) → Good p t s.cells (Method fr sh ∷ ls) → ActsPay fr (tasks_of ls)
@@ -81,10 +83,10 @@ module _ (p : Image) (t : Typing) (c : Prices) (linked : IsLinked p) (typed : Is
       let covered = covers p t c (linked_main_of_none p linked) priced ch (counted p s) fr sh ls at_hand i it rule in
       rw a.2 (pays p t c linked priced ch (counted p s) fr sh ls at_hand few m.0 m.1 i m.2 it (effect p ch fr ts (counted p s) i) a.1 covered)
 
-  acts : (ls : List Layer) → s.tasks ≡ tasks_of ls → forms s.items ≡ items_of ls → Good p t s.cells ls → (fr : Frame) (ts : List Task) → tasks_of ls ≡ Run fr ∷ ts → ActsPay fr ts
-  acts ls tasks items good fr ts at =
-      method_layer (λ ls. (s.tasks ≡ tasks_of ls) × (forms s.items ≡ items_of ls) × Good p t s.cells ls) fr ts ls at (tasks, items, good)
-      (λ sh ls below h. subst (λ l. ActsPay fr l) below (acts_there fr sh ls h.0 h.1 h.2))
+  acts : (ls : List Layer) → s.tasks ≡ tasks_of ls → forms s.items ≡ items_of ls → Good p t s.cells ls → (fr : Frame) (ts : List Task) →
+      tasks_of ls ≡ Run fr ∷ ts → ActsPay fr ts
+  acts ls tasks items good fr ts at = method_layer (λ ls. (s.tasks ≡ tasks_of ls) × (forms s.items ≡ items_of ls) × Good p t s.cells ls) fr ts
+      ls at (tasks, items, good) (λ sh ls below h. subst (λ l. ActsPay fr l) below (acts_there fr sh ls h.0 h.1 h.2))
 
   -- ---- the others
 
@@ -92,14 +94,14 @@ module _ (p : Image) (t : Typing) (c : Prices) (linked : IsLinked p) (typed : Is
   still_none ts still = grind arith
 
   -- a destruction begins over these tasks, and no more goes before servers
-  destruction :
-      (o : Object) (from : Place) (height : ℕ) (below : List Task) → held s.cells from ≡ Some o → s.tasks ≡ below → ((depth : ℕ) → IsApart depth from) →
-      tasks_left p c (begun p o height below) + closings_left p c (moved from (Going (length below)) s.cells) (begun p o height below)
-      ≤ c.destruction o.thing + (waiting_left p c below + closings_left p c (moved from (Going (length below)) s.cells) below)
+  destruction : (o : Object) (from : Place) (height : ℕ) (below : List Task) → held s.cells from ≡ Some o → s.tasks ≡ below →
+      ((depth : ℕ) → IsApart depth from) → tasks_left p c (begun p o height below) + closings_left p c (moved from (Going (length below)) s.cells)
+      (begun p o height below) ≤ c.destruction o.thing + (waiting_left p c below + closings_left p c (moved from (Going (length below)) s.cells) below)
   destruction o from height below there at apart =
       grind (arith, nat_tests, begun_left p t c priced o height below, stands_at_going p t c priced s.cells w.layers w.good few o from)
 
-  passed_on : (from : Place) (below : List Task) → ((depth : ℕ) → IsApart depth from) → closings_left p c (moved from (Going (length below)) s.cells) below ≤ closings_left p c s.cells below
+  passed_on : (from : Place) (below : List Task) → ((depth : ℕ) → IsApart depth from) →
+      closings_left p c (moved from (Going (length below)) s.cells) below ≤ closings_left p c s.cells below
   passed_on from below apart = grind (arith, nat_tests, lasting p c s.cells, lasts_moved, going_apart)
 
   -- what a leave deals with was paid for as it was pushed
@@ -122,10 +124,12 @@ module _ (p : Image) (t : Typing) (c : Prices) (linked : IsLinked p) (typed : Is
       let us = moved x.place (Going (length below)) s.cells in
       let apart : ((depth : ℕ) → IsApart depth x.place) = λ depth k lt. ap (λ q. same_place q (Going k)) place in
       let begins = destruction x.object x.place (length s.items) below there at apart in
-      let lasts = lasts_moved (suc (length ts)) x.place (Going (length below)) s.cells (apart (suc (length ts))) (going_apart (suc (length ts)) (length below) (omega arith)) (λ n. refl) in
+      let lasts = lasts_moved (suc (length ts)) x.place (Going (length below)) s.cells (apart (suc (length ts)))
+      (going_apart (suc (length ts)) (length below) (omega arith)) (λ n. refl) in
       let below_us = ap (λ y. closing_left p c us y) (lasts.going (length ts) (omega arith) ∙ server) in
       let below_now = ap (λ y. closing_left p c s.cells y) server in
-      let fewer = leaves_place c (is_session_with o.name) x.place (Going (length below)) x.object s.cells (ap (is_session_with o.name) place ∙ eq-eqb o.name o.name refl) refl there in
+      let fewer = leaves_place c (is_session_with o.name) x.place (Going (length below)) x.object s.cells
+      (ap (is_session_with o.name) place ∙ eq-eqb o.name o.name refl) refl there in
       let others = lasting p c s.cells us ts (lasts_below (length ts) (suc (length ts)) s.cells us (omega arith) lasts) in
       omega (arith, begins, below_us, below_now, fewer, others, moved_less c is_entry x.place (Going (length below)) s.cells refl)
 
@@ -164,11 +168,14 @@ module _ (p : Image) (t : Typing) (c : Prices) (linked : IsLinked p) (typed : Is
   Alone d = (seats : List Seat) × Good p t s.cells (Dispatching d seats ∷ []) × (forms s.items ≡ items_of (Dispatching d seats ∷ []))
 
   alone : (d : Dispatch) (ts : List Task) → s.tasks ≡ Dispatched d ∷ ts → Alone d
-  alone d ts at = dispatch_layer (λ ls. Good p t s.cells ls × (forms s.items ≡ items_of ls)) d ts w.layers (sym w.tasks ∙ at) (w.good, w.items) (λ seats below under last.
-      let both = subst (λ b. Good p t s.cells (Dispatching d seats ∷ b) × (forms s.items ≡ items_of (Dispatching d seats ∷ b))) last.0.stack.1 last in (seats, both.0, both.1))
+  alone d ts at = dispatch_layer (λ ls. Good p t s.cells ls × (forms s.items ≡ items_of ls)) d ts w.layers (sym w.tasks ∙ at) (w.good, w.items)
+      (λ seats below under last.
+      let both = subst (λ b. Good p t s.cells (Dispatching d seats ∷ b) × (forms s.items ≡ items_of (Dispatching d seats ∷ b))) last.0.stack.1 last in
+      (seats, both.0, both.1))
 
   -- the method that is asked was paid for
-  of_dispatch : (d : Dispatch) (ts : List Task) → s.tasks ≡ Dispatched d ∷ ts → ends_object p d ≡ false → left p c (dispatch_ends p d (counted p s)) ≤ all_left (Dispatched d ∷ ts)
+  of_dispatch : (d : Dispatch) (ts : List Task) → s.tasks ≡ Dispatched d ∷ ts → ends_object p d ≡ false →
+      left p c (dispatch_ends p d (counted p s)) ≤ all_left (Dispatched d ∷ ts)
   of_dispatch x ts at goes_on = grind (arith, nat_tests, alone, main_left_over, fresh_rounds, without_less, served_same)
 
   -- ---- the dispatch of an object ends
@@ -233,7 +240,8 @@ moves_pay = record {
       within = omega (arith, step_pays p t c linked typed priced ch s u w kept goes on, steps_counted p ch s u goes on, h.within);
     }
 
-module _ (p : Image) (t : Typing) (c : Prices) (outside : Environment) (formed : WellFormed p) (linked : IsLinked p) (typed : IsTyped p t) (priced : IsPriced p t c) where
+module _ (p : Image) (t : Typing) (c : Prices) (outside : Environment) (formed : WellFormed p) (linked : IsLinked p) (typed : IsTyped p t)
+    (priced : IsPriced p t c) where
   wired : IsWired p
   wired = linked_is_wired p formed linked
 
@@ -245,7 +253,8 @@ module _ (p : Image) (t : Typing) (c : Prices) (outside : Environment) (formed :
   Within n s = n + left p c s ≤ price_of p c (payer s.tasks)
 
   -- with a move: what was taken is taken still, or steps are counted anew
-  moves_on : (s u : State) (ch : Choice) (n : ℕ) → WellKept p t s → step p ch s ≡ Goes u → Within n s → (b : Bool) → restarts p s.tasks ≡ b → Within (cond b 0 (n + steps_of s.tasks)) u
+  moves_on : (s u : State) (ch : Choice) (n : ℕ) → WellKept p t s → step p ch s ≡ Goes u → Within n s → (b : Bool) → restarts p s.tasks ≡ b →
+      Within (cond b 0 (n + steps_of s.tasks)) u
   moves_on s u ch n w goes h true ends = grind (arith, nat_tests, payers p ch s u goes, restart_left p t c linked typed priced ch s u w.0 w.1 goes ends)
   moves_on s u ch n w goes h false on = grind (arith, nat_tests, payers p ch s u goes, step_pays p t c linked typed priced ch s u w.0 w.1 goes on)
 
@@ -288,7 +297,8 @@ module _ (limit : ℕ) (p : Image) (t : Typing) (c : Prices) (wired : IsWired p)
   pub affordable_below : p.header.budget < limit → main_price p c ≤ p.header.budget → IsAffordable p t are.whole.prices
   affordable_below below declared = record { priced = are.whole.pays; declared = omega (arith, same_main (omega (arith, below, declared)), declared) }
 
-  same_part : (x : ℕ) (role : Role) → perhaps_price c (role_of p x role) < limit → perhaps_price are.whole.prices (role_of p x role) ≡ perhaps_price c (role_of p x role)
+  same_part : (x : ℕ) (role : Role) → perhaps_price c (role_of p x role) < limit →
+      perhaps_price are.whole.prices (role_of p x role) ≡ perhaps_price c (role_of p x role)
   same_part x role less = go (role_of p x role) refl less
     where
       go : (m : Option ℕ) → role_of p x role ≡ m → perhaps_price c m < limit → perhaps_price are.whole.prices m ≡ perhaps_price c m
@@ -310,18 +320,20 @@ steps_within = record { price = by_price; main = of_main; each = by_budget; limi
     of_main p t c outside formed linked typed affords lines s reached none =
         omega (arith, by_price p t c outside formed linked typed affords.priced lines s reached, ap (λ x. price_of p c x) none, affords.declared)
 
-    by_budget : (p : Image) (t : Typing) (c : Prices) (outside : Environment) → WellFormed p → IsLinked p → IsTyped p t → IsAffordable p t c → AffordsObjects p c → KeepsBudget p outside
+    by_budget : (p : Image) (t : Typing) (c : Prices) (outside : Environment) → WellFormed p → IsLinked p → IsTyped p t → IsAffordable p t c →
+        AffordsObjects p c → KeepsBudget p outside
     by_budget p t c outside formed linked typed affords objects = record {
       within = within;
       counted = λ lines s reached. omega (arith, within lines s reached, declared_fits p formed (payer s.tasks), steps_are_counted.runs p outside lines s reached);
     }
       where
         within : (lines : List Line) (s : State) (reached : Reaches p outside (boot_state p) lines s) → taken reached ≤ declared_of p (payer s.tasks)
-        within lines s reached = omega (arith, by_price p t c outside formed linked typed affords.priced lines s reached, all_declared p t c affords objects (payer s.tasks))
+        within lines s reached =
+            omega (arith, by_price p t c outside formed linked typed affords.priced lines s reached, all_declared p t c affords objects (payer s.tasks))
 
-    by_limit :
-        (limit : ℕ) (p : Image) (t : Typing) (c : Prices) (outside : Environment) → WellFormed p → IsLinked p → IsTyped p t → ArePricesUpTo limit p t c →
+    by_limit : (limit : ℕ) (p : Image) (t : Typing) (c : Prices) (outside : Environment) → WellFormed p → IsLinked p → IsTyped p t → ArePricesUpTo limit p t c →
         p.header.budget < limit → main_price p c ≤ p.header.budget → ((x : ℕ) → declared_of p (Some x) < limit) → AffordsObjects p c → KeepsBudget p outside
     by_limit limit p t c outside formed linked typed are below declared objects_low objects =
         let wired = linked_is_wired p formed linked in
-        by_budget p t are.whole.prices outside formed linked typed (affordable_below limit p t c wired are below declared) (objects_below limit p t c wired are objects_low objects)
+        by_budget p t are.whole.prices outside formed linked typed (affordable_below limit p t c wired are below declared)
+        (objects_below limit p t c wired are objects_low objects)

@@ -23,7 +23,8 @@ use Rattle.aom_semantics.specs.Enlisted.{ended_cells, rerequested}
 -- by a number of the cells that is no more where one register's object is another's
 module _ (f : List Cell → ℕ) (passes : (d i e j : ℕ) (cs : List Cell) → f (moved (Register d i) (Register e j) cs) ≤ f cs) where
   -- with the arguments of a call
-  pub passed_less : (p : Image) (fr : Frame) (ts : List Task) (s : State) (depth : ℕ) (xs : List Argument) (first to : ℕ) (cs : List Cell) → f (passed_cells p fr ts s depth xs first to cs) ≤ f cs
+  pub passed_less : (p : Image) (fr : Frame) (ts : List Task) (s : State) (depth : ℕ) (xs : List Argument) (first to : ℕ) (cs : List Cell) →
+      f (passed_cells p fr ts s depth xs first to cs) ≤ f cs
   passed_less p fr ts s depth [] first to cs = omega arith
   passed_less p fr ts s depth (Takes_word ∷ xs) first to cs = passed_less p fr ts s depth xs (suc first) (suc to) cs
   passed_less p fr ts s depth (Takes_own t ∷ xs) first to cs = grind (arith, nat_tests, passed_less p fr ts s depth xs)
@@ -41,7 +42,8 @@ module _ (w : Worths) where
   resumed_alike x = grind arith
 
   -- the code is a word, and changes no place
-  pub told_alike : (g : Gives) (r : ℕ) (code : ℤ) (fr : Frame) (ts : List Task) → tasks_worth w (Run (next (code_told g r code fr)) ∷ ts) ≡ waiting_worth w (Run fr ∷ ts)
+  pub told_alike : (g : Gives) (r : ℕ) (code : ℤ) (fr : Frame) (ts : List Task) →
+      tasks_worth w (Run (next (code_told g r code fr)) ∷ ts) ≡ waiting_worth w (Run fr ∷ ts)
   told_alike x r code fr ts = grind arith
 
   -- a return to what stands below
@@ -62,7 +64,8 @@ module _ (w : Worths) where
     after ls = returned p fr (tasks_of ls) ended gives a (tasks_of ls)
 
     abbrev pub Less : List Layer → Type 0
-    Less ls = (tasks_worth w (after ls).tasks ≤ over_worth w fr.method (tasks_of ls) + waiting_worth w (tasks_of ls)) × (f (after ls).cells + g (after ls).items ≤ f s.cells + g s.items)
+    Less ls = (tasks_worth w (after ls).tasks ≤ over_worth w fr.method (tasks_of ls) + waiting_worth w (tasks_of ls))
+        × (f (after ls).cells + g (after ls).items ≤ f s.cells + g s.items)
 
     -- the next of a line begins with what the one before it had behind it
     abbrev pub LinesFall : Type 0

@@ -110,8 +110,8 @@ is_other c d other = ne_eqb c d other
 pub from_parent : (p : Image) (c e d : ℕ) → (c == d) ≡ false → parent_of p c ≡ Some e → descends p c d ≡ descends p e d
 unfolding descends_in
 from_parent p zero e d other is = let lt = parent_below p 0 e is in absurd (omega arith)
-from_parent p (suc n) e d other is =
-    ap (λ b. b || descends_in p n (parent_of p (suc n)) d) other ∙ ap (λ o. descends_in p n o d) is ∙ enough p n e (Some e) d (let lt = parent_below p (suc n) e is in omega arith) (omega arith)
+from_parent p (suc n) e d other is = ap (λ b. b || descends_in p n (parent_of p (suc n)) d) other ∙ ap (λ o. descends_in p n o d) is
+    ∙ enough p n e (Some e) d (let lt = parent_below p (suc n) e is in omega arith) (omega arith)
 
 pub from_none : (p : Image) (c d : ℕ) → (c == d) ≡ false → parent_of p c ≡ None → descends p c d ≡ false
 unfolding descends_in
@@ -131,8 +131,8 @@ no_parent p none c e is = go (class_at p c) refl is
     go : (o : Option ClassDecl) → class_at p c ≡ o → lower c (parent_in o) ≡ Some e → ⊥
     go None at is = cc
     go (Some d) at is =
-        let here : d.parent ≡ None =
-        subst (λ d. d.parent ≡ None) (get_or_from_slice_get p.classes c d d at) (All-get_or (λ d. d.parent ≡ None) p.classes c d (slice_get_within p.classes c d at) none) in
+        let here : d.parent ≡ None = subst (λ d. d.parent ≡ None) (get_or_from_slice_get p.classes c d d at)
+        (All-get_or (λ d. d.parent ≡ None) p.classes c d (slice_get_within p.classes c d at) none) in
         let empty : None ≡ Some e = sym (ap (lower c) here) ∙ is in cc
 
 -- where no class has a parent, a class descends from itself alone

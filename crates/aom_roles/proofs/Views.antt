@@ -28,7 +28,8 @@ pub role_past : (p : Image) (ms : List Method) (m i : ℕ) (r : Role) → ms ≡
 unfolding is_role role_in method_at
 role_past p ms m i r e f past = rw (← e, ← f, slice_get_past ms i past) refl
 
-pub kind_found : (p : Image) (cs : List ClassDecl) (c i : ℕ) (d : ClassDecl) → cs ≡ p.classes → i ≡ c → i < length cs → d ≡ slice_index_or cs i d → Some d.kind ≡ kind_at p c
+pub kind_found : (p : Image) (cs : List ClassDecl) (c i : ℕ) (d : ClassDecl) → cs ≡ p.classes → i ≡ c → i < length cs → d ≡ slice_index_or cs i d →
+    Some d.kind ≡ kind_at p c
 unfolding kind_in class_at
 kind_found p cs c i d e f lt at = rw (← e, ← f, slice_get_read cs (length cs) i d refl lt at) refl
 

@@ -6,11 +6,11 @@ use Rattle.aom_shape.specs.Needs.{Flow}
 use Rattle.aom_shape.specs.Shape.{Shape}
 
 -- what holds of each of these lists holds of the flows
-pub by_states :
-    (Q : List Flow → Type 0) (sh : Shape) (next there here to : ℕ) → Q [] →
+pub by_states : (Q : List Flow → Type 0) (sh : Shape) (next there here to : ℕ) → Q [] →
     ((s : ℕ) → Q ((next, record sh { states = s }) ∷ [])) → ((t : ℕ) → Q ((to, record sh { states = t }) ∷ [])) →
     ((s t : ℕ) → Q ((next, record sh { states = s }) ∷ (to, record sh { states = t }) ∷ [])) → Q (flow_narrowed sh next here ++ flow_narrowed sh to there)
-by_states Q sh next there here to none stays goes both = by (bit_and sh.states here) (bit_and sh.states there) (bit_and sh.states here == 0) (bit_and sh.states there == 0)
+by_states Q sh next there here to none stays goes both =
+    by (bit_and sh.states here) (bit_and sh.states there) (bit_and sh.states here == 0) (bit_and sh.states there == 0)
   where
     by : (s t : ℕ) (x y : Bool) → Q (cond x [] ((next, record sh { states = s }) ∷ []) ++ cond y [] ((to, record sh { states = t }) ∷ []))
     by s t true true = none

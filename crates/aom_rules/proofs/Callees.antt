@@ -20,7 +20,8 @@ unfolding method_at
 callee_there p m pc i formed e =
     let w = of_method p m pc i e in
     let method = all_there (MethodFits p.header.version (length p.classes) (length p.methods)) p.methods m w.0 formed.methods.each w.1 in
-    has_callee p (length w.0.code) i (all_there (InstrFits (limits p.header.version (length p.classes) (length p.methods) (length w.0.code))) w.0.code pc i method.code w.2)
+    has_callee p (length w.0.code) i
+    (all_there (InstrFits (limits p.header.version (length p.classes) (length p.methods) (length w.0.code))) w.0.code pc i method.code w.2)
 
 code_register : (l : Limits) (i : Instr) → InstrFits l i → HasCodeRegister i
 code_register l x fits = grind arith

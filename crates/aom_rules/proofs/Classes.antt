@@ -6,7 +6,8 @@ use Rattle.aom_image.specs.Views.{class_at}
 use Rattle.aom_image.specs.declared.class.ClassDecl.{ClassDecl}
 use Rattle.aom_roles.specs.Classes.{kind_at, kind_in}
 
-pub kind_found : (p : Image) (cs : List ClassDecl) (c i : ℕ) (d : ClassDecl) → cs ≡ p.classes → i ≡ c → i < length cs → d ≡ slice_index_or cs i d → Some d.kind ≡ kind_at p c
+pub kind_found : (p : Image) (cs : List ClassDecl) (c i : ℕ) (d : ClassDecl) → cs ≡ p.classes → i ≡ c → i < length cs → d ≡ slice_index_or cs i d →
+    Some d.kind ≡ kind_at p c
 unfolding kind_in class_at
 kind_found p cs c i d e f lt at = rw (← e, ← f, slice_get_read cs (length cs) i d refl lt at) refl
 

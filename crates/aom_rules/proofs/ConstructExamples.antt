@@ -31,18 +31,10 @@ use Rattle.aom_shape.specs.declared.why.Why.TheVariants.{FieldNotNull, NotFresh}
 image : Image
 image = record {
   header = record (a_header 4 0 0 None 100) { version = Two };
-  classes =
-      a_class Plain 0 0 (Object 3 ∷ [])
-      ∷ record (a_class Plain 0 0 (Object 3 ∷ [])) { parent = Some 0 }
-      ∷ record (a_class Plain 0 0 (Object 3 ∷ Object 3 ∷ [])) { parent = Some 1 }
-      ∷ a_class Plain 0 0 []
-      ∷ [];
-  methods =
-      a_method (Some 0) Construct 0 0 0 [] Nothing []
-      ∷ a_method (Some 2) Construct 0 0 0 [] Nothing []
-      ∷ a_method (Some 2) Do 0 0 0 [] Nothing []
-      ∷ a_method None Do 0 0 0 [] Nothing []
-      ∷ [];
+  classes = a_class Plain 0 0 (Object 3 ∷ []) ∷ record (a_class Plain 0 0 (Object 3 ∷ []))
+      { parent = Some 0 } ∷ record (a_class Plain 0 0 (Object 3 ∷ Object 3 ∷ [])) { parent = Some 1 } ∷ a_class Plain 0 0 [] ∷ [];
+  methods = a_method (Some 0) Construct 0 0 0 [] Nothing [] ∷ a_method (Some 2) Construct 0 0 0 [] Nothing [] ∷ a_method
+      (Some 2) Do 0 0 0 [] Nothing [] ∷ a_method None Do 0 0 0 [] Nothing [] ∷ [];
 }
 
 -- ---- on what is fresh

@@ -34,10 +34,7 @@ use Rattle.aom_shape.specs.declared.why.Why.TheVariants.{FieldsLeft, NotFresh, S
 
 -- class 1 has a field of class 0
 classes : List ClassDecl
-classes =
-    a_class Plain 0 0 []
-    ∷ a_class Plain 0 0 (Object 0 ∷ [])
-    ∷ []
+classes = a_class Plain 0 0 [] ∷ a_class Plain 0 0 (Object 0 ∷ []) ∷ []
 
 -- an image with one method
 with_method : Option ℕ → Role → ℕ → Gives → Image
@@ -104,13 +101,11 @@ called_by : (class : Option ℕ) (role : Role) (flags : ℕ) (arguments : List A
 called_by class role flags arguments gives caller caller_flags = record {
   header = a_header 4 0 0 None 100;
   classes = classes;
-  methods =
-      a_method class role flags 0 0 arguments gives []
-      ∷ a_method caller Do caller_flags 0 0 [] Nothing []
-      ∷ [];
+  methods = a_method class role flags 0 0 arguments gives [] ∷ a_method caller Do caller_flags 0 0 [] Nothing [] ∷ [];
 }
 
-call_on_an_argument : rule (called_by (Some 0) Do 0 (An_own_argument (Object 0) ∷ []) Nothing None 0) 1 0 (state (Own (Object 0) Ready) Unset Empty) (Call (Register 0) 0 0 1) ≡ Err RegisterKind
+call_on_an_argument : rule (called_by (Some 0) Do 0 (An_own_argument (Object 0) ∷ []) Nothing None 0) 1 0 (state (Own (Object 0) Ready) Unset Empty)
+    (Call (Register 0) 0 0 1) ≡ Err RegisterKind
 unfolding called_by state method_at arguments_in role_in class_in descends_in parent_in class_at classes
 call_on_an_argument = refl
 
@@ -130,7 +125,8 @@ call_on_a_fresh_object : rule (called_by (Some 0) Do 0 [] Nothing None 0) 1 0 (s
 unfolding called_by state method_at arguments_in role_in class_in descends_in parent_in class_at classes
 call_on_a_fresh_object = refl
 
-construct_of_a_ready_object : rule (called_by (Some 0) Construct 0 [] Nothing None 0) 1 0 (state (Own (Object 0) Ready) Unset Empty) (Call (Register 0) 0 1 1) ≡ Err NotFresh
+construct_of_a_ready_object : rule (called_by (Some 0) Construct 0 [] Nothing None 0) 1 0 (state (Own (Object 0) Ready) Unset Empty) (Call (Register 0) 0 1 1)
+    ≡ Err NotFresh
 unfolding called_by state method_at arguments_in role_in class_in descends_in parent_in class_at classes
 construct_of_a_ready_object = refl
 
@@ -143,7 +139,8 @@ argument_past_the_registers : rule (called_by None Do 0 (An_own_argument (Object
 unfolding called_by state method_at arguments_in role_in class_in descends_in parent_in class_at classes
 argument_past_the_registers = refl
 
-fresh_argument : rule (called_by None Do 0 (An_own_argument (Object 0) ∷ []) Nothing None 0) 1 0 (state (Own (Object 0) Fresh) Unset Empty) (Call This 0 0 1) ≡ Err StillFresh
+fresh_argument : rule (called_by None Do 0 (An_own_argument (Object 0) ∷ []) Nothing None 0) 1 0 (state (Own (Object 0) Fresh) Unset Empty) (Call This 0 0 1)
+    ≡ Err StillFresh
 unfolding called_by state method_at arguments_in role_in class_in descends_in parent_in class_at classes
 fresh_argument = refl
 
@@ -228,7 +225,8 @@ left_over_another_entry : rule (with_method None Do 1 (Left 0)) 0 0 (stacked Uns
 unfolding with_method stacked method_at gives_in descends_in parent_in class_at classes
 left_over_another_entry = refl
 
-call_on_a_fresh_entry : rule (called_by (Some 0) Do 0 [] Nothing None 0) 1 0 (stacked Unset Unset (Operation ∷ An_object 0 Fresh ∷ [])) (Call (On_entry 1) 0 0 0) ≡ Err StillFresh
+call_on_a_fresh_entry : rule (called_by (Some 0) Do 0 [] Nothing None 0) 1 0 (stacked Unset Unset (Operation ∷ An_object 0 Fresh ∷ []))
+    (Call (On_entry 1) 0 0 0) ≡ Err StillFresh
 unfolding called_by stacked method_at arguments_in role_in class_in descends_in parent_in class_at classes
 call_on_a_fresh_entry = refl
 
@@ -249,11 +247,13 @@ pushed : rule (with_method None Do 1 Nothing) 0 0 (stacked (Own (Object 1) Fresh
 unfolding with_method stacked method_at leaves_in descends_in parent_in class_at classes
 pushed = refl
 
-popped : rule (with_method None Do 1 Nothing) 0 0 (stacked Null Word (An_object 1 Ready ∷ Operation ∷ [])) (Pop 0) ≡ Ok ((1, stacked (Own (Object 1) Ready) Word (Operation ∷ [])) ∷ [])
+popped : rule (with_method None Do 1 Nothing) 0 0 (stacked Null Word (An_object 1 Ready ∷ Operation ∷ [])) (Pop 0)
+    ≡ Ok ((1, stacked (Own (Object 1) Ready) Word (Operation ∷ [])) ∷ [])
 unfolding with_method stacked descends_in parent_in class_at classes
 popped = refl
 
-left_to_the_caller : rule (called_by None Do 1 [] (Left 1) None 1) 1 0 (stacked Word Word (Operation ∷ [])) (Call This 0 0 0) ≡ Ok ((1, stacked Word Word (An_object 1 Ready ∷ Operation ∷ [])) ∷ [])
+left_to_the_caller : rule (called_by None Do 1 [] (Left 1) None 1) 1 0 (stacked Word Word (Operation ∷ [])) (Call This 0 0 0)
+    ≡ Ok ((1, stacked Word Word (An_object 1 Ready ∷ Operation ∷ [])) ∷ [])
 unfolding called_by stacked method_at arguments_in role_in class_in quiet_in gives_in leaves_in descends_in parent_in class_at classes
 left_to_the_caller = refl
 
@@ -267,6 +267,7 @@ unfolding called_by stacked method_at arguments_in role_in class_in quiet_in giv
     role_of keeper_in own_role plays role_number
 constructed_on_the_stack = refl
 
-trapped : rule (called_by None Do 1 [] (An_own (Object 0)) None 0) 1 0 (stacked Unset Null []) (Trap This 0 0 0) ≡ Ok ((1, stacked (Maybe (Object 0) Ready) Word []) ∷ [])
+trapped : rule (called_by None Do 1 [] (An_own (Object 0)) None 0) 1 0 (stacked Unset Null []) (Trap This 0 0 0)
+    ≡ Ok ((1, stacked (Maybe (Object 0) Ready) Word []) ∷ [])
 unfolding called_by stacked method_at arguments_in role_in class_in quiet_in gives_in descends_in parent_in class_at classes
 trapped = refl

@@ -31,13 +31,8 @@ use Rattle.aom_shape.specs.declared.why.Why.TheVariants.{RegisterKind, StillFres
 
 -- class 1 is the child of class 0, and class 2 that of class 1; class 3 has a field of class 0, and class 4 one of class 2
 classes : List ClassDecl
-classes =
-    a_class Plain 0 0 []
-    ∷ record (a_class Plain 0 0 []) { parent = Some 0 }
-    ∷ record (a_class Plain 0 0 []) { parent = Some 1 }
-    ∷ a_class Plain 0 0 (Object 0 ∷ [])
-    ∷ a_class Plain 0 0 (Object 2 ∷ [])
-    ∷ []
+classes = a_class Plain 0 0 [] ∷ record (a_class Plain 0 0 []) { parent = Some 0 } ∷ record (a_class Plain 0 0 []) { parent = Some 1 } ∷ a_class Plain 0 0
+    (Object 0 ∷ []) ∷ a_class Plain 0 0 (Object 2 ∷ []) ∷ []
 
 -- method 0 is of a class or of none, and method 1 calls it
 image : Option ℕ → List Argument → Gives → Option ℕ → Image
@@ -69,7 +64,8 @@ put_of_a_fresh_child = refl
 
 called_on_a_child :
     rule (image (Some 0) [] Nothing None) 1 0 (state (Own (Object 1) Ready) Empty) (Call (Register 0) 0 0 0) ≡ Ok ((1, state (Own (Object 1) Ready) Empty) ∷ [])
-unfolding image state classes method_at class_at arguments_in gives_in role_in class_in quiet_in leaves_in before_in after_in kind_of kind_in states_of descends_in
+unfolding image state classes method_at class_at arguments_in gives_in role_in class_in quiet_in leaves_in before_in after_in kind_of kind_in states_of
+    descends_in
     parent_in
 called_on_a_child = refl
 
@@ -81,8 +77,7 @@ called_on_self_by_a_parent : rule (image (Some 1) [] Nothing (Some 0)) 1 0 (stat
 unfolding image state classes method_at class_at arguments_in role_in class_in descends_in parent_in
 called_on_self_by_a_parent = refl
 
-argument_of_a_child :
-    rule (image None (An_own_argument (Object 0) ∷ []) Nothing None) 1 0 (state (Own (Object 1) Ready) Empty) (Call This 0 0 1)
+argument_of_a_child : rule (image None (An_own_argument (Object 0) ∷ []) Nothing None) 1 0 (state (Own (Object 1) Ready) Empty) (Call This 0 0 1)
     ≡ Ok ((1, state Null Empty) ∷ [])
 unfolding image state classes method_at class_at arguments_in gives_in role_in class_in quiet_in leaves_in after_in descends_in parent_in
 argument_of_a_child = refl

@@ -74,10 +74,12 @@ module _ {A : Type 0} (R : A → A → Type 0) (z : A) (xs ys : List A) (i : ℕ
       go false e = h j
 
 -- two states with other registers, or with other fields
-with_registers : (a b : Shape) (xs ys : List Kind) → SaysNoMore a b → ((j : ℕ) → Weaker (at Unset xs j) (at Unset ys j)) → SaysNoMore (record a { registers = xs }) (record b { registers = ys })
+with_registers : (a b : Shape) (xs ys : List Kind) → SaysNoMore a b → ((j : ℕ) → Weaker (at Unset xs j) (at Unset ys j)) →
+    SaysNoMore (record a { registers = xs }) (record b { registers = ys })
 with_registers a b xs ys h more = record { registers = more; fields = h.fields; entries = h.entries; states = h.states; delivery = h.delivery }
 
-with_fields : (a b : Shape) (xs ys : List Filling) → SaysNoMore a b → ((j : ℕ) → WeakerFilling (at Perhaps xs j) (at Perhaps ys j)) → SaysNoMore (record a { fields = xs }) (record b { fields = ys })
+with_fields : (a b : Shape) (xs ys : List Filling) → SaysNoMore a b → ((j : ℕ) → WeakerFilling (at Perhaps xs j) (at Perhaps ys j)) →
+    SaysNoMore (record a { fields = xs }) (record b { fields = ys })
 with_fields a b xs ys h more = record { registers = h.registers; fields = more; entries = h.entries; states = h.states; delivery = h.delivery }
 
 -- written alike
@@ -134,7 +136,8 @@ target_more : (p : Image) (class : Option ℕ) (k l : Kind) → Weaker k l → i
 target_more p x k l w h = grind (arith, nat_tests, own_more p)
 
 -- what is fresh is known to be owned, and of which class
-built_more : (p : Image) (m' : ℕ) (k l : Kind) → Weaker k l → (is_fresh_kind k && constructs_owned p m' k) ≡ true → (is_fresh_kind l && constructs_owned p m' l) ≡ true
+built_more : (p : Image) (m' : ℕ) (k l : Kind) → Weaker k l → (is_fresh_kind k && constructs_owned p m' k) ≡ true →
+    (is_fresh_kind l && constructs_owned p m' l) ≡ true
 built_more p m' k l alike h = h
 built_more p m' _ _ _ h = absurd (false≢true h)
 
@@ -144,8 +147,7 @@ age_more p m' x k l w h = grind (arith, nat_tests, built_more, ready_more)
 empty_by_more : (p : Image) (c : Option ℕ) (a b : Shape) → SaysNoMore a b → empty_by p c a.fields ≡ true → empty_by p c b.fields ≡ true
 empty_by_more p x a b h n = grind (arith, nat_tests, all_empty_more)
 
-called_on_more :
-    (p : Image) (m : ℕ) (a b : Shape) (target : Target) (m' : ℕ) (class : Option ℕ) (constructs : Bool) (first count : ℕ) → SaysNoMore a b →
+called_on_more : (p : Image) (m : ℕ) (a b : Shape) (target : Target) (m' : ℕ) (class : Option ℕ) (constructs : Bool) (first count : ℕ) → SaysNoMore a b →
     AllTrue (rule_target p m a target m' class constructs first count) → AllTrue (rule_target p m b target m' class constructs first count)
 called_on_more p m a b x m' class constructs first count h n = grind (arith, empty_by_more p, age_more p m' constructs)
 
@@ -153,7 +155,8 @@ called_on_more p m a b x m' class constructs first count h n = grind (arith, emp
 argument_more : (p : Image) (x : Argument) (k l : Kind) → Weaker k l → AllTrue (argument_needs p x k) → AllTrue (argument_needs p x l)
 argument_more p x k l w n = grind (arith, nat_tests, word_more, own_more, ready_more)
 
-arguments_more : (p : Image) (a b : Shape) (xs : List Argument) (first : ℕ) → SaysNoMore a b → AllTrue (each_argument p a xs first) → AllTrue (each_argument p b xs first)
+arguments_more : (p : Image) (a b : Shape) (xs : List Argument) (first : ℕ) → SaysNoMore a b → AllTrue (each_argument p a xs first) →
+    AllTrue (each_argument p b xs first)
 arguments_more p a b [] first h n = tt
 arguments_more p a b (x ∷ xs) first h n = grind (arith, argument_more p x, arguments_more p a b xs)
 
@@ -163,7 +166,8 @@ argument_moved_more (An_own_argument t) r a b h = register_more a b r Null Null 
 
 arguments_moved_more : (xs : List Argument) (first : ℕ) (a b : Shape) → SaysNoMore a b → SaysNoMore (arguments_moved xs first a) (arguments_moved xs first b)
 arguments_moved_more [] first a b h = h
-arguments_moved_more (x ∷ xs) first a b h = arguments_moved_more xs (suc first) (argument_moved x first a) (argument_moved x first b) (argument_moved_more x first a b h)
+arguments_moved_more (x ∷ xs) first a b h =
+    arguments_moved_more xs (suc first) (argument_moved x first a) (argument_moved x first b) (argument_moved_more x first a b h)
 
 -- and what is asked once they have moved
 awaits_more : (g : Gives) (k l : Kind) → Weaker k l → awaits g k ≡ true → awaits g l ≡ true
@@ -179,7 +183,8 @@ begins_more p m' x s t h n = grind (arith, nat_tests, has_along)
 here_more : (a b : Shape) → SaysNoMore a b → is_here a.delivery ≡ true → is_here b.delivery ≡ true
 here_more a b h n = ap is_here (sym h.delivery) ∙ n
 
-moved_needs_more : (p : Image) (m : ℕ) (a b : Shape) (target : Target) (m' c : ℕ) → SaysNoMore a b → AllTrue (rule_moved p m a target m' c) → AllTrue (rule_moved p m b target m' c)
+moved_needs_more : (p : Image) (m : ℕ) (a b : Shape) (target : Target) (m' c : ℕ) → SaysNoMore a b → AllTrue (rule_moved p m a target m' c) →
+    AllTrue (rule_moved p m b target m' c)
 moved_needs_more p m a b target m' c h n =
     let leave = n.1.1.1 in
     let unowned = only_if_more (leaves p m') (none_owns a.registers) (none_owns b.registers) (none_owns_more a.registers b.registers h.registers) leave.1.0 in
@@ -190,9 +195,10 @@ moved_needs_more p m a b target m' c h n =
     )
 
 -- what a call and a trap ask of their target and of their arguments
-entering_more : (p : Image) (m : ℕ) (a b : Shape) (target : Target) (m' first : ℕ) (x y : List Need) → SaysNoMore a b → (AllTrue x → AllTrue y)
-    → AllTrue (rule_target p m a target m' (method_class p m') (is_construct (method_role p m')) first (length (arguments_of p m')) ++ (rule_arguments p a (arguments_of p m') first ++ x))
-    → AllTrue (rule_target p m b target m' (method_class p m') (is_construct (method_role p m')) first (length (arguments_of p m')) ++ (rule_arguments p b (arguments_of p m') first ++ y))
+entering_more : (p : Image) (m : ℕ) (a b : Shape) (target : Target) (m' first : ℕ) (x y : List Need) → SaysNoMore a b →
+    (AllTrue x → AllTrue y) → AllTrue (rule_target p m a target m' (method_class p m') (is_construct (method_role p m')) first (length (arguments_of p m'))
+    ++ (rule_arguments p a (arguments_of p m') first ++ x)) → AllTrue (rule_target p m b target m' (method_class p m') (is_construct (method_role p m')) first
+    (length (arguments_of p m')) ++ (rule_arguments p b (arguments_of p m') first ++ y))
 entering_more p m a b target m' first x y h more n =
     grind (arith, all_true_rest, all_true_first, all_true_both, called_on_more p m a b target m', arguments_more p a b)
 
@@ -220,16 +226,20 @@ brought_more (Left x) c a b h = entry_more (An_object x Ready) (An_object x Read
 
 worked_more : (class : Option ℕ) (ended : ℕ) (a b : Shape) → SaysNoMore a b → SaysNoMore (worked_on class ended a) (worked_on class ended b)
 worked_more None ended a b h = h
-worked_more (Some c) ended a b h = record { registers = h.registers; fields = λ i. alike_filling; entries = h.entries; states = has_itself ended; delivery = h.delivery }
+worked_more (Some c) ended a b h =
+    record { registers = h.registers; fields = λ i. alike_filling; entries = h.entries; states = has_itself ended; delivery = h.delivery }
 
-called_more : (target : Target) (class : Option ℕ) (ended : ℕ) (a b : Shape) → SaysNoMore a b → SaysNoMore (while_called target class ended a) (while_called target class ended b)
+called_more : (target : Target) (class : Option ℕ) (ended : ℕ) (a b : Shape) → SaysNoMore a b →
+    SaysNoMore (while_called target class ended a) (while_called target class ended b)
 called_more This class ended a b h = worked_more class ended a b h
-called_more (Register r) class ended a b h = register_more a b r (readied (register a r)) (readied (register b r)) h (readied_more (register a r) (register b r) (h.registers r))
+called_more (Register r) class ended a b h =
+    register_more a b r (readied (register a r)) (readied (register b r)) h (readied_more (register a r) (register b r) (h.registers r))
 called_more (Field f) class ended a b h = h
 called_more (On_entry k) class ended a b h = search (arith, nat_tests)
 
 -- what a trap asks and leaves
-trapped_more : (p : Image) (m pc : ℕ) (x y a b : Shape) (target : Target) (m' c : ℕ) → SaysNoMore a b → AllTrue (rule_trapped p m pc x a target m' c) → AllTrue (rule_trapped p m pc y b target m' c)
+trapped_more : (p : Image) (m pc : ℕ) (x y a b : Shape) (target : Target) (m' c : ℕ) → SaysNoMore a b → AllTrue (rule_trapped p m pc x a target m' c) →
+    AllTrue (rule_trapped p m pc y b target m' c)
 trapped_more p m pc x y a b target m' c h n = (begins_more p m' target a.states b.states h.states n.0, grind (arith, nat_tests, awaits_more, unowning_more))
 
 trap_more : (p : Image) (m pc : ℕ) (a b : Shape) (target : Target) (m' first c : ℕ) →
@@ -336,10 +346,12 @@ module _ (p : Image) (m pc : ℕ) (a b : Shape) (h : SaysNoMore a b) where
 pub needs_more : (p : Image) (m pc : ℕ) (a b : Shape) (i : Instr) → SaysNoMore a b → AllTrue (rule_needs p m pc a i) → AllTrue (rule_needs p m pc b i)
 needs_more p m pc a b i h n = needs_in p m pc a b h i n
 
-same_jump : (p : Image) (m pc : ℕ) (a b : Shape) (r to : ℕ) → SaysNoMore a b → (k : Kind) → AllFollow (flow_jump_null p m pc a k r to) (flow_jump_null p m pc b k r to)
+same_jump : (p : Image) (m pc : ℕ) (a b : Shape) (r to : ℕ) → SaysNoMore a b → (k : Kind) →
+    AllFollow (flow_jump_null p m pc a k r to) (flow_jump_null p m pc b k r to)
 same_jump p m pc a b r to h Null = (inl (refl, h), tt)
 same_jump p m pc a b r to h (Own t x) = (inl (refl, h), tt)
-same_jump p m pc a b r to h (Maybe t x) = (inl (refl, register_more a b r (Own t x) (Own t x) h alike), (inr (inl (refl, register_more a b r Null Null h alike)), tt))
+same_jump p m pc a b r to h (Maybe t x) =
+    (inl (refl, register_more a b r (Own t x) (Own t x) h alike), (inr (inl (refl, register_more a b r Null Null h alike)), tt))
 same_jump p m pc a b r to h _ = tt
 
 jump_more : (p : Image) (m pc : ℕ) (a b : Shape) (r to : ℕ) → SaysNoMore a b →
@@ -350,7 +362,8 @@ jump_more p m pc a b r to h k l unset_null e n = absurd (false≢true n)
 jump_more p m pc a b r to h k l (maybe_null {t = t} {a = x}) e n = (inr (inl (refl, register_told a b r Null h (rw e alike))), tt)
 jump_more p m pc a b r to h k l (maybe_own {t = t} {a = x}) e n = (inl (refl, register_told a b r (Own t x) h (rw e alike)), tt)
 
-same_empty : (p : Image) (m pc : ℕ) (a b : Shape) (f to : ℕ) → SaysNoMore a b → (x : Filling) → AllFollow (flow_jump_empty p m pc a x f to) (flow_jump_empty p m pc b x f to)
+same_empty : (p : Image) (m pc : ℕ) (a b : Shape) (f to : ℕ) → SaysNoMore a b → (x : Filling) →
+    AllFollow (flow_jump_empty p m pc a x f to) (flow_jump_empty p m pc b x f to)
 same_empty p m pc a b f to h Perhaps = (inl (refl, field_more a b f Full Full h alike_filling), (inr (inl (refl, field_more a b f Empty Empty h alike_filling)), tt))
 same_empty p m pc a b f to h _ = (inl (refl, h), tt)
 
@@ -413,7 +426,8 @@ both_follow : (xs ys us vs : List Flow) → AllFollow xs us → AllFollow ys vs 
 both_follow xs ys [] vs h k = second_follow xs ys vs k
 both_follow xs ys (u ∷ us) vs h k = (follows_first xs ys u h.0, both_follow xs ys us vs h.1 k)
 
-branches_more : (a b : Shape) (next there here to : ℕ) → SaysNoMore a b → AllFollow (flow_narrowed a next here ++ flow_narrowed a to there) (flow_narrowed b next here ++ flow_narrowed b to there)
+branches_more : (a b : Shape) (next there here to : ℕ) → SaysNoMore a b →
+    AllFollow (flow_narrowed a next here ++ flow_narrowed a to there) (flow_narrowed b next here ++ flow_narrowed b to there)
 branches_more a b next there here to h = grind (arith, narrowed_more a b next here h, narrowed_more a b to there h)
 
 module _ (p : Image) (m pc : ℕ) (a b : Shape) (h : SaysNoMore a b) where
@@ -425,7 +439,8 @@ module _ (p : Image) (m pc : ℕ) (a b : Shape) (h : SaysNoMore a b) where
   after_more : (news : News) → Allows a (Goes_on news) → SaysNoMore (after p m pc a news) (after p m pc b news)
   after_more As_before n = h
   after_more (Holding r kind) n = register_more a b r kind kind h alike
-  after_more (Moved r s) n = register_more (set_register a s Null) (set_register b s Null) r (register a s) (register b s) (register_more a b s Null Null h alike) (h.registers s)
+  after_more (Moved r s) n =
+      register_more (set_register a s Null) (set_register b s Null) r (register a s) (register b s) (register_more a b s Null Null h alike) (h.registers s)
   after_more (Taken r f) n =
       let o = field_thing p (holder_of p m) f in
       register_more (set_field a f Empty) (set_field b f Empty) r
@@ -458,5 +473,6 @@ module _ (p : Image) (m pc : ℕ) (a b : Shape) (h : SaysNoMore a b) where
   ways_more : (ways : Ways) → Allows a ways → AllFollow (flowing p m pc a ways) (flowing p m pc b ways)
   ways_more x n = grind (arith, after_more, jump_more p m pc a b, empty_jump_more p m pc a b, branches_more a b)
 
-pub flows_more : (p : Image) (m pc : ℕ) (a b : Shape) (i : Instr) → SaysNoMore a b → AllTrue (rule_needs p m pc a i) → AllFollow (flows p m pc a i) (flows p m pc b i)
+pub flows_more : (p : Image) (m pc : ℕ) (a b : Shape) (i : Instr) → SaysNoMore a b → AllTrue (rule_needs p m pc a i) →
+    AllFollow (flows p m pc a i) (flows p m pc b i)
 flows_more p m pc a b i h n = ways_more p m pc a b h (ways_of p i) (allows p m pc a i n)

@@ -27,17 +27,11 @@ use Rattle.aom_shape.specs.declared.why.Why.TheVariants.{NotIdle, RegisterKind}
 
 -- a native serves class 0, a timer class 1, nothing class 2, and class 3 is plain
 classes : List ClassDecl
-classes =
-    a_class (Active (Native 0)) 10 0 []
-    ∷ a_class (Active Timer) 10 0 []
-    ∷ a_class (Active No_provider) 10 0 []
-    ∷ a_class Plain 0 0 []
-    ∷ []
+classes = a_class (Active (Native 0)) 10 0 [] ∷ a_class (Active Timer) 10 0 [] ∷ a_class (Active No_provider) 10 0 [] ∷ a_class Plain 0 0 [] ∷ []
 
 -- it may leave, and begin and end in those states
 method : (class before after : ℕ) → Method
-method class before after =
-    a_method (Some class) Do 1 before after [] Nothing []
+method class before after = a_method (Some class) Do 1 before after [] Nothing []
 
 -- its only method is of that class
 of_class : (class before after : ℕ) → Image
@@ -62,23 +56,16 @@ unfolding of_class method state classes method_at class_at class_in kind_of kind
 connect_says = (refl, refl, refl, refl, refl)
 
 -- `ask`: at a timer, of a plain object, of no function, with no word, and over an owner; it passes in any state of the object
-ask_says :
-    Says (of_class 1 11 11) (state Word Word 1) (Ask 0 0 1) (Err RegisterKind)
-    × Says (of_class 3 0 0) (state Word Word 0) (Ask 0 0 1) (Err RegisterKind)
-    × Says (of_class 0 11 11) (state Unset Word 1) (Ask 0 0 1) (Err RegisterKind)
-    × Says (of_class 0 11 11) (state Word Unset 1) (Ask 0 0 1) (Err RegisterKind)
+ask_says : Says (of_class 1 11 11) (state Word Word 1) (Ask 0 0 1) (Err RegisterKind) × Says (of_class 3 0 0) (state Word Word 0) (Ask 0 0 1) (Err RegisterKind)
+    × Says (of_class 0 11 11) (state Unset Word 1) (Ask 0 0 1) (Err RegisterKind) × Says (of_class 0 11 11) (state Word Unset 1) (Ask 0 0 1) (Err RegisterKind)
     × Says (of_class 0 11 11) (state (Own (Object 3) Ready) Word 1) (Ask 0 1 1) (Err RegisterKind)
     × Says (of_class 0 11 11) (state Unset Word 11) (Ask 0 1 1) (Ok ((1, state Word Word 11) ∷ []))
 unfolding of_class method state classes method_at class_at class_in kind_of kind_in descends_in
 ask_says = (refl, refl, refl, refl, refl, refl)
 
 -- `close`: at a timer, of a plain object, while it has issued, while it is active, and in a cancel; it passes once the object is idle
-close_says :
-    Says (of_class 1 11 11) (state Unset Unset 1) Close (Err RegisterKind)
-    × Says (of_class 3 0 0) (state Unset Unset 0) Close (Err RegisterKind)
-    × Says (of_class 0 11 11) (state Unset Unset 6) Close (Err NotIdle)
-    × Says (of_class 0 11 11) (state Unset Unset 11) Close (Err NotIdle)
-    × Says (of_class 0 11 11) (state Unset Unset 32) Close (Err NotIdle)
-    × Says (of_class 0 11 11) (state Unset Unset 3) Close (Ok ((1, state Unset Unset 3) ∷ []))
+close_says : Says (of_class 1 11 11) (state Unset Unset 1) Close (Err RegisterKind) × Says (of_class 3 0 0) (state Unset Unset 0) Close (Err RegisterKind)
+    × Says (of_class 0 11 11) (state Unset Unset 6) Close (Err NotIdle) × Says (of_class 0 11 11) (state Unset Unset 11) Close (Err NotIdle) × Says
+    (of_class 0 11 11) (state Unset Unset 32) Close (Err NotIdle) × Says (of_class 0 11 11) (state Unset Unset 3) Close (Ok ((1, state Unset Unset 3) ∷ []))
 unfolding of_class method state classes method_at class_at class_in kind_of kind_in descends_in
 close_says = (refl, refl, refl, refl, refl, refl)

@@ -33,16 +33,10 @@ use Rattle.aom_shape.specs.declared.why.Why.TheVariants.{EntryState, NotAdded, N
 
 -- class 0 is active, class 1 that of sessions, class 2 plain, class 3 that of a server
 classes : List ClassDecl
-classes =
-    a_class (Active providers.Own) 10 0 []
-    ∷ a_class Session 0 0 []
-    ∷ a_class Plain 0 0 []
-    ∷ a_class (Server 4 1) 10 0 []
-    ∷ []
+classes = a_class (Active providers.Own) 10 0 [] ∷ a_class Session 0 0 [] ∷ a_class Plain 0 0 [] ∷ a_class (Server 4 1) 10 0 [] ∷ []
 
 method : (role : Role) (class : Option ℕ) (flags before after : ℕ) → Method
-method role class flags before after =
-    a_method class role flags before after [] Nothing []
+method role class flags before after = a_method class role flags before after [] Nothing []
 
 -- method 0 runs, and may call method 1
 running : Method → Method → Image
@@ -114,7 +108,8 @@ call_on_self_in_another_state : rule (running (active_do 11 11) (active_do 2 2))
 unfolding running active_do method state method_at arguments_in role_in class_in before_in descends_in
 call_on_self_in_another_state = refl
 
-call_on_an_object_in_any_state : rule (running (active_do 11 11) (active_do 2 2)) 0 0 (state (Own (Object 0) Ready) 3 Here) (Call (Register 0) 1 1 1) ≡ Err EntryState
+call_on_an_object_in_any_state : rule (running (active_do 11 11) (active_do 2 2)) 0 0 (state (Own (Object 0) Ready) 3 Here) (Call (Register 0) 1 1 1)
+    ≡ Err EntryState
 unfolding running active_do method state classes method_at class_at arguments_in role_in class_in before_in kind_of kind_in states_of descends_in
 call_on_an_object_in_any_state = refl
 
@@ -123,13 +118,15 @@ unfolding running active_do method state method_at arguments_in quiet_in role_in
 trap_on_self_in_another_state = refl
 
 -- the object is in a state in which the method ends, and after a trap in any in which nothing works on it
-called_on_self : rule (running (active_do 11 11) (active_do 3 2)) 0 0 (state Unset 3 Here) (Call This 1 0 0) ≡ Ok ((1, record (state Unset 2 Here) { fields = replicate 8 Perhaps }) ∷ [])
+called_on_self : rule (running (active_do 11 11) (active_do 3 2)) 0 0 (state Unset 3 Here) (Call This 1 0 0)
+    ≡ Ok ((1, record (state Unset 2 Here) { fields = replicate 8 Perhaps }) ∷ [])
 unfolding running active_do method state method_at arguments_in gives_in role_in class_in quiet_in leaves_in before_in after_in descends_in
 called_on_self = refl
 
 trapped_on_self : rule (running (active_do 11 11) (active_do 3 2)) 0 0
     (state Unset 3 Here) (Trap This 1 0 0) ≡ Ok ((1, record (state Unset 11 Here) { registers = Unset ∷ Word ∷ []; fields = replicate 8 Perhaps }) ∷ [])
-unfolding running active_do method state classes method_at class_at arguments_in gives_in role_in class_in quiet_in before_in kind_of kind_in states_of descends_in
+unfolding running active_do method state classes method_at class_at arguments_in gives_in role_in class_in quiet_in before_in kind_of kind_in states_of
+    descends_in
 trapped_on_self = refl
 
 -- another object is constructed in its first state
@@ -224,15 +221,18 @@ unfolding alone running active_do method state classes method_at class_at class_
 cancelled_by_a_server = refl
 
 -- what was active is idle, and nothing is known of the fields
-cancelled_in_any_state : rule (alone (active_do 11 11)) 0 0 (record (state Unset 11 Here) { fields = Empty ∷ [] }) Cancels ≡ Ok ((1, record (state Unset 3 Here) { fields = replicate 8 Perhaps }) ∷ [])
+cancelled_in_any_state : rule (alone (active_do 11 11)) 0 0 (record (state Unset 11 Here) { fields = Empty ∷ [] }) Cancels
+    ≡ Ok ((1, record (state Unset 3 Here) { fields = replicate 8 Perhaps }) ∷ [])
 unfolding alone running active_do method state classes method_at class_at class_in kind_of kind_in descends_in
 cancelled_in_any_state = refl
 
-cancelled_of_an_active : rule (alone (active_do 11 11)) 0 0 (state Unset 8 Here) Cancels ≡ Ok ((1, record (state Unset 2 Here) { fields = replicate 8 Perhaps }) ∷ [])
+cancelled_of_an_active : rule (alone (active_do 11 11)) 0 0 (state Unset 8 Here) Cancels
+    ≡ Ok ((1, record (state Unset 2 Here) { fields = replicate 8 Perhaps }) ∷ [])
 unfolding alone running active_do method state classes method_at class_at class_in kind_of kind_in descends_in
 cancelled_of_an_active = refl
 
-cancelled_of_an_unlisted : rule (alone (active_do 11 11)) 0 0 (state Unset 1 Here) Cancels ≡ Ok ((1, record (state Unset 1 Here) { fields = replicate 8 Perhaps }) ∷ [])
+cancelled_of_an_unlisted : rule (alone (active_do 11 11)) 0 0 (state Unset 1 Here) Cancels
+    ≡ Ok ((1, record (state Unset 1 Here) { fields = replicate 8 Perhaps }) ∷ [])
 unfolding alone running active_do method state classes method_at class_at class_in kind_of kind_in descends_in
 cancelled_of_an_unlisted = refl
 

@@ -69,7 +69,8 @@ filled_more (Some t) x y perhaps_full = maybe_own
 filled_more _ x y _ = alike
 
 pub filling_more : (a b : Kind) → Weaker a b → WeakerFilling (filling_of a) (filling_of b)
-filling_more = by_weaker (λ a b. WeakerFilling (filling_of a) (filling_of b)) (λ k. alike_filling) alike_filling perhaps_empty (λ t x. perhaps_empty) (λ t x. perhaps_full)
+filling_more = by_weaker (λ a b. WeakerFilling (filling_of a) (filling_of b)) (λ k. alike_filling) alike_filling perhaps_empty
+    (λ t x. perhaps_empty) (λ t x. perhaps_full)
 
 pub fresh_more : (a b : Kind) → Weaker a b → is_fresh_kind a ≡ true → is_fresh_kind b ≡ true
 fresh_more a b x h = grind arith
@@ -100,11 +101,13 @@ empty_from [] xs h = refl
 empty_from (t ∷ ts) [] h = h 0 (omega arith)
 empty_from (t ∷ ts) (x ∷ xs) h = rw (h 0 (omega arith), empty_from ts xs (λ k below. h (suc k) (omega arith)))
 
-pub all_empty_more : (ts : List Thing) (xs ys : List Filling) → ((i : ℕ) → WeakerFilling (at Perhaps xs i) (at Perhaps ys i)) → all_empty ts xs ≡ true → all_empty ts ys ≡ true
+pub all_empty_more : (ts : List Thing) (xs ys : List Filling) → ((i : ℕ) → WeakerFilling (at Perhaps xs i) (at Perhaps ys i)) →
+    all_empty ts xs ≡ true → all_empty ts ys ≡ true
 all_empty_more ts xs ys w h = empty_from ts ys (λ k below. empty_more (at Perhaps xs k) (at Perhaps ys k) (w k) (empty_at ts xs h k below))
 
 -- also those past so many
-pub past_empty_more : (k : ℕ) (ts : List Thing) (xs ys : List Filling) → ((i : ℕ) → WeakerFilling (at Perhaps xs i) (at Perhaps ys i)) → empty_past k ts xs ≡ true → empty_past k ts ys ≡ true
+pub past_empty_more : (k : ℕ) (ts : List Thing) (xs ys : List Filling) → ((i : ℕ) → WeakerFilling (at Perhaps xs i) (at Perhaps ys i)) →
+    empty_past k ts xs ≡ true → empty_past k ts ys ≡ true
 past_empty_more zero ts xs ys w h = all_empty_more ts xs ys w h
 past_empty_more (suc k) [] xs ys w h = refl
 past_empty_more (suc k) (t ∷ ts) [] [] w h = h

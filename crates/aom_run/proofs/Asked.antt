@@ -71,7 +71,8 @@ module _ {L : Type 0} (kept : L → List ℕ) (p : Image) (s : State)
       (suc (one_where (owes p s.cells k m))) (one_where (owes p s.cells k m)) ≡ one_where ((taken && is_for n x k m) || owes p s.cells k m)
   begun n x k m taken finds = grind (arith, nat_tests, for_one n x k m)
 
-  ended : (n x k m : ℕ) → cond (is_for n x k m) (pred (one_where (owes p s.cells k m))) (one_where (owes p s.cells k m)) ≡ one_where (not (is_for n x k m) && owes p s.cells k m)
+  ended : (n x k m : ℕ) → cond (is_for n x k m) (pred (one_where (owes p s.cells k m))) (one_where (owes p s.cells k m))
+      ≡ one_where (not (is_for n x k m) && owes p s.cells k m)
   ended n x k m = grind (arith, nat_tests)
 
   counted_after : (asked : Option Wanted) (answer : ℤ) → FindsWell p s asked →

@@ -39,8 +39,7 @@ module _ {X : Type 0} {B : X → Type 0} where
         let w = so_far s stands in
         let x = one no_turn w.0 w.3 in
         let t = x.3 in
-        let on : (outside : Environment) → s.rest.dispatches < outside.limit → Reaches old.core.image outside s [] t.state =
-        λ outside below.
+        let on : (outside : Environment) → s.rest.dispatches < outside.limit → Reaches old.core.image outside s [] t.state = λ outside below.
         let still : w.0.rest.dispatches < outside.limit = subst (λ r. r < outside.limit) (sym (ap (λ r. r.dispatches) w.2)) below in
         turns_by old.core.image outside s [] w.0 t.state (Completes x.0.object) (w.1 outside below) t.between
         (completes_so outside w.0 still x.0 x.1 x.2) tt (subst (λ q. turned q w.0 (Completes x.0.object) ≡ Goes t.state) image t.goes) in
@@ -108,7 +107,8 @@ module _ {X : Type 0} {B : X → Type 0} where
     come_within m come = event_there events m.core.parts.rest.delivered come.0 come.1
 
     -- what the machine tells of events is so of each state that it stands for
-    pub none_now : (refused : List ℕ) (limit : ℕ) (m : Machine X B) → NoneHasCome events m → (s : State) → StandsFor m s → NoneCome (hearing refused limit (natives_of m) events) s
+    pub none_now : (refused : List ℕ) (limit : ℕ) (m : Machine X B) → NoneHasCome events m → (s : State) → StandsFor m s →
+        NoneCome (hearing refused limit (natives_of m) events) s
     none_now refused limit m none s stands e is = grind (arith, nat_tests)
 
     pub none_settles : (m : Machine X B) → Settles events m m
@@ -118,7 +118,8 @@ module _ {X : Type 0} {B : X → Type 0} where
     completed_settles old new completed s stands = grind (arith, nat_tests)
 
     -- a poll delivers nothing, and takes no time
-    pub kept_come : (old m : Machine X B) → m.core.parts.rest ≡ record old.core.parts.rest { polled = m.core.parts.rest.polled } → NoneHasCome events old → NoneHasCome events m
+    pub kept_come : (old m : Machine X B) → m.core.parts.rest ≡ record old.core.parts.rest { polled = m.core.parts.rest.polled } →
+        NoneHasCome events old → NoneHasCome events m
     kept_come old m rest none e is = grind (arith, nat_tests)
 
     -- one after the other
@@ -168,7 +169,8 @@ module _ {X : Type 0} {B : X → Type 0} where
       unfolding part name
       taken s stands = (takes (hearing [] 0 (natives_of m) events) refl s stands).2
 
-      same_after : (s : State) (stands : StandsFor m s) → ((taken s stands).state.tasks ≡ s.tasks) × ((taken s stands).state.rest ≡ record s.rest { delivered = suc s.rest.delivered })
+      same_after : (s : State) (stands : StandsFor m s) →
+          ((taken s stands).state.tasks ≡ s.tasks) × ((taken s stands).state.rest ≡ record s.rest { delivered = suc s.rest.delivered })
       unfolding part
       same_after s stands = grind arith
 
@@ -185,8 +187,8 @@ module _ {X : Type 0} {B : X → Type 0} where
           let next = delivers_so outside s below (none s stands.stands) come.0 is at in
           let same = delivers_alike outside (hearing [] 0 (natives_of m) events) refl (name s stands) s come.0.event in
           let goes = ap (turned m.core.image s) same ∙ (taken s stands).goes in
-          subst (λ x. Reaches m.core.image outside s (written_by m.core.image s x) (taken s stands).state) same
-          (delivers_by m.core.image outside s [] s (taken s stands).state come.0.event (name s stands) begins (taken s stands).between next (free s stands) goes)
+          subst (λ x. Reaches m.core.image outside s (written_by m.core.image s x) (taken s stands).state) same (delivers_by m.core.image outside s [] s
+          (taken s stands).state come.0.event (name s stands) begins (taken s stands).between next (free s stands) goes)
 
       within : m.core.parts.rest.delivered < length events
       within = come_within m come
@@ -239,21 +241,23 @@ module _ {X : Type 0} {B : X → Type 0} where
           let t = x.7 no_turn in
           let same = polled_same m.core.image s t.state x.0 x.2 t.goes in
           let late = ap (λ r. r.delivered) same.1 in
-          let still : (refused : List ℕ) (limit : ℕ) → s.rest.dispatches < limit → Reaches m.core.image (hearing refused limit (natives_of m) events) s [] t.state =
-          λ refused limit below.
+          let still : (refused : List ℕ) (limit : ℕ) → s.rest.dispatches < limit →
+          Reaches m.core.image (hearing refused limit (natives_of m) events) s [] t.state = λ refused limit below.
           let outside = hearing refused limit (natives_of m) events in
           polls_by m.core.image outside s s t.state x.0 x.2 begins t.between
           (λ heard. polls_so outside s below (none s stands.stands) (none_now refused limit m none_come s stands) heard x.0 x.3) x.6 t.goes in
           (t.state, still, ap (λ r. r.dispatches) same.1, omega (arith, late), t.stands)
 
-    pub less_to_come : (old m new : Machine X B) → (m ≡ old) ⊎ (to_come events m < to_come events old) → to_come events new < to_come events m → to_come events new < to_come events old
+    pub less_to_come : (old m new : Machine X B) → (m ≡ old) ⊎ (to_come events m < to_come events old) → to_come events new < to_come events m →
+        to_come events new < to_come events old
     less_to_come old m new x fewer = grind arith
 
     pub at_most_to_come : (old m : Machine X B) → (m ≡ old) ⊎ (to_come events m < to_come events old) → to_come events m ≤ to_come events old
     at_most_to_come old m x = grind arith
 
     -- what had come was heard
-    pub had_come : (old m : Machine X B) → (m ≡ old) ⊎ (to_come events m < to_come events old) → NoneHasCome events m → HasCome events old → to_come events m < to_come events old
+    pub had_come : (old m : Machine X B) → (m ≡ old) ⊎ (to_come events m < to_come events old) → NoneHasCome events m → HasCome events old →
+        to_come events m < to_come events old
     had_come old m x none come = grind arith
 
     -- after both less is waited for

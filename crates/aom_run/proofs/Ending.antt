@@ -43,13 +43,16 @@ module _ {X : Type 0} {B : X → Type 0} (old : Machine X B) (s : State) (st : S
   is_dead_so n inside dead = grind (arith, nat_tests)
 
   -- the first that lives, from the first that is not polled on
-  pub from_polled : (n : ℕ) → n ≡ old.core.parts.rest.polled → first_living s.killed (natives_of old - s.rest.polled) s.rest.polled ≡ first_living s.killed (natives_of old - n) n
+  pub from_polled : (n : ℕ) → n ≡ old.core.parts.rest.polled →
+      first_living s.killed (natives_of old - s.rest.polled) s.rest.polled ≡ first_living s.killed (natives_of old - n) n
   from_polled n e = ap (λ k. first_living s.killed (natives_of old - k) k) (sym (e ∙ ap (λ (r : Counters). r.polled) st.stands.agrees.rest))
 
-  pub kills_it : (outside : Environment) → outside.natives ≡ natives_of old → (name n : ℕ) → IsSome (living_at old.natives.slots.items n) → delivers outside name s (Kill n) ≡ Kills n
+  pub kills_it : (outside : Environment) → outside.natives ≡ natives_of old → (name n : ℕ) → IsSome (living_at old.natives.slots.items n) →
+      delivers outside name s (Kill n) ≡ Kills n
   kills_it outside same name n alive = ap (λ b. cond b (Kills n) Hears) (lives_is outside same n ∙ alive)
 
-  pub kills_none : (outside : Environment) → outside.natives ≡ natives_of old → (name n : ℕ) → is_some (living_at old.natives.slots.items n) ≡ false → delivers outside name s (Kill n) ≡ Hears
+  pub kills_none : (outside : Environment) → outside.natives ≡ natives_of old → (name n : ℕ) → is_some (living_at old.natives.slots.items n) ≡ false →
+      delivers outside name s (Kill n) ≡ Hears
   kills_none outside same name n dead = ap (λ b. cond b (Kills n) Hears) (lives_is outside same n ∙ dead)
 
 -- a native that does not live is killed no more
@@ -67,12 +70,13 @@ pub kills_one : {X : Type 0} {B : X → Type 0} (old new : Machine X B) (image :
     (before now : LineBuffer) → ((s : State) (st : StandsFor old s) → Core_takes old.core s (Kills n) before now new.core) → Delivered old (Kill n) before now new
 kills_one old new image n alive dead others before now all outside same s st =
     let core = all s st in
-    with_any_name s (λ name. Takes old s (delivers outside name s (Kill n)) before now new) (λ name.
-    subst (λ part. Takes old s part before now new) (sym (kills_it old s st outside same name n alive))
-    (takes_so old new s st _ others.count image _ now core (serves_killed (λ l. l.ids) _ _ _ s _ n st.serves (tale_of old new s st _ tt tt _ now core) dead others)))
+    with_any_name s (λ name. Takes old s (delivers outside name s (Kill n)) before now new)
+    (λ name. subst (λ part. Takes old s part before now new) (sym (kills_it old s st outside same name n alive)) (takes_so old new s st _ others.count image _
+    now core (serves_killed (λ l. l.ids) _ _ _ s _ n st.serves (tale_of old new s st _ tt tt _ now core) dead others)))
 
 -- with one line
-pub line_more : (old new : Core) (s : State) (n : ℕ) (before now : LineBuffer) → Core_takes old s (Kills n) before now new → length now.lines ≤ length before.lines + 1
+pub line_more : (old new : Core) (s : State) (n : ℕ) (before now : LineBuffer) → Core_takes old s (Kills n) before now new →
+    length now.lines ≤ length before.lines + 1
 line_more old new s n before now core = grind (arith, nat_tests, length-append before.lines (Killed n ∷ []))
 
 -- ---- the native that is polled
@@ -102,9 +106,8 @@ module _ {X : Type 0} {B : X → Type 0} (old : Machine X B) (s : State) (st : S
       let here = there ids id in
       one_there (owes old.core.image s.cells n id) (omega (arith, is, has, here))
 
-  pub polled_none : (new : Machine X B) (image : new.core.image ≡ old.core.image) (n : ℕ) →
-      KeptSame (λ l. l.ids) old.natives.slots.items new.natives.slots.items →
-      (now : LineBuffer) → Core_takes old.core s (Polls n None) now now new.core → Takes old s (Polls n None) now now new
+  pub polled_none : (new : Machine X B) (image : new.core.image ≡ old.core.image) (n : ℕ) → KeptSame (λ l. l.ids) old.natives.slots.items
+      new.natives.slots.items → (now : LineBuffer) → Core_takes old.core s (Polls n None) now now new.core → Takes old s (Polls n None) now now new
   polled_none new image n same now core = search (arith, nat_tests, takes_plainly old new s st (Polls n None))
 
   pub polled_some : (new : Machine X B) (image : new.core.image ≡ old.core.image) (n id : ℕ) (code : ℤ) (a : Completion) →
@@ -127,10 +130,11 @@ owed_in old s st n x ids same = grind (arith, nat_tests, handed_over)
 -- so the poll is one of the checked machine's
 pub polled_so : {X : Type 0} {B : X → Type 0} (old new : Machine X B) (image : new.core.image ≡ old.core.image) (n : ℕ) (completion : Option (ℕ × ℤ)) →
     MatchOption completion (ids_at (λ l. l.ids) new.natives.slots.items n ≡ ids_at (λ l. l.ids) old.natives.slots.items n)
-    (λ x. TakesOut x.0 (ids_at (λ l. l.ids) old.natives.slots.items n) (ids_at (λ l. l.ids) new.natives.slots.items n)) →
-    IsSome (living_at old.natives.slots.items n) → IsSome (living_at new.natives.slots.items n) → KeepsOthers old.natives.slots.items new.natives.slots.items n →
+    (λ x. TakesOut x.0 (ids_at (λ l. l.ids) old.natives.slots.items n) (ids_at (λ l. l.ids) new.natives.slots.items n)) → IsSome
+    (living_at old.natives.slots.items n) → IsSome (living_at new.natives.slots.items n) → KeepsOthers old.natives.slots.items new.natives.slots.items n →
     (s : State) → StandsFor old s → (answer : Option Completion) → Answers s.cells completion answer → AnswersWell old.core.image s (Polls n answer) →
     (now : LineBuffer) → Core_takes old.core s (Polls n answer) now now new.core → Takes old s (Polls n answer) now now new
 polled_so old new image n None same before after others s st None is well now core = grind arith
-polled_so old new image n (Some x) out before after others s st (Some a) is well now core = polled_some old s st new image n x.0 x.1 a out before after others is well now core
+polled_so old new image n (Some x) out before after others s st (Some a) is well now core =
+    polled_some old s st new image n x.0 x.1 a out before after others is well now core
 polled_so old new image n _ out before after others s st _ is well now core = absurd is

@@ -18,7 +18,8 @@ module _ {X : Type 0} {B : X → Type 0} where
   pub keeps_all : (m : Machine X B) → Stands m → progress m.core ≡ Turned → Keeps m m
   keeps_all m stands between = record { stands = stands; between = between; image = refl; natives = refl }
 
-  pub keeps_on : {old m new : Machine X B} → Keeps old m → Stands new → progress new.core ≡ Turned → new.core.image ≡ m.core.image → natives_of new ≡ natives_of m → Keeps old new
+  pub keeps_on : {old m new : Machine X B} → Keeps old m → Stands new → progress new.core ≡ Turned → new.core.image ≡ m.core.image →
+      natives_of new ≡ natives_of m → Keeps old new
   keeps_on was stands between image natives = search (arith, nat_tests)
 
   pub keeps_both : {old m new : Machine X B} → Keeps old m → Keeps m new → Keeps old new

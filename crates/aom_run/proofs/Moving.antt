@@ -54,7 +54,8 @@ module _ (p : Image) (t : Typing) (sound : Sound p t) where
       go (Goes u) e kept = (moves_follow_calls p t choice s u w unused holds e).finds
       go (IsStuck kind) e kept = absurd kept
 
-  follows : (c : Choice) (s u : State) (refused : List ℕ) → WellTyped p t s → SessionsHold p s → IsOpen p refused c s → step p c s ≡ Goes u → Went p t s (wanted p s) c.answer u
+  follows : (c : Choice) (s u : State) (refused : List ℕ) → WellTyped p t s → SessionsHold p s → IsOpen p refused c s → step p c s ≡ Goes u →
+      Went p t s (wanted p s) c.answer u
   follows c s u refused w holds opened e =
       let call = moves_follow_calls p t c s u w opened.name holds e in
       record { typed = moved_well c s u w opened.name e; owes = call.owes; killed = call.killed; sessions = call.sessions }
@@ -64,7 +65,8 @@ module _ (p : Image) (t : Typing) (sound : Sound p t) where
 
   -- one after another, of which the second asks nothing
   along : (s v u : State) (asked : Option Wanted) (answer other : ℤ) → Went p t s asked answer v → Went p t v None other u → Went p t s asked answer u
-  along s v u asked answer other one two = record { typed = two.typed; owes = λ n m. two.owes n m ∙ one.owes n m; killed = two.killed ∙ one.killed; sessions = two.sessions }
+  along s v u asked answer other one two =
+      record { typed = two.typed; owes = λ n m. two.owes n m ∙ one.owes n m; killed = two.killed ∙ one.killed; sessions = two.sessions }
 
   heard_so : (s : State) (heard : ℤ) (c : Choice) (u : State) → Hears p s heard c → Went p t s (wanted p s) c.answer u → Went p t s (wanted p s) heard u
   heard_so s heard c u (inl same) went = subst (λ a. Went p t s (wanted p s) a u) same went
@@ -73,7 +75,8 @@ module _ (p : Image) (t : Typing) (sound : Sound p t) where
       any_answer : Went p t s None c.answer u → Went p t s None heard u
       any_answer w = record { typed = w.typed; owes = w.owes; killed = w.killed; sessions = w.sessions }
 
-  settled_so : (refused : List ℕ) (u v : State) (lines : List Line) (answer : ℤ) → WellTyped p t u → SessionsHold p u → Settles p refused u lines v → Went p t u None answer v
+  settled_so : (refused : List ℕ) (u v : State) (lines : List Line) (answer : ℤ) → WellTyped p t u → SessionsHold p u → Settles p refused u lines v →
+      Went p t u None answer v
   settled_so refused u v lines answer w holds (steps.settled end) = stays u answer w holds
   settled_so refused u v lines answer w holds (steps.settles {u = x} c uncounted going opened e rest) =
       let one = subst (λ a. Went p t u a c.answer x) (uncounted_asks_none p u u.tasks uncounted) (follows c u x refused w holds opened e) in
@@ -81,7 +84,8 @@ module _ (p : Image) (t : Typing) (sound : Sound p t) where
       record { typed = two.typed; owes = λ n m. two.owes n m ∙ one.owes n m; killed = two.killed ∙ one.killed; sessions = two.sessions }
 
   -- a step
-  pub stepped_so : (refused : List ℕ) (heard : ℤ) (s u : State) (lines : List Line) → WellTyped p t s → SessionsHold p s → Steps p refused heard s lines u → Went p t s (asked_of p s) heard u
+  pub stepped_so : (refused : List ℕ) (heard : ℤ) (s u : State) (lines : List Line) → WellTyped p t s → SessionsHold p s → Steps p refused heard s lines u →
+      Went p t s (asked_of p s) heard u
   stepped_so refused heard s u lines w holds (steps.rests done) = grind (arith, nat_tests, at_rest, stays)
   stepped_so refused heard s u lines w holds (steps.moves {u = x} c hand opened hears e rest) =
       let one = heard_so s heard c x hears (follows c s x refused w holds opened e) in
@@ -97,7 +101,8 @@ module _ (p : Image) (t : Typing) (sound : Sound p t) where
   quietly refused heard s v u lines w holds (inr so) next =
       grind (arith, nat_tests, at_hand p v so.1, stepped_so refused heard v u lines so.2.typed so.2.sessions next, along s v u)
 
-  so_far : (refused : List ℕ) (heard : ℤ) (s : State) (ls : List Line) (v : State) → WellTyped p t s → SessionsHold p s → Quiet p refused heard s ls v → SoFar s v heard
+  so_far : (refused : List ℕ) (heard : ℤ) (s : State) (ls : List Line) (v : State) → WellTyped p t s → SessionsHold p s →
+      Quiet p refused heard s ls v → SoFar s v heard
   so_far refused heard s _ v w holds steps.begins = inl refl
   so_far refused heard s _ v w holds (steps.goes_on {v = x} {before = ls} {lines = ks} before next hand none) =
       inr (none, hand, quietly refused heard s x v ks w holds (so_far refused heard s ls x w holds before) next)

@@ -28,7 +28,8 @@ pub delivered_same : (p : Image) (outside : Environment) (name : ℕ) (s u : Sta
 delivered_same p outside name s u x goes = grind (arith, nat_tests, goes_same, commanded_kept p)
 
 -- by the number of natives alone
-pub delivers_alike : (one other : Environment) → one.natives ≡ other.natives → (name : ℕ) (s : State) (event : Event) → delivers one name s event ≡ delivers other name s event
+pub delivers_alike : (one other : Environment) → one.natives ≡ other.natives → (name : ℕ) (s : State) (event : Event) →
+    delivers one name s event ≡ delivers other name s event
 delivers_alike one other same name s x = grind arith
 
 -- no answer is heard by that, and one line is written at most
@@ -37,11 +38,13 @@ pub delivers_well : (p : Image) (outside : Environment) (name : ℕ) (s : State)
 delivers_well p outside name s x = grind arith
 
 -- the line is not by the name
-lines_alike : (p : Image) (outside : Environment) (one other : ℕ) (s : State) (event : Event) → written_by p s (delivers outside one s event) ≡ written_by p s (delivers outside other s event)
+lines_alike : (p : Image) (outside : Environment) (one other : ℕ) (s : State) (event : Event) →
+    written_by p s (delivers outside one s event) ≡ written_by p s (delivers outside other s event)
 lines_alike p outside one other s x = grind (arith, nat_tests)
 
 -- a native is polled
-pub polled_same : (p : Image) (s u : State) (n : ℕ) (answer : Option Completion) → turned p s (Polls n answer) ≡ Goes u → (u.tasks ≡ s.tasks) × (u.rest ≡ record s.rest { polled = suc n })
+pub polled_same : (p : Image) (s u : State) (n : ℕ) (answer : Option Completion) → turned p s (Polls n answer) ≡ Goes u →
+    (u.tasks ≡ s.tasks) × (u.rest ≡ record s.rest { polled = suc n })
 polled_same p s u n x goes = grind (arith, nat_tests, goes_same)
 
 -- ---- a run goes on
@@ -51,12 +54,13 @@ abbrev heard_of : Option Completion → State → Heard
 heard_of answer s = record { completion = answer; name = top s.cells }
 
 -- by a part that is the same whatever is heard
-pub turns_by : (p : Image) (outside : Environment) (from : State) (lines : List Line) (s u : State) (x : Turning)
-    → Reaches p outside from lines s → IsBetween s → ((heard : Heard) → turning outside heard s ≡ x) → AnswersWell p s x → turned p s x ≡ Goes u → Reaches p outside from (lines ++ written_by p s x) u
+pub turns_by : (p : Image) (outside : Environment) (from : State) (lines : List Line) (s u : State) (x : Turning) → Reaches p outside from lines s → IsBetween
+    s → ((heard : Heard) → turning outside heard s ≡ x) → AnswersWell p s x → turned p s x ≡ Goes u → Reaches p outside from (lines ++ written_by p s x) u
 turns_by p outside from lines s u x r between is owed goes =
     let heard = heard_of None s in
     subst (λ k. Reaches p outside from (lines ++ written_by p s k) u) (is nothing_heard)
-    (turns heard r between (record { completion = subst (λ k. AnswersWell p s k) (sym (is heard)) owed; name = above s.cells (top s.cells) (omega arith) }) (ap (turned p s) (is heard) ∙ goes))
+    (turns heard r between (record { completion = subst (λ k. AnswersWell p s k) (sym (is heard)) owed; name = above s.cells (top s.cells) (omega arith) })
+    (ap (turned p s) (is heard) ∙ goes))
 
 -- by an event, with that name for what is sent
 pub delivers_by : (p : Image) (outside : Environment) (from : State) (lines : List Line) (s u : State) (event : Event) (name : ℕ)
@@ -74,4 +78,5 @@ pub polls_by : (p : Image) (outside : Environment) (from s u : State) (n : ℕ) 
 polls_by p outside from s u n answer r between is owed goes =
     let heard = heard_of answer s in
     subst (λ k. Reaches p outside from (written_by p s k) u) (is nothing_heard)
-    (turns heard r between (record { completion = subst (λ k. AnswersWell p s k) (sym (is heard)) owed; name = above s.cells (top s.cells) (omega arith) }) (ap (turned p s) (is heard) ∙ goes))
+    (turns heard r between (record { completion = subst (λ k. AnswersWell p s k) (sym (is heard)) owed; name = above s.cells (top s.cells) (omega arith) })
+    (ap (turned p s) (is heard) ∙ goes))

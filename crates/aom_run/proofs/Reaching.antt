@@ -20,8 +20,8 @@ is_busy s uncounted = cons_given (λ ts. IsUncounted ts) s.tasks uncounted (λ u
 settled_on : (p : Image) (refused : List ℕ) (b : State) (lines : List Line) (s : State) (more : List Line) (u : State)
     → Moving p refused b lines s → Settles p refused s more u → Moving p refused b (lines ++ more) u
 settled_on p refused b lines s _ _ r (settled not) = subst (λ ls. Moving p refused b ls s) (sym (append-nil lines)) r
-settled_on p refused b lines s _ v r (settles {u = u} {lines = more} c uncounted on free goes rest) =
-    subst (λ ls. Moving p refused b ls v) (append_assoc lines _ more) (settled_on p refused b (lines ++ written p s) u more v (goes_on c r (is_busy s uncounted) free goes) rest)
+settled_on p refused b lines s _ v r (settles {u = u} {lines = more} c uncounted on free goes rest) = subst (λ ls. Moving p refused b ls v)
+    (append_assoc lines _ more) (settled_on p refused b (lines ++ written p s) u more v (goes_on c r (is_busy s uncounted) free goes) rest)
 
 -- a step of the machine is no move, or one or more
 pub steps_on : (p : Image) (refused : List ℕ) (heard : ℤ) (b : State) (lines : List Line) (s : State) (more : List Line) (u : State)
@@ -73,8 +73,7 @@ module _ {X : Type 0} {B : X → Type 0} where
   -- the turn is filled, however far the machine has come
   abbrev pub Went : Machine X B → LineBuffer → LineBuffer → Machine X B → Type 0
   Went old told now new = (s : State) → StandsFor old s → (lines : List Line) × (u : State) × Moving old.core.image told.refused s lines u
-      × (now ≡ record told { lines = told.lines ++ lines })
-      × StandsFor new u
+      × (now ≡ record told { lines = told.lines ++ lines }) × StandsFor new u
 
   pub went_nowhere : (m : Machine X B) (told : LineBuffer) → Went m told told m
   went_nowhere m told s stands = ([], s, stays, ap (λ ls. record told { lines = ls }) (sym (append-nil told.lines)), stands)
@@ -93,8 +92,7 @@ module _ {X : Type 0} {B : X → Type 0} where
       let quiet = subst (λ q. Quiet q told.refused heard w.1 x.3.0 x.1) image (subst (λ r. Quiet m.core.image r heard w.1 x.3.0 x.1) same x.3.1) in
       let steps = subst (λ q. Steps q told.refused heard x.1 x.0 x.2) image (subst (λ r. Steps m.core.image r heard x.1 x.0 x.2) same x.4) in
       let ls = x.3.0 ++ x.0 in
-      let moving =
-      subst (λ l. Moving old.core.image told.refused s l x.2) (append_assoc w.0 x.3.0 x.0)
+      let moving = subst (λ l. Moving old.core.image told.refused s l x.2) (append_assoc w.0 x.3.0 x.0)
       (steps_on _ told.refused heard s (w.0 ++ x.3.0) x.1 x.0 x.2 (quietly_on old.core.image told.refused heard s w.0 w.1 x.3.0 x.1 w.2 quiet) steps) in
       let turn = x.5 ∙ ap (λ (t : LineBuffer). record t { lines = t.lines ++ ls }) w.3 ∙ ap (λ l. record told { lines = l }) (append_assoc told.lines w.0 ls) in
       (w.0 ++ ls, x.2, moving, turn, x.6, x.7)

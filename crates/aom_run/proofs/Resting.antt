@@ -99,7 +99,8 @@ module _ {X : Type 0} {B : X → Type 0} where
         → turned m.core.image (rests.far s stands).0 x ≡ Goes u → Reaches old.core.image outside s (written_by old.core.image (rests.far s stands).0 x) u
     one_part s stands x u is owed between goes =
         let w = rests.far s stands in
-        turns_by old.core.image outside s [] w.0 u x (w.1 refused limit (below_so old limit s stands rests.below)) between is owed (subst (λ q. turned q w.0 x ≡ Goes u) rests.image goes)
+        turns_by old.core.image outside s [] w.0 u x (w.1 refused limit (below_so old limit s stands rests.below)) between is owed
+        (subst (λ q. turned q w.0 x ≡ Goes u) rests.image goes)
 
     one_run : (o : Object) (s : State) → length (run_line s o) ≤ 1
     one_run o s = grind (arith, nat_tests)
@@ -131,13 +132,15 @@ module _ {X : Type 0} {B : X → Type 0} where
           t.stands,
         )
 
-    module _ (quiet : (s : State) → StandsFor m s → has_signal s.cells ≡ false) (next : Option ℕ) (told_so : (s : State) → StandsFor m s → next ≡ next_time outside s) where
+    module _ (quiet : (s : State) → StandsFor m s → has_signal s.cells ≡ false) (next : Option ℕ)
+        (told_so : (s : State) → StandsFor m s → next ≡ next_time outside s) where
       -- nothing comes any more, and the run is over
       pub waits_on : next ≡ None → (told : LineBuffer) (new : Machine X B) → TakesAll m Waits new → TakesTurns old outside (Some Waiting) told told new
       waits_on e told new takes s stands =
           let w = rests.far s stands in
           let t = takes told w.0 w.4 in
-          let is = waits_so outside w.0 (still_below s stands) (rests.none_due w.0 w.4.stands) (early w.0 w.4) (all_polled w.0 w.4) (quiet w.0 w.4) (sym (told_so w.0 w.4) ∙ e) in
+          let is = waits_so outside w.0 (still_below s stands) (rests.none_due w.0 w.4.stands) (early w.0 w.4) (all_polled w.0 w.4) (quiet w.0 w.4)
+          (sym (told_so w.0 w.4) ∙ e) in
           ([], t.state, one_part s stands Waits t.state is tt t.between t.goes, t.lines, (refl, ap (λ (v : State). v.rest.ended) (sym (goes_same _ t.state t.goes))), t.stands)
 
       -- time passes
@@ -149,8 +152,8 @@ module _ {X : Type 0} {B : X → Type 0} where
         passes_on s stands =
             let w = rests.far s stands in
             let t = at_time w.0 w.4 in
-            let on : (refused : List ℕ) (limit : ℕ) → s.rest.dispatches < limit → Reaches old.core.image (hearing refused limit (natives_of old) events) s [] t.state =
-            λ others most below.
+            let on : (refused : List ℕ) (limit : ℕ) → s.rest.dispatches < limit →
+            Reaches old.core.image (hearing refused limit (natives_of old) events) s [] t.state = λ others most below.
             let still : w.0.rest.dispatches < most = subst (λ n. n < most) (sym w.2) below in
             let is = passes_so (hearing others most (natives_of old) events) w.0 still
             (rests.none_due w.0 w.4.stands) (early w.0 w.4) (all_polled w.0 w.4) (quiet w.0 w.4) time (sym (told_so w.0 w.4) ∙ e) in
@@ -187,7 +190,8 @@ module _ {X : Type 0} {B : X → Type 0} where
             rest : passed.core.parts.rest ≡ record s.rest { clock = time; polled = 0 }
             rest = t.stands.stands.agrees.rest ∙ ap (λ (v : State). v.rest) same
 
-            go : ((x : ℕ) × (due_of (first_due s.cells) ≡ Some x) × (x ≤ time)) ⊎ ((x : ℕ) × (time_of (next_event outside s) ≡ Some x) × (x ≤ time)) → IsLate events passed
+            go : ((x : ℕ) × (due_of (first_due s.cells) ≡ Some x) × (x ≤ time))
+                ⊎ ((x : ℕ) × (time_of (next_event outside s) ≡ Some x) × (x ≤ time)) → IsLate events passed
             go (inl due) =
                 let x = due_is (first_due s.cells) due.0 due.1 in
                 let at = x.2 in
@@ -204,7 +208,8 @@ module _ {X : Type 0} {B : X → Type 0} where
         module _ (all : natives_of passed ≡ natives_of m) (new : Machine X B) where
           -- an event is told by a line then
           pub tells_on : (told now : LineBuffer) → TellsEnd events passed told now new → TakesTurns old outside None told now new
-          tells_on told now tells = ends_told old new events refused limit told now rests.below (tells_after events old passed (again ∙ rests.image) (all ∙ rests.natives) passes_on told now new tells)
+          tells_on told now tells = ends_told old new events refused limit told now rests.below
+              (tells_after events old passed (again ∙ rests.image) (all ∙ rests.natives) passes_on told now new tells)
 
           -- or all that is due then is settled
           pub rests_on : Settles events passed new → progress new.core ≡ Turned → NoneIsDue new →

@@ -92,15 +92,13 @@ module _ {X : Type 0} {B : X → Type 0} where
 
   pub starts : {reads : Line → List ℕ} (outside : Environment) (out : Option (List ℕ)) (m : Machine X B) (told : List Line) →
       told ≡ [] → StandsFor m (boot_state m.core.image) → SoFar reads m.core.image outside out out told m
-  starts {reads} outside out m told none fresh =
-      record {
-        lines = [];
-        state = boot_state _;
-        reaches = subst (λ ls. Reaches m.core.image outside (boot_state m.core.image) ls (boot_state m.core.image))
-            (sym none) begins;
-        stands = fresh;
-        out = after_none out;
-      }
+  starts {reads} outside out m told none fresh = record {
+    lines = [];
+    state = boot_state _;
+    reaches = subst (λ ls. Reaches m.core.image outside (boot_state m.core.image) ls (boot_state m.core.image)) (sym none) begins;
+    stands = fresh;
+    out = after_none out;
+  }
 
   -- a run that has come to a state that the machine stands for can be brought to an end
   completed : (p : Image) (outside : Environment) → outside.limit ≤ 2 ^ 64 - 1 →
@@ -112,7 +110,8 @@ module _ {X : Type 0} {B : X → Type 0} where
   module _ {reads : Line → List ℕ} (p : Image) (outside : Environment) (before mid now : Option (List ℕ))
       (m new : Machine X B) (told turn : LineBuffer) (far : SoFar reads p outside before mid told.lines m) (image : m.core.image ≡ p) where
     module _ (same : told.refused ≡ outside.refused) where
-      more : (lines : List Line) (u : State) → Moving m.core.image told.refused far.state lines u → Reaches p outside (boot_state p) ((far.lines ++ told.lines) ++ lines) u
+      more : (lines : List Line) (u : State) → Moving m.core.image told.refused far.state lines u →
+          Reaches p outside (boot_state p) ((far.lines ++ told.lines) ++ lines) u
       more lines u moving = grind (arith, nat_tests, reaches_then, lines)
 
       text : (lines : List Line) → text_by reads far.lines ++ text_by reads (told.lines ++ lines) ≡ text_by reads ((far.lines ++ told.lines) ++ lines)
@@ -127,7 +126,8 @@ module _ {X : Type 0} {B : X → Type 0} where
           record {
             lines = lines;
             state = x.1;
-            reaches = subst (λ ls. Reaches p outside (boot_state p) (lines ++ ls) x.1) (sym none) (subst (λ ls. Reaches p outside (boot_state p) ls x.1) (sym (append-nil lines)) (more x.0 x.1 x.2));
+            reaches = subst (λ ls. Reaches p outside (boot_state p) (lines ++ ls) x.1) (sym none)
+                (subst (λ ls. Reaches p outside (boot_state p) ls x.1) (sym (append-nil lines)) (more x.0 x.1 x.2));
             stands = x.7;
             out = grind (arith, nat_tests, after_both before, text x.0);
           }
@@ -139,7 +139,8 @@ module _ {X : Type 0} {B : X → Type 0} where
           let b = text_by reads (told.lines ++ x.0) in
           let all = completed p outside few ((far.lines ++ told.lines) ++ x.0) x.1 new again (more x.0 x.1 x.2) x.4 in
           cut_of reads p outside before now ((far.lines ++ told.lines) ++ x.0) all (length (text_by reads far.lines) + x.3.0)
-          (x.3.1 ∙ ap (λ o. after o (take x.3.0 b)) far.out ∙ cut_next before (text_by reads far.lines) b x.3.0 ∙ ap (λ t. after before (take (length (text_by reads far.lines) + x.3.0) t)) (text x.0))
+          (x.3.1 ∙ ap (λ o. after o (take x.3.0 b)) far.out ∙ cut_next before (text_by reads far.lines) b x.3.0
+          ∙ ap (λ t. after before (take (length (text_by reads far.lines) + x.3.0) t)) (text x.0))
 
     -- turns
     module _ (none : told.lines ≡ []) where
@@ -162,17 +163,16 @@ module _ {X : Type 0} {B : X → Type 0} where
 
       -- the run is over
       pub ends : (ending : Ending) → progresses.Ended ending ≡ reached m.core → Ended reads p outside ending before mid m
-      ends ending is =
-          record {
-            lines = far.lines;
-            state = far.state;
-            run = record {
-              reaches = subst (λ ls. Reaches p outside (boot_state p) ls far.state) (append-nil far.lines) (grind arith);
-              ended = ended_by far.state.rest.ended far.state.tasks ending (sym (is_as_far m.core far.state far.stands.stands) ∙ sym is);
-            };
-            stands = far.stands;
-            out = far.out;
-          }
+      ends ending is = record {
+        lines = far.lines;
+        state = far.state;
+        run = record {
+          reaches = subst (λ ls. Reaches p outside (boot_state p) ls far.state) (append-nil far.lines) (grind arith);
+          ended = ended_by far.state.rest.ended far.state.tasks ending (sym (is_as_far m.core far.state far.stands.stands) ∙ sym is);
+        };
+        stands = far.stands;
+        out = far.out;
+      }
 
   -- what a dispatch leaves
   module _ (reads : Line → List ℕ) (m new : Machine X B) (told now : LineBuffer)
@@ -288,15 +288,14 @@ module _ {X : Type 0} {B : X → Type 0} where
 
     cut_last : (n : ℕ) → now ≡ after mid (take n last) → CutShort reads m.core.image outside before now
     unfolding last
-    cut_last n out =
-        record {
-          lines = run.lines;
-          state = run.state;
-          ending = ending;
-          run = run.run;
-          sent = length (text_by reads run.lines) + n;
-          out = out ∙ ap (λ o. after o (take n last)) run.out ∙ cut_next before (text_by reads run.lines) last n;
-        }
+    cut_last n out = record {
+      lines = run.lines;
+      state = run.state;
+      ending = ending;
+      run = run.run;
+      sent = length (text_by reads run.lines) + n;
+      out = out ∙ ap (λ o. after o (take n last)) run.out ∙ cut_next before (text_by reads run.lines) last n;
+    }
 
     pub ran : (outcome : Outcome) → (outcome ≡ WriteFault → failed ≡ true) → ((outcome ≡ WriteFault → ⊥) → outcome ≡ outcome_of ending)
         → ((s : State) → StandsFor new s → (n : ℕ) × (now ≡ after mid (take n (ended (end_text ending (count_cells s.cells))))))

@@ -60,12 +60,11 @@ still_paged {reads} before mid now old page lines p out is = record { sent = p.s
 -- the page is out
 pub page_sent : {reads : Line → List ℕ} (before mid now : Option (List ℕ)) (old page : List ℕ) (lines : List Line) →
     Paged reads before mid old lines → now ≡ after mid old → page ≡ [] → Paged reads before now page lines
-page_sent {reads} before mid now old page lines p out is =
-    record {
-      sent = p.sent ++ old;
-      out = out ∙ ap (λ o. after o old) p.out ∙ after_both before p.sent old;
-      whole = ap (λ t. (p.sent ++ old) ++ t) is ∙ append-nil (p.sent ++ old) ∙ p.whole;
-    }
+page_sent {reads} before mid now old page lines p out is = record {
+  sent = p.sent ++ old;
+  out = out ∙ ap (λ o. after o old) p.out ∙ after_both before p.sent old;
+  whole = ap (λ t. (p.sent ++ old) ++ t) is ∙ append-nil (p.sent ++ old) ∙ p.whole;
+}
 
 -- the beginning of the page is out
 pub page_cut : {reads : Line → List ℕ} (before mid now : Option (List ℕ)) (page : List ℕ) (lines : List Line) (i n : ℕ) →

@@ -45,7 +45,8 @@ module _ {L : Type 0} (kept : L → List ℕ) (p : Image) (s u : State) (slots :
 
 module _ {L : Type 0} (kept : L → List ℕ) (old new : List (Option L)) where
   -- so where one native lives on with the same, and nothing else is touched
-  pub kept_but : (n : ℕ) → IsSome (living_at old n) → IsSome (living_at new n) → ids_at kept new n ≡ ids_at kept old n → KeepsOthers old new n → KeptSame kept old new
+  pub kept_but : (n : ℕ) → IsSome (living_at old n) → IsSome (living_at new n) → ids_at kept new n ≡ ids_at kept old n →
+      KeepsOthers old new n → KeptSame kept old new
   kept_but n before after same others = search (arith, nat_tests, cases_eq)
 
   pub serves_same : (p : Image) (s : State) → Serves kept p s old → KeptSame kept old new → Serves kept p s new
@@ -53,11 +54,13 @@ module _ {L : Type 0} (kept : L → List ℕ) (old new : List (Option L)) where
 
   -- ---- a native is killed
 
-  pub serves_killed : (p : Image) (s u : State) (n : ℕ) → Serves kept p s old → Tale p s u (Kills n) → living_at new n ≡ None → KeepsOthers old new n → Serves kept p u new
+  pub serves_killed : (p : Image) (s u : State) (n : ℕ) → Serves kept p s old → Tale p s u (Kills n) → living_at new n ≡ None →
+      KeepsOthers old new n → Serves kept p u new
   serves_killed p s u n serves tale dead others = record {
     enough = (let enough = serves.enough in let count = others.count in omega (arith, enough, count));
     lives = λ k within. elim (cases_eq k n) [
-      | inl e ↦ subst (λ x. is_some (living_at new x) ≡ not (is_dead u.killed x)) (sym e) (ap is_some dead ∙ ap not (sym (ap (λ l. is_dead l n) tale.killed ∙ killed_there _ n n (eq-eqb n n refl))))
+      | inl e ↦ subst (λ x. is_some (living_at new x) ≡ not (is_dead u.killed x)) (sym e)
+          (ap is_some dead ∙ ap not (sym (ap (λ l. is_dead l n) tale.killed ∙ killed_there _ n n (eq-eqb n n refl))))
       | inr apart ↦ ap is_some (others.others k apart) ∙ serves.lives k (let count = others.count in omega (arith, within, count))
           ∙ ap not (sym (ap (λ l. is_dead l k) tale.killed ∙ killed_else _ n k (ne_eqb n k (λ e. apart (sym e)))))
     ];
@@ -79,7 +82,8 @@ module _ {L : Type 0} (kept : L → List ℕ) (old new : List (Option L)) where
 
   -- ---- a native completes a request
 
-  pub serves_completed : (p : Image) (s u : State) (n id : ℕ) (a : Completion) → Serves kept p s old → Tale p s u (Polls n (Some a)) → ((m : ℕ) → has_name (cell_at s.cells a.cell) m ≡ (id == m)) →
+  pub serves_completed : (p : Image) (s u : State) (n id : ℕ) (a : Completion) → Serves kept p s old →
+      Tale p s u (Polls n (Some a)) → ((m : ℕ) → has_name (cell_at s.cells a.cell) m ≡ (id == m)) →
       TakesOut id (ids_at kept old n) (ids_at kept new n) → IsSome (living_at old n) → IsSome (living_at new n) → KeepsOthers old new n → Serves kept p u new
   serves_completed p s u n id a serves tale named out before after others = record {
     enough = (let enough = serves.enough in let count = others.count in omega (arith, enough, count));
@@ -192,7 +196,8 @@ module _ {X : Type 0} {B : X → Type 0} (old : Machine X B) (core : Core) (imag
       subst (λ part. Takes old s part now now (record { core = core; natives = old.natives })) (grind arith)
       (plainly Hears s st (heard_plain s) tt tt now now (all now s st.stands)))
 
-  pub picked_so : (b : Bool) (before now : LineBuffer) → Core_picked old.core b before now core → Picked old b before now (record { core = core; natives = old.natives })
+  pub picked_so : (b : Bool) (before now : LineBuffer) → Core_picked old.core b before now core →
+      Picked old b before now (record { core = core; natives = old.natives })
   picked_so true before now done = λ s st.
       let d = done s st.stands in
       (d.0, d.1, d.2, plainly (Picks d.0.seat) s st (record { owes = λ n m b. refl; killed = refl }) (d.0, d.1, refl) tt before now d.3)

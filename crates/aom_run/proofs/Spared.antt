@@ -8,7 +8,8 @@ use Rattle.aom_run.proofs.DeterminismLemmas.{moved_spares}
 use Rattle.aom_determinism.specs.Endings.{spare}
 use Rattle.aom_run.specs.Runs.{Moving, begins, goes_on}
 
-pub moving_spares : (p : Image) (limit : ℕ) → limit ≤ 2 ^ 64 - 1 → (refused : List ℕ) (s : State) (lines : List Line) (u : State) → Moving p refused s lines u → spare limit u ≤ spare limit s
+pub moving_spares : (p : Image) (limit : ℕ) → limit ≤ 2 ^ 64 - 1 → (refused : List ℕ) (s : State) (lines : List Line) (u : State) → Moving p refused s lines u →
+    spare limit u ≤ spare limit s
 moving_spares p limit most refused s _ _ begins = omega arith
 moving_spares p limit most refused s _ _ (goes_on {lines} {s = v} {u = u} c before busy free goes) =
     grind (arith, nat_tests, moving_spares p limit most refused s lines v before, moved_spares p limit most c v u goes)

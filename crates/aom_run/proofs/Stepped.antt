@@ -49,9 +49,8 @@ module _ {L : Type 0} (kept : L → List ℕ) (old new : List (Option L)) (n x :
   asked_start f w answer taken refused before after others = search (arith, nat_tests, cases_eq, signs answer, ne_eqb n, here)
 
   -- what is outstanding stays so, where the call neither begins nor cancels
-  pub asked_alone : (asked : Wanted) (answer : ℤ) → asked_at asked ≡ n → ((k m before : ℕ) → times_after (Some asked) answer k m before ≡ before) →
-      ids_at kept new n ≡ ids_at kept old n → IsSome (living_at old n) → IsSome (living_at new n) → KeepsOthers old new n →
-      Asked kept old (Some asked) answer new
+  pub asked_alone : (asked : Wanted) (answer : ℤ) → asked_at asked ≡ n → ((k m before : ℕ) → times_after (Some asked) answer k m before ≡ before) → ids_at kept
+      new n ≡ ids_at kept old n → IsSome (living_at old n) → IsSome (living_at new n) → KeepsOthers old new n → Asked kept old (Some asked) answer new
   asked_alone asked answer at stays same before after others = search (arith, nat_tests, cases_eq)
 
   pub asked_to_start : (asked : Wanted) (f w answer : ℤ) → asked ≡ Starts n x f w → MayAsk kept old asked → (pos 0 ≤ℤ answer → ids_at kept new n
@@ -88,8 +87,10 @@ module _ {X : Type 0} {B : X → Type 0} (old : Machine X B) (s : State) (st : S
       (asked_of old.core.image s) heard new.natives.slots.items → Core_stepped_on mid progress told now new.core → SteppedOn old heard progress told now new s
   stepped_on new mid heard progress told now image same_heard stands kept asked steps =
       let d = steps s stands in
-      let quiet = subst (λ h. Quiet old.core.image told.refused h s d.3.0 d.1) same_heard (subst (λ q. Quiet q told.refused (heard_by mid.parts) s d.3.0 d.1) image d.3.1) in
-      let last = subst (λ h. Steps old.core.image told.refused h d.1 d.0 d.2) same_heard (subst (λ q. Steps q told.refused (heard_by mid.parts) d.1 d.0 d.2) image d.4) in
+      let quiet = subst (λ h. Quiet old.core.image told.refused h s d.3.0 d.1) same_heard
+      (subst (λ q. Quiet q told.refused (heard_by mid.parts) s d.3.0 d.1) image d.3.1) in
+      let last = subst (λ h. Steps old.core.image told.refused h d.1 d.0 d.2) same_heard
+      (subst (λ q. Steps q told.refused (heard_by mid.parts) d.1 d.0 d.2) image d.4) in
       let went = went_on old.core.image _ st.stands.sound told.refused heard s d.1 d.2 d.0 st.stands.typed st.serves.sessions (d.3.0, quiet) last in
       let serves = serves_after (λ l. l.ids) _ s _ st.serves st.stands.sound.formed (session_small _ s st.stands) _ _ heard _ d.2 (of_asked _) asked went in (
         d.0,
@@ -117,11 +118,13 @@ module _ {X : Type 0} {B : X → Type 0} (old : Machine X B) (s : State) (st : S
 
 -- where nothing is at hand nothing is asked, and the core stays as it was
 module _ {X : Type 0} {B : X → Type 0} (old mid : Machine X B) (core : Core) where
-  pub stays_idle : (told now : LineBuffer) → (progress old.core ≢ Running → mid ≡ old) → Core_stays_idle mid.core told now core → StaysIdle old told now (record { core = core; natives = mid.natives })
+  pub stays_idle : (told now : LineBuffer) → (progress old.core ≢ Running → mid ≡ old) → Core_stays_idle mid.core told now core →
+      StaysIdle old told now (record { core = core; natives = mid.natives })
   stays_idle told now first then resting = search (arith, nat_tests)
 
 module _ {X : Type 0} {B : X → Type 0} (old m new : Machine X B) where
   -- so over steps one after another
   pub unnamed_step : m.core.image ≡ old.core.image → KeepsUnnamed old.core.image old.natives.slots.items m.natives.slots.items → Stands m →
-      ((s : State) → StandsFor m s → KeepsUnasked m.natives.slots.items (asked_of m.core.image s) new.natives.slots.items) → KeepsUnnamed old.core.image old.natives.slots.items new.natives.slots.items
+      ((s : State) → StandsFor m s → KeepsUnasked m.natives.slots.items (asked_of m.core.image s) new.natives.slots.items) →
+      KeepsUnnamed old.core.image old.natives.slots.items new.natives.slots.items
   unnamed_step image was stands unasked = grind (arith, nat_tests, unnamed_on, unnamed_stay)

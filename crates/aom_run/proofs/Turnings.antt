@@ -39,10 +39,12 @@ module _ (outside : Environment) (s : State) where
       early : (after : Turning) (next : Option Timed) → first_due s.cells ≡ next → by_timer s next after ≡ after
       early after x first = grind (arith, nat_tests, lt-leb)
 
-      by_next : (heard : Heard) (next : Option TimedEvent) → next_event outside s ≡ next → turning outside heard s ≡ by_event outside heard.name s next (then_natives heard.completion)
+      by_next : (heard : Heard) (next : Option TimedEvent) → next_event outside s ≡ next →
+          turning outside heard s ≡ by_event outside heard.name s next (then_natives heard.completion)
       by_next heard next is = grind (arith, nat_tests, by_first heard, early)
 
-      pub delivers_so : (e : TimedEvent) → next_event outside s ≡ Some e → e.time ≤ s.rest.clock → (heard : Heard) → turning outside heard s ≡ delivers outside heard.name s e.event
+      pub delivers_so : (e : TimedEvent) → next_event outside s ≡ Some e → e.time ≤ s.rest.clock → (heard : Heard) →
+          turning outside heard s ≡ delivers outside heard.name s e.event
       delivers_so e is come heard = grind (arith, nat_tests, by_next heard (Some e) is, le-leb e.time s.rest.clock come)
 
       -- and nothing has come

@@ -35,7 +35,8 @@ module _ {X : Type 0} {B : X → Type 0} where
   cleared_same m new told turn full clear progress same stands f is = grind (arith, nat_tests)
 
   module _ (reads : Line → List ℕ) (old m new : Machine X B) (told turn full : LineBuffer) (before out : Option (List ℕ)) (progress : Progress)
-      (w : Underway reads old told before out turn m) (image : m.core.image ≡ old.core.image) (same : turn ≡ record told { lines = turn.lines }) (f : Filled m progress turn full new) where
+      (w : Underway reads old told before out turn m) (image : m.core.image ≡ old.core.image) (same : turn ≡ record told { lines = turn.lines })
+      (f : Filled m progress turn full new) where
     module _ (s : State) (stands : StandsFor old s) where
       -- steps that fill the turn
       further : (lines : List Line) × (u : State) × Moving old.core.image told.refused s lines u ×
@@ -61,7 +62,8 @@ module _ {X : Type 0} {B : X → Type 0} where
 
     -- all that the turn has is out, and it is cleared
     module _ (now : Option (List ℕ)) (clear : LineBuffer) (is : clear ≡ record full { lines = [] }) (e : now ≡ after out (text_by reads full.lines)) where
-      all_out : (sent lines : List Line) → sent ++ full.lines ≡ told.lines ++ lines → out ≡ after before (text_by reads sent) → now ≡ after before (text_by reads (told.lines ++ lines))
+      all_out : (sent lines : List Line) → sent ++ full.lines ≡ told.lines ++ lines → out ≡ after before (text_by reads sent) →
+          now ≡ after before (text_by reads (told.lines ++ lines))
       all_out sent lines all so_far = grind (arith, nat_tests, after_both before, text_by_both reads sent full.lines)
 
       pub underway_still : Underway reads old told before now clear new

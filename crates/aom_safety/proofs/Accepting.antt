@@ -136,18 +136,15 @@ module _ (p : Image) (t : Typing) (c : Choice) (s : State) (fr : Frame) (sh : Sh
         go true e f =
             let its_claim : claim p (declared p cs2) (Dispatching (Of_server x client Accepted) seats ∷ ls) to ≡ Own thing Ready =
             ap (λ l. claim p (declared p cs2) l to) at_hand.good.stack.4.1.1 ∙ declared_now in
-            subst (λ y. Fits p (seen cs1) (held cs1 r) (claim p (declared p cs2) (Dispatching (Of_server x client Accepted) seats ∷ ls) y)) (same_place-true to r e)
-            (subst (λ y. Fits p (seen cs1) (held cs1 r) y) (sym its_claim) (given.fits (seen cs1) (held cs1 r) (grind (arith, nat_tests, claim_register))))
+            subst (λ y. Fits p (seen cs1) (held cs1 r) (claim p (declared p cs2) (Dispatching (Of_server x client Accepted) seats ∷ ls) y)) (same_place-true to
+            r e) (subst (λ y. Fits p (seen cs1) (held cs1 r) y) (sym its_claim) (given.fits (seen cs1) (held cs1 r) (grind (arith, nat_tests, claim_register))))
         go false e f =
             let bare = subst (λ y. Fits p (seen cs1) (held cs1 r) y) (sym (claim-set_register p (declared p cs) fr sh below a Null r)) f in
-            let over =
-            ended p cs fr (set_register sh a Null) below at_hand.good.stack.1.holder at_hand.good.stack.1.view
-            at_hand.good.stack.2 at_hand.good.stack.3 refl entries rest_free (λ serving. absurd (at_hand.good.stack.1.message.0 serving)) r
-            (seen cs1) (held cs1 r) bare in
+            let over = ended p cs fr (set_register sh a Null) below at_hand.good.stack.1.holder at_hand.good.stack.1.view at_hand.good.stack.2
+            at_hand.good.stack.3 refl entries rest_free (λ serving. absurd (at_hand.good.stack.1.message.0 serving)) r (seen cs1) (held cs1 r) bare in
             subst (λ y. Fits p (seen cs1) (held cs1 r) y)
-            (mark_claims p (declared p cs) gv (Dispatching (Of_server x client Accepts) seats ∷ ls) r ∙ sym (grind arith)
-            ∙ claim_rel (λ y z. y ≡ z) (λ y. refl) p (declared p cs) (declared p cs2) (Dispatching (Of_server x client Accepted) seats ∷ ls) r (sym (declared_then r e)))
-            over
+            (mark_claims p (declared p cs) gv (Dispatching (Of_server x client Accepts) seats ∷ ls) r ∙ sym (grind arith) ∙ claim_rel (λ y z. y ≡ z)
+            (λ y. refl) p (declared p cs) (declared p cs2) (Dispatching (Of_server x client Accepted) seats ∷ ls) r (sym (declared_then r e))) over
 
     no_seat_there : (xs : List Seat) → AllSit cs xs → NoSeatAt to xs
     no_seat_there [] h = tt

@@ -29,17 +29,21 @@ pub redeems_one : (cs : List Cell) → TokensApart cs → (code : ℤ) (n k : �
 redeems_one cs apart code n k waits x = grind (arith, nat_tests, eqb-true x n, is_order_of k, eq-eqb x n, waits_for k)
 
 -- where none does, nothing changes
-pub redeems_none : (cs : List Cell) (code : ℤ) (k : ℕ) → ((x : ℕ) → awaited (requested cs x) ≡ Some k → ⊥) → (x : ℕ) → redeemed_request k code (requested cs x) ≡ requested cs x
+pub redeems_none : (cs : List Cell) (code : ℤ) (k : ℕ) → ((x : ℕ) → awaited (requested cs x) ≡ Some k → ⊥) → (x : ℕ) →
+    redeemed_request k code (requested cs x) ≡ requested cs x
 redeems_none cs code k none x = grind (arith, nat_tests, waits_for k)
 
--- the living token of each object is known by its place, and the object of each token by the token's: so nothing waits for a token that is no object's living one
+-- the living token of each object is known by its place, and the object of each token by the token's: so nothing waits for a token that is no object's living
+-- one
 module _ (cs : List Cell) (apart : TokensApart cs) (live_at object_at : ℕ → Option ℕ) (waits : (n k : ℕ) →
     awaited (requested cs n) ≡ Some k → (m : ℕ) × (live_at n ≡ Some m) × (order_in (service_of cs (4096 + m)).token ≡ Some k) × (object_at m ≡ Some n)) where
-  pub void_waits_none : (m n k : ℕ) → order_in (service_of cs (4096 + m)).token ≡ Some k → object_at m ≡ Some n → (live_at n ≡ Some m → ⊥) → (x : ℕ) → awaited (requested cs x) ≡ Some k → ⊥
+  pub void_waits_none : (m n k : ℕ) → order_in (service_of cs (4096 + m)).token ≡ Some k → object_at m ≡ Some n → (live_at n ≡ Some m → ⊥) → (x : ℕ) →
+      awaited (requested cs x) ≡ Some k → ⊥
   void_waits_none m n k told of void x e = grind (arith, nat_tests, same_Some x n)
 
   -- and one that is, is waited for by its object
-  pub living_waits : (m n k : ℕ) → order_in (service_of cs (4096 + m)).token ≡ Some k → live_at n ≡ Some m → (j : ℕ) → awaited (requested cs n) ≡ Some j → awaited (requested cs n) ≡ Some k
+  pub living_waits : (m n k : ℕ) → order_in (service_of cs (4096 + m)).token ≡ Some k → live_at n ≡ Some m → (j : ℕ) → awaited (requested cs n) ≡ Some j →
+      awaited (requested cs n) ≡ Some k
   living_waits m n k told live j e = grind (arith, nat_tests, same_Some j k)
 
 -- ---- orders go, and none comes
@@ -51,7 +55,8 @@ apart_fewer cs cs' waits told apart = search (arith, nat_tests)
 -- ---- what a reply keeps
 
 -- what waits after a reply waited before, and for another order
-pub awaited_redeemed : (order : ℕ) (code : ℤ) (r : Option Request) (k : ℕ) → awaited (redeemed_request order code r) ≡ Some k → (awaited r ≡ Some k) × ((order == k) ≡ false)
+pub awaited_redeemed : (order : ℕ) (code : ℤ) (r : Option Request) (k : ℕ) → awaited (redeemed_request order code r) ≡ Some k →
+    (awaited r ≡ Some k) × ((order == k) ≡ false)
 awaited_redeemed order code r k e = grind (arith, nat_tests, ne_eqb order k, is_order_of order)
 
 pub told_as_before : (order : ℕ) (code : ℤ) (cs : List Cell) (n : ℕ) → service_of (all_redeemed order code cs) n ≡ service_of cs n

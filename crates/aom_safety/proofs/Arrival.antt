@@ -48,7 +48,8 @@ module _ (p : Image) (t : Typing) (s : State) (code : ℤ) (items : List Item) w
       let i = instr_at p fr.method fr.place in
       let c = result_register i in
       let fr' = code_told (called p i) c code fr in
-      let f : Fitted p t s.cells fr sh ls = record { fits = fits; suits = good.suits; tidy = good.tidy; frames = below.1; housed = below.2; apart = below.3; stack = below.4 } in
+      let f : Fitted p t s.cells fr sh ls =
+      record { fits = fits; suits = good.suits; tidy = good.tidy; frames = below.1; housed = below.2; apart = below.3; stack = below.4 } in
       let g : Fitted p t s.cells fr' (caught gv c sh) ls =
       grind (arith, nat_tests, Fitted p t s.cells, told_fitted p t s.cells fr sh ls code gv c f below.0.1 below.0.2) in
       let leads : Leads t fr'.method (suc fr'.place) (caught gv c sh) = grind (arith, nat_tests, told_same) in
@@ -74,7 +75,8 @@ module _ (p : Image) (t : Typing) (s : State) (code : ℤ) (items : List Item) w
       below : Place → Kind
       below r = claim p (declared p s.cells) ls r
 
-      claims : (r : Place) → claim p (declared p s.cells) (Unwinding code [] ∷ Mark gv ∷ Dispatching d seats ∷ ls) r ≡ claim p (declared p s.cells) (Dispatching (ended_by code d) seats ∷ ls) r
+      claims : (r : Place) → claim p (declared p s.cells) (Unwinding code [] ∷ Mark gv ∷ Dispatching d seats ∷ ls) r
+          ≡ claim p (declared p s.cells) (Dispatching (ended_by code d) seats ∷ ls) r
       claims x = grind (arith, nat_tests, below (Elsewhere Root), below (Elsewhere In_service))
 
   at_dispatch : (gv : Gives) (d : Dispatch) (seats : List Seat) (ls : List Layer) → forms items ≡ items_of ls → AllUndo p items → Good p t s.cells

@@ -32,7 +32,8 @@ use Rattle.std.proofs.lemmas.Bool.{true≢false}
 use Rattle.aom_roles.specs.Roles.{is_service, is_cancel}
 
 -- what rests and is enlisted is idle or active
-pub rests_listed : (k : Option ClassKind) (r : Option Request) → is_some r ≡ true → Suits k (resting_in (states_of k)) r → Suits k (resting_in (bit_or idle active)) r
+pub rests_listed : (k : Option ClassKind) (r : Option Request) → is_some r ≡ true → Suits k (resting_in (states_of k)) r →
+    Suits k (resting_in (bit_or idle active)) r
 unfolding states_of
 rests_listed k r some s = grind arith
 
@@ -78,7 +79,8 @@ module _ (p : Image) (t : Typing) (wired : IsWired p) (typed : IsTyped p t) (s :
         past = refl;
         stack = ((it.2.leaves, it.2.gives, ap is_cancel it.2.role), refl, good.stack.2, (good.stack.3.0, above, refl), tt);
         fits = fits;
-        own = subst (λ n. Suits (thing_kind p x.object.thing) (resting_in n) (requested s.cells x.object.name)) (sym it.2.begins) (grind (arith, nat_tests, rests_listed));
+        own = subst (λ n. Suits (thing_kind p x.object.thing) (resting_in n) (requested s.cells x.object.name)) (sym it.2.begins)
+            (grind (arith, nat_tests, rests_listed));
         others = λ y lives other. good.suits y lives;
         tidy = good.tidy;
         sits = good.stack.2;
@@ -90,7 +92,6 @@ module _ (p : Image) (t : Typing) (wired : IsWired p) (typed : IsTyped p t) (s :
         fields = λ f. ap (λ r. at Perhaps (entry_fields r) f) it.2.role ∙ at_alike 8 Perhaps f;
       }
 
-  pub error_enters :
-      (seats : List Seat) → s.items ≡ [] → Good p t s.cells (Dispatching (Object_left x code) seats ∷ []) → (m : ℕ) → part_of p Error x.object.thing ≡ Some m →
-      WellTyped p t (asking p (Some m) x code s)
+  pub error_enters : (seats : List Seat) → s.items ≡ [] → Good p t s.cells (Dispatching (Object_left x code) seats ∷ []) → (m : ℕ) →
+      part_of p Error x.object.thing ≡ Some m → WellTyped p t (asking p (Some m) x code s)
   error_enters seats items good m e = grind (arith, nat_tests, asks_it)

@@ -41,7 +41,8 @@ module _ (p : Image) (m : ℕ) (after : Shape) (w : SaysNoMore after (entry_shap
   good t stands gives = record { stack = grind (arith, nat_tests, unset, houses_same p, counts_same p AtRoot); fits = fits; suits = λ o lives. cc; tidy = tt }
 
 -- main is typed, and stands where the typing begins
-booted : (p : Image) (t : Typing) → IsWired p → IsTyped p t → (m : ℕ) → main_of p ≡ Some m → (s : State) → s.cells ≡ [] → s.tasks ≡ main_tasks (Some m) → s.items ≡ A_mark ∷ [] → WellTyped p t s
+booted : (p : Image) (t : Typing) → IsWired p → IsTyped p t → (m : ℕ) → main_of p ≡ Some m → (s : State) → s.cells ≡ [] → s.tasks ≡ main_tasks (Some m) →
+    s.items ≡ A_mark ∷ [] → WellTyped p t s
 booted p t wired typed m e s cells tasks items = search (arith, nat_tests, wired.main m e, typed.entry m, good p m)
 
 some_of : {A : Type 0} (x : Option A) → IsSome x → (y : A) × (x ≡ Some y)

@@ -35,7 +35,8 @@ use Rattle.aom_instructions.specs.declared.instr.Instr.{Instr}
 use Rattle.aom_roles.specs.Roles.{is_cancel, is_construct}
 
 -- what the caller finds its own object in is no issued request, where neither before nor at the end there is one
-called_unissued : (target : Target) (class : Option ℕ) (ended : ℕ) (sh : Shape) → unissued sh.states ≡ true → unissued ended ≡ true → unissued (while_called target class ended sh).states ≡ true
+called_unissued : (target : Target) (class : Option ℕ) (ended : ℕ) (sh : Shape) → unissued sh.states ≡ true → unissued ended ≡ true →
+    unissued (while_called target class ended sh).states ≡ true
 called_unissued x class ended sh u e = grind arith
 
 -- under a trap it rests
@@ -45,20 +46,22 @@ rests_under : (p : Image) (m : ℕ) (fr : Frame) (sh : Shape) (home : Home) → 
 rests_under p m fr sh home kind settles o from e w = grind (arith, nat_tests, has_itself sh.states)
 
 -- the caller finds its object in a state in which what ran may leave it
-ends_well :
-    (p : Image) (m k : ℕ) (fr : Frame) (sh : Shape) (home : Home) → is_cancel (method_role p k) ≡ false → IsTrue (has (after_of p m) (after_of p k)) →
+ends_well : (p : Image) (m k : ℕ) (fr : Frame) (sh : Shape) (home : Home) → is_cancel (method_role p k) ≡ false → IsTrue (has (after_of p m) (after_of p k)) →
     ((o : Object) (from : Place) → home ≡ Inside o from → works_at o.name fr.home ≡ true → sh.states ≡ after_of p m) → EndsWell p k home fr sh
 ends_well p m k fr sh x plain after e = grind arith
 
-module _ (p : Image) (t : Typing) (wired : IsWired p) (typed : IsTyped p t) (c : Choice) (s : State) (fr : Frame) (sh : Shape) (ls : List Layer) (at_hand : At p t s fr sh ls) where
-  pub law_call : (target : Target) (m first x : ℕ) → instr_at p fr.method fr.place ≡ Some (Call target m first x) → Law p t c s fr sh ls at_hand (Call target m first x)
+module _ (p : Image) (t : Typing) (wired : IsWired p) (typed : IsTyped p t) (c : Choice) (s : State) (fr : Frame) (sh : Shape) (ls : List Layer)
+    (at_hand : At p t s fr sh ls) where
+  pub law_call : (target : Target) (m first x : ℕ) → instr_at p fr.method fr.place ≡ Some (Call target m first x) →
+      Law p t c s fr sh ls at_hand (Call target m first x)
   law_call target m first x here n leads =
       let ended = after_of p m in
       let called_so = wired.called fr.method fr.place target m first x here in
       let parts = all_parts (rule_target p fr.method sh target m (method_class p m) (is_construct (method_role p m)) first (length (arguments_of p m))) _ n in
       let more = all_parts (each_argument p sh (arguments_of p m) first) _ parts.1.1 in
       let deep : length (tasks_of ls) < suc (length (tasks_of ls)) = omega arith in
-      let passed = all_passed p t fr ls depth deep s (arguments_of p m) first 0 s.cells sh [] [] refl more.0 (none_passed p t fr ls depth deep s.cells sh at_hand.good) in
+      let passed = all_passed p t fr ls depth deep s (arguments_of p m) first 0 s.cells sh [] [] refl more.0
+      (none_passed p t fr ls depth deep s.cells sh at_hand.good) in
       let answered = answer p t wired typed c s fr sh ls at_hand m first depth height deep called_so passed ended target parts.0 more.1.0 in
       let a = answered.0 in
       let view = target_view p fr (tasks_of ls) s target (method_class p m) in
@@ -69,7 +72,8 @@ module _ (p : Image) (t : Typing) (wired : IsWired p) (typed : IsTyped p t) (c :
       let runs = runs_for p wired m view (home_holder home) called_so a.1.holder answered.1 in
       let stands : Stands p t (Returns k home) fr sh' = (
         grind (arith, nat_tests, only_then, none_owns_each sh'.registers, none_owns_at, called_unissued target, here_is),
-        rw runs.gives (rw at_x (awaited p t wired typed c s fr sh ls at_hand m first depth height deep called_so passed (gives_of p m) x sh' a.1.owning more.1.1.1.0)),
+        rw runs.gives
+            (rw at_x (awaited p t wired typed c s fr sh ls at_hand m first depth height deep called_so passed (gives_of p m) x sh' a.1.owning more.1.1.1.0)),
         grind (arith, nat_tests),
         grind (arith, nat_tests, ends_well, cancels_not),
         λ q. runs.quiet (only_then (is_quiet p fr.method) (is_quiet p m) more.1.1.0 q),
@@ -101,8 +105,10 @@ apart_mark : (p : Image) (view : Option ℕ) (k : ℕ) (home : Home) (gv : Gives
     IsApart p view k home (Mark gv ∷ Method fr sh ∷ ls)
 apart_mark p view k x gv fr sh ls a r = grind arith
 
-module _ (p : Image) (t : Typing) (wired : IsWired p) (typed : IsTyped p t) (c : Choice) (s : State) (fr : Frame) (sh : Shape) (ls : List Layer) (at_hand : At p t s fr sh ls) where
-  pub law_trap : (target : Target) (m first x : ℕ) → instr_at p fr.method fr.place ≡ Some (Trap target m first x) → Law p t c s fr sh ls at_hand (Trap target m first x)
+module _ (p : Image) (t : Typing) (wired : IsWired p) (typed : IsTyped p t) (c : Choice) (s : State) (fr : Frame) (sh : Shape) (ls : List Layer)
+    (at_hand : At p t s fr sh ls) where
+  pub law_trap : (target : Target) (m first x : ℕ) → instr_at p fr.method fr.place ≡ Some (Trap target m first x) →
+      Law p t c s fr sh ls at_hand (Trap target m first x)
   law_trap target m first x here n leads =
       let ended = resting p (method_class p m) in
       let trapped = wired.trapped fr.method fr.place target m first x here in
@@ -110,7 +116,8 @@ module _ (p : Image) (t : Typing) (wired : IsWired p) (typed : IsTyped p t) (c :
       let parts = all_parts (rule_target p fr.method sh target m (method_class p m) (is_construct (method_role p m)) first (length (arguments_of p m))) _ n.1 in
       let more = all_parts (each_argument p sh (arguments_of p m) first) _ parts.1.1 in
       let deep : length (tasks_of ls) < suc (suc (length (tasks_of ls))) = omega arith in
-      let passed = all_passed p t fr ls depth deep s (arguments_of p m) first 0 s.cells sh [] [] refl more.0 (none_passed p t fr ls depth deep s.cells sh at_hand.good) in
+      let passed = all_passed p t fr ls depth deep s (arguments_of p m) first 0 s.cells sh [] [] refl more.0
+      (none_passed p t fr ls depth deep s.cells sh at_hand.good) in
       let answered = answer p t wired typed c s fr sh ls at_hand m first depth height deep called_so passed ended target parts.0 more.1.0 in
       let a = answered.0 in
       let view = target_view p fr (tasks_of ls) s target (method_class p m) in
@@ -124,7 +131,8 @@ module _ (p : Image) (t : Typing) (wired : IsWired p) (typed : IsTyped p t) (c :
       let stands : Stands p t (Caught gv) fr sh' = (
         ap (λ i. called p i) here,
         subst (λ y. is_unowning (register sh' (suc y)) ≡ true) (sym at_x) (a.1.owning (suc x) ∙ more.1.1.1.0),
-        subst (λ y. Awaits gv y sh') (sym at_x) (awaited p t wired typed c s fr sh ls at_hand m first depth height deep called_so passed gv x sh' a.1.owning more.1.1.0),
+        subst (λ y. Awaits gv y sh') (sym at_x)
+            (awaited p t wired typed c s fr sh ls at_hand m first depth height deep called_so passed gv x sh' a.1.owning more.1.1.0),
         subst (λ y. Leads t fr.method (suc fr.place) (caught gv y sh')) (sym at_x) leads.0,
         grind arith,
       ) in

@@ -64,7 +64,8 @@ moved_entries [] first sh = refl
 moved_entries (Takes_word ∷ xs) first sh = moved_entries xs (suc first) sh
 moved_entries (Takes_own t ∷ xs) first sh = moved_entries xs (suc first) (set_register sh first Null)
 
-pub moved_register : (xs : List Argument) (first : ℕ) (sh : Shape) (r : ℕ) → (r < first) ⊎ ((first + length xs) ≤ r) → register (arguments_moved xs first sh) r ≡ register sh r
+pub moved_register : (xs : List Argument) (first : ℕ) (sh : Shape) (r : ℕ) → (r < first) ⊎ ((first + length xs) ≤ r) →
+    register (arguments_moved xs first sh) r ≡ register sh r
 moved_register [] first sh r h = refl
 moved_register (Takes_word ∷ xs) first sh r (inl lt) = moved_register xs (suc first) sh r (inl (omega arith))
 moved_register (Takes_word ∷ xs) first sh r (inr le) = moved_register xs (suc first) sh r (inr (omega arith))
@@ -90,7 +91,8 @@ home_member x c e = grind arith
 pub own_for : (p : Image) (t : Thing) (k : Kind) → is_own_for p t k ≡ true → (x : Thing) × (a : Age) × (k ≡ Own x a) × (stands_for p x t ≡ true)
 own_for p t x e = grind arith
 
-pub held_own : (p : Image) (h : Sight) (o : Option Object) (x : Thing) (a : Age) → Fits p h o (Own x a) → (y : Object) × (o ≡ Some y) × (stands_for p y.thing x ≡ true)
+pub held_own : (p : Image) (h : Sight) (o : Option Object) (x : Thing) (a : Age) → Fits p h o (Own x a) →
+    (y : Object) × (o ≡ Some y) × (stands_for p y.thing x ≡ true)
 held_own p h y x a f = grind arith
 
 pub filled_ready : (x : Option Thing) (y : Filling) → is_ready_kind (filled x y) ≡ true

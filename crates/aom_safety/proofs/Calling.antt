@@ -91,7 +91,8 @@ module _ (p : Image) (t : Typing) (wired : IsWired p) (typed : IsTyped p t) (c :
 
   -- what may run in the place of the method called on what counts so: nothing else where it constructs
   abbrev MayRun : ℕ → Option ℕ → Object → Type 0
-  MayRun k view o = Houses p (thing_holder o.thing) (holder_of p k) × (method_role p m ≡ Some Construct → k ≡ m) × CountsAs p (thing_holder o.thing) view (holder_of p k)
+  MayRun k view o = Houses p (thing_holder o.thing) (holder_of p k) × (method_role p m ≡ Some Construct → k ≡ m)
+      × CountsAs p (thing_holder o.thing) view (holder_of p k)
 
   -- the fields that its class declares are as the first state says
   abbrev FieldsBegin : Option ℕ → Home → Type 0
@@ -106,7 +107,8 @@ module _ (p : Image) (t : Typing) (wired : IsWired p) (typed : IsTyped p t) (c :
 
   -- it is in one of the states in which it begins
   abbrev BeginsWell : Home → Shape → Type 0
-  BeginsWell (Inside o from) sh' = Suits (thing_kind p o.thing) (known_there o sh' (before_of p m)) (requested cs o.name) × (thing_kind p o.thing ≡ kind_of p (method_class p m))
+  BeginsWell (Inside o from) sh' = Suits (thing_kind p o.thing) (known_there o sh' (before_of p m)) (requested cs o.name)
+      × (thing_kind p o.thing ≡ kind_of p (method_class p m))
   BeginsWell _ sh' = Unit {0}
 
   -- it does not cancel
@@ -117,7 +119,8 @@ module _ (p : Image) (t : Typing) (wired : IsWired p) (typed : IsTyped p t) (c :
   pub serves_not : serves p m ≡ false
   serves_not = called_plain p m is_called
 
-  pub kind_begun : (home : Home) (sh' : Shape) → BeginsWell home sh' → (o : Object) (from : Place) → home ≡ Inside o from → thing_kind p o.thing ≡ kind_of p (method_class p m)
+  pub kind_begun : (home : Home) (sh' : Shape) → BeginsWell home sh' → (o : Object) (from : Place) → home ≡ Inside o from →
+      thing_kind p o.thing ≡ kind_of p (method_class p m)
   kind_begun x sh' b o from e = grind arith
 
   -- the caller while the call lasts, and the home of the method called and what it counts as
@@ -130,7 +133,8 @@ module _ (p : Image) (t : Typing) (wired : IsWired p) (typed : IsTyped p t) (c :
     pub owning : (i : ℕ) → is_unowning (register sh' i) ≡ is_unowning (register after_arguments i)
     pub items : objects sh'.entries (items_of ls) ≡ objects sh.entries (items_of ls)
     pub fields : FieldsBegin view home
-    pub suits : (x : Object) → named cs x.name ≡ Some x → works_at x.name home ≡ false → Suits (thing_kind p x.thing) (states_claim p x (Method fr sh' ∷ ls)) (requested cs x.name)
+    pub suits : (x : Object) → named cs x.name ≡ Some x → works_at x.name home ≡ false →
+        Suits (thing_kind p x.thing) (states_claim p x (Method fr sh' ∷ ls)) (requested cs x.name)
     pub begun : BeginsWell home sh'
     -- the caller's own object will be in one of these states
     pub settles : (o : Object) (from : Place) → home ≡ Inside o from → works_at o.name fr.home ≡ true → sh'.states ≡ ended
@@ -204,11 +208,13 @@ module _ (p : Image) (t : Typing) (wired : IsWired p) (typed : IsTyped p t) (c :
         silent : serves p k ≡ false
         silent = ap is_service runs.role ∙ serves_not
 
-        as_begun : (after : Shape) → SaysNoMore after (entry_shape p m) → (r : Place) → claim p (declared p cs) (Method (callee k view home) after ∷ over) r ≡ claims_over k home after sh' r
+        as_begun : (after : Shape) → SaysNoMore after (entry_shape p m) → (r : Place) →
+            claim p (declared p cs) (Method (callee k view home) after ∷ over) r ≡ claims_over k home after sh' r
         as_begun after w x = grind arith
 
     -- the caller below, while the call lasts
-    pub caller : {ended : ℕ} {view : Option ℕ} (home : Home) (sh' : Shape) (back : Back) → Entering ended home view sh' → Stands p t back fr sh' → Stack p t cs back (Method fr sh' ∷ ls)
+    pub caller : {ended : ℕ} {view : Option ℕ} (home : Home) (sh' : Shape) (back : Back) → Entering ended home view sh' → Stands p t back fr sh' →
+        Stack p t cs back (Method fr sh' ∷ ls)
     caller home sh' back e stands = (stands, frames_reworded at_hand.good.stack.1 e.words, passed.housed, at_hand.good.stack.3, passed.stack)
 
     -- the cleanup stack is as it was
@@ -221,7 +227,8 @@ module _ (p : Image) (t : Typing) (wired : IsWired p) (typed : IsTyped p t) (c :
         IsApart p view m (Inside o from) (Method fr sh' ∷ ls) → method_role p m ≡ Some Do → FieldsBegin view (Inside o from)
     do_fields o from view sh' fits lives apart role k may f x is = let claims = claim_in_view p (declared p cs) (Method fr sh' ∷ ls) o.name f (λ f. filled
         (field_thing p (thing_holder o.thing) f) Perhaps) view apart.2.0 (ap is_some (may.2.fields f x is)) (ap (λ y. declared_field p y f) lives) in
-        rw (ap (λ r. at Perhaps (entry_fields r) f) role ∙ at_alike 8 Perhaps f) (rw (claims ∙ ap (λ y. filled y Perhaps) (may.0.fields f x is)) at (fits (Field o.name f)))
+        rw (ap (λ r. at Perhaps (entry_fields r) f) role ∙ at_alike 8 Perhaps f)
+        (rw (claims ∙ ap (λ y. filled y Perhaps) (may.0.fields f x is)) at (fits (Field o.name f)))
 
     -- the fields of the called method's class are null
     abbrev AllNull : Object → Type 0
@@ -247,7 +254,8 @@ module _ (p : Image) (t : Typing) (wired : IsWired p) (typed : IsTyped p t) (c :
     Ages a = method_role p m ≡ Some Do ⊎ ((method_role p m ≡ Some Construct) × (a ≡ Fresh))
 
     -- so what it constructs was asked nothing
-    fresh_one : (o : Object) (z : Thing) (a : Age) → Fits p (seen cs) (Some o) (Own z a) → Ages a → (method_role p m ≡ Some Do) ⊎ ((method_role p m ≡ Some Construct) × (requested cs o.name ≡ None))
+    fresh_one : (o : Object) (z : Thing) (a : Age) → Fits p (seen cs) (Some o) (Own z a) → Ages a →
+        (method_role p m ≡ Some Do) ⊎ ((method_role p m ≡ Some Construct) × (requested cs o.name ≡ None))
     fresh_one o z a here x = grind arith
 
     -- and finds its fields null
@@ -287,7 +295,8 @@ module _ (p : Image) (t : Typing) (wired : IsWired p) (typed : IsTyped p t) (c :
         (method_role p m ≡ Some Do) ⊎ ((method_role p m ≡ Some Construct) × (requested cs o.name ≡ None)) → BeginsWell (Inside o (Elsewhere Root)) sh'
     well_begun o sh' lives u kind may role = (grind (arith, nat_tests, unworked_rests p o (Method fr sh' ∷ ls) u, begun role), kind)
       where
-        begun : (method_role p m ≡ Some Do) ⊎ ((method_role p m ≡ Some Construct) × (requested cs o.name ≡ None)) → Suits (thing_kind p o.thing) (resting_in (before_of p m)) (requested cs o.name)
+        begun : (method_role p m ≡ Some Do) ⊎ ((method_role p m ≡ Some Construct) × (requested cs o.name ≡ None)) →
+            Suits (thing_kind p o.thing) (resting_in (before_of p m)) (requested cs o.name)
         begun x = grind (arith, nat_tests, unworked_rests p o, suits_less, suits_first)
 
     target_kind : (y : ℕ) (x : Object) (z : Thing) → method_class p m ≡ Some y → stands_for p x.thing z ≡ true → stands_for p z (An_object_of y) ≡ true →
@@ -378,7 +387,8 @@ module _ (p : Image) (t : Typing) (wired : IsWired p) (typed : IsTyped p t) (c :
     )
 
     -- what is known of an object on which a method of that class may work
-    target_met : (y : ℕ) (o : Option Object) (x : Object) (z : Thing) → o ≡ Some x → stands_for p x.thing z ≡ true → stands_for p z (An_object_of y) ≡ true → AllTrue (needs_target_object p (Some y) o)
+    target_met : (y : ℕ) (o : Option Object) (x : Object) (z : Thing) → o ≡ Some x → stands_for p x.thing z ≡ true → stands_for p z (An_object_of y) ≡ true →
+        AllTrue (needs_target_object p (Some y) o)
     target_met y o x z e a b = grind (arith, nat_tests, stands_along p x.thing z (An_object_of y) a b)
 
     target_holder : (y : ℕ) (x : Object) (z : Thing) →
@@ -391,7 +401,8 @@ module _ (p : Image) (t : Typing) (wired : IsWired p) (typed : IsTyped p t) (c :
         of_family A_message stands = cc
 
     -- a construct method works on a fresh object, another on a ready one
-    age_of : (k : Kind) → AllTrue (age_need p m (is_construct (method_role p m)) k ∷ []) → (method_role p m ≡ Some Do) ⊎ ((method_role p m ≡ Some Construct) × (is_fresh_kind k ≡ true))
+    age_of : (k : Kind) → AllTrue (age_need p m (is_construct (method_role p m)) k ∷ []) →
+        (method_role p m ≡ Some Do) ⊎ ((method_role p m ≡ Some Construct) × (is_fresh_kind k ≡ true))
     age_of k n = grind (arith, nat_tests)
 
     -- what a register owns
@@ -448,14 +459,16 @@ module _ (p : Image) (t : Typing) (wired : IsWired p) (typed : IsTyped p t) (c :
           fits : (x : Place) → Fits p (seen cs) (held cs x) (filling p t fr ls depth deep (declared p cs) regs readied_shape x)
           fits x = rw (under p t fr ls depth deep (declared p cs) after_arguments regs r (readied (register after_arguments r)) x) (go (same_place q x) refl)
             where
-              go : (b : Bool) → same_place q x ≡ b → Fits p (seen cs) (held cs x) (cond b (readied (register after_arguments r)) (filling p t fr ls depth deep (declared p cs) regs after_arguments x))
+              go : (b : Bool) → same_place q x ≡ b → Fits p (seen cs) (held cs x)
+                  (cond b (readied (register after_arguments r)) (filling p t fr ls depth deep (declared p cs) regs after_arguments x))
               go true e = subst (λ k. Fits p (seen cs) (held cs x) k) (sym now_ready)
                   (subst (λ w. Fits p (seen cs) w (Own z Ready)) (sym (ap (λ w. held cs w) (sym (same_place-true q x e)) ∙ there)) (owned.2, tt))
               go false e = passed.fits x
 
           u : Untouched p (λ f. filled (field_thing p (thing_holder owned.0.thing) f) Perhaps) owned.0.name (Method fr readied_shape ∷ ls)
-          u = untouched_method p t cs q owned.0 passed.tidy there (λ f. filled (field_thing p (thing_holder owned.0.thing) f) Perhaps) fr readied_shape ls (λ x from e. tt) (omega arith) passed.housed
-              (untouched p t cs q owned.0 passed.tidy there (λ f. filled (field_thing p (thing_holder owned.0.thing) f) Perhaps) ls (Returns fr.method fr.home) (omega arith) passed.stack)
+          u = untouched_method p t cs q owned.0 passed.tidy there (λ f. filled (field_thing p (thing_holder owned.0.thing) f) Perhaps) fr readied_shape ls
+              (λ x from e. tt) (omega arith) passed.housed (untouched p t cs q owned.0 passed.tidy there
+              (λ f. filled (field_thing p (thing_holder owned.0.thing) f) Perhaps) ls (Returns fr.method fr.home) (omega arith) passed.stack)
 
           apart_so : (k : ℕ) → IsApart p (thing_view owned.0.thing) k (Inside owned.0 q) (Method fr readied_shape ∷ ls)
           apart_so k = (tt, u.none_in, (λ f some. u.unclaimed f, tt), inr u.unworked)
@@ -463,7 +476,8 @@ module _ (p : Image) (t : Typing) (wired : IsWired p) (typed : IsTyped p t) (c :
           owning : (i : ℕ) → is_unowning (register readied_shape i) ≡ is_unowning (register after_arguments i)
           owning i = ap is_unowning (at-put_at Unset after_arguments.registers r i (readied (register after_arguments r))) ∙ go (r == i) refl
             where
-              go : (b : Bool) → (r == i) ≡ b → is_unowning (cond b (readied (register after_arguments r)) (register after_arguments i)) ≡ is_unowning (register after_arguments i)
+              go : (b : Bool) → (r == i) ≡ b →
+                  is_unowning (cond b (readied (register after_arguments r)) (register after_arguments i)) ≡ is_unowning (register after_arguments i)
               go true e = grind (arith, nat_tests, now_ready, eqb-true r i e, same_kind)
               go false e = refl
 
@@ -491,7 +505,8 @@ module _ (p : Image) (t : Typing) (wired : IsWired p) (typed : IsTyped p t) (c :
           there = there;
           lives = lives;
           below = below fr.home refl;
-          ready = ap is_ready_kind (claim_field p (λ x. Null) fr after_arguments ls fr.home f refl (houses_field p _ _ f at_hand.good.stack.1.holder own) some) ∙ filled_ready _ _;
+          ready = ap is_ready_kind
+              (claim_field p (λ x. Null) fr after_arguments ls fr.home f refl (houses_field p _ _ f at_hand.good.stack.1.holder own) some) ∙ filled_ready _ _;
         };
         apart = apart_so;
         holder = target_holder y kept_in.0 z class kept_in.2 for;
@@ -558,7 +573,8 @@ module _ (p : Image) (t : Typing) (wired : IsWired p) (typed : IsTyped p t) (c :
       claimed : (d : Place → Kind) → claim p d (Method fr sh ∷ ls) pile ≡ entry_kind (at Pushed_operation sh.entries k)
       claimed d = grind (arith, nat_tests, high, entry_claimed sh.entries)
 
-      anew : (d : Place → Kind) (j : ℕ) → claim p d (Method fr readied_pile ∷ ls) (Entry j) ≡ cond (index == j) (Own z Ready) (claim p d (Method fr after_arguments ∷ ls) (Entry j))
+      anew : (d : Place → Kind) (j : ℕ) →
+          claim p d (Method fr readied_pile ∷ ls) (Entry j) ≡ cond (index == j) (Own z Ready) (claim p d (Method fr after_arguments ∷ ls) (Entry j))
       anew d j = grind (arith, nat_tests, same_entries, readied_claim sh.entries, high)
 
       piled : (o : Object) × (held s.cells pile ≡ Some o) × (stands_for p o.thing z ≡ true)
@@ -600,7 +616,8 @@ module _ (p : Image) (t : Typing) (wired : IsWired p) (typed : IsTyped p t) (c :
           fits (Register f i) = passed.fits (Register f i)
           fits (Entry j) = subst (λ k. Fits p (seen cs) (held cs (Entry j)) k) (sym (anew (declared p cs) j)) (go (index == j) refl)
             where
-              go : (b : Bool) → (index == j) ≡ b → Fits p (seen cs) (held cs (Entry j)) (cond b (Own z Ready) (claim p (declared p cs) (Method fr after_arguments ∷ ls) (Entry j)))
+              go : (b : Bool) → (index == j) ≡ b →
+                  Fits p (seen cs) (held cs (Entry j)) (cond b (Own z Ready) (claim p (declared p cs) (Method fr after_arguments ∷ ls) (Entry j)))
               go true e = subst (λ w. Fits p (seen cs) w (Own z Ready)) (sym (ap (λ n. held cs (Entry n)) (sym (eqb-true index j e)) ∙ there)) (piled.2, tt)
               go false e = passed.fits (Entry j)
           fits (Field n f) = grind (arith, nat_tests)
@@ -609,8 +626,9 @@ module _ (p : Image) (t : Typing) (wired : IsWired p) (typed : IsTyped p t) (c :
           fits (Going j) = passed.fits (Going j)
 
           u : Untouched p (λ f. filled (field_thing p (thing_holder piled.0.thing) f) Perhaps) piled.0.name (Method fr readied_pile ∷ ls)
-          u = untouched_method p t cs pile piled.0 passed.tidy there (λ f. filled (field_thing p (thing_holder piled.0.thing) f) Perhaps) fr readied_pile ls (λ x from e. tt) deeper passed.housed
-              (untouched p t cs pile piled.0 passed.tidy there (λ f. filled (field_thing p (thing_holder piled.0.thing) f) Perhaps) ls (Returns fr.method fr.home) deeper passed.stack)
+          u = untouched_method p t cs pile piled.0 passed.tidy there (λ f. filled (field_thing p (thing_holder piled.0.thing) f) Perhaps) fr readied_pile ls
+              (λ x from e. tt) deeper passed.housed (untouched p t cs pile piled.0 passed.tidy there
+              (λ f. filled (field_thing p (thing_holder piled.0.thing) f) Perhaps) ls (Returns fr.method fr.home) deeper passed.stack)
 
           apart_so : (k : ℕ) → IsApart p (thing_view piled.0.thing) k (Inside piled.0 pile) (Method fr readied_pile ∷ ls)
           apart_so k = (tt, u.none_in, (λ f some. u.unclaimed f, tt), inr u.unworked)
@@ -636,14 +654,14 @@ module _ (p : Image) (t : Typing) (wired : IsWired p) (typed : IsTyped p t) (c :
           where
             of : (method_role p m ≡ Some Do) ⊎ (method_role p m ≡ Some Construct) → Starts o
             of (inl r) = inl r
-            of (inr r) = inr (r, raised p t wired s fr sh ls at_hand m r n.1 cs after_arguments (moved_fields xs first sh) o from at (λ f. passed.fits (Field o.name f)))
+            of (inr r) =
+                inr (r, raised p t wired s fr sh ls at_hand m r n.1 cs after_arguments (moved_fields xs first sh) o from at (λ f. passed.fits (Field o.name f)))
 
         go : (own : Option ℕ) → method_class p fr.method ≡ own → Answer ended This
         go None f = let clash : false ≡ true = sym (ap (λ x. stands_here p x (method_class p m)) f ∙ ap (λ x. stands_here p None x) e) ∙ n.0 in cc
         go (Some y) f =
             let stands : stands_for p (An_object_of y) (An_object_of k) ≡ true = sym (grind (arith, nat_tests)) ∙ n.0 in
-            let own_holder : holder_of p fr.method ≡ Member y =
-            ap (λ x. holder_by (method_role p fr.method) x) f
+            let own_holder : holder_of p fr.method ≡ Member y = ap (λ x. holder_by (method_role p fr.method) x) f
             ∙ holder_member (method_role p fr.method) y (λ r. let clash : Some y ≡ None = sym f ∙ wired.static_main fr.method r in cc) in
             let houses = at_hand.good.stack.1.holder.member y own_holder in
             let counts = at_hand.good.stack.1.view in
@@ -656,7 +674,8 @@ module _ (p : Image) (t : Typing) (wired : IsWired p) (typed : IsTyped p t) (c :
               (
                 (ap (λ k. works_on p k fr.view) e ∙ ap (λ v. works_on p (Some k) v) viewed.1 ∙ fits, (parents_met p t wired s fr sh ls at_hand m (is_construct (method_role p m)) n.1, tt)),
                 subst (λ x. Entering ended (own_home x fr.home) (own_view x fr.view) (while_called This x ended after_arguments)) (sym e)
-                    (subst (λ h. Entering ended h fr.view (worked ended)) (sym w.2) (on_own ended k houses.0 w.0 w.1 w.2 w.3 above e (starts w.0 w.1 w.2) (grind (arith, nat_tests)))),
+                    (subst (λ h. Entering ended h fr.view (worked ended)) (sym w.2)
+                    (on_own ended k houses.0 w.0 w.1 w.2 w.3 above e (starts w.0 w.1 w.2) (grind (arith, nat_tests)))),
               ),
               subst (λ x. CountsAs p (home_holder (own_home x fr.home)) (own_view x fr.view) (holder_of p m)) (sym e)
                   (subst (λ x. CountsAs p (home_holder fr.home) x (holder_of p m)) (sym viewed.1) (record {
@@ -698,8 +717,7 @@ module _ (p : Image) (t : Typing) (wired : IsWired p) (typed : IsTyped p t) (c :
         let declared_there = something (field_thing p (holder_of p fr.method) f) (field sh f) in
         let v = own_for p (An_object_of y) (filled (field_thing p (holder_of p fr.method) f) (field sh f)) (grind (arith, nat_tests)) in
         let same : kind ≡ filled (field_thing p (holder_of p fr.method) f) (field sh f) = grind (arith, nat_tests, houses_field) in
-        let w =
-        own_for p (An_object_of y) kind (grind (arith, nat_tests)) in
+        let w = own_for p (An_object_of y) kind (grind (arith, nat_tests)) in
         let there = something (field_thing p (home_holder fr.home) f) (field sh f) w.0 w.1 w.2 in
         let does_so = ready (field_thing p (holder_of p fr.method) f) (field sh f) (age_of (filled (field_thing p (holder_of p fr.method) f) (field sh f)) n.1) in
         let own = declared_there v.0 v.1 v.2 in
@@ -712,7 +730,8 @@ module _ (p : Image) (t : Typing) (wired : IsWired p) (typed : IsTyped p t) (c :
         something x y z a e = grind arith
 
         -- what a field owns is ready
-        ready : (x : Option Thing) (y : Filling) → (method_role p m ≡ Some Do) ⊎ ((method_role p m ≡ Some Construct) × (is_fresh_kind (filled x y) ≡ true)) → method_role p m ≡ Some Do
+        ready : (x : Option Thing) (y : Filling) → (method_role p m ≡ Some Do) ⊎ ((method_role p m ≡ Some Construct) × (is_fresh_kind (filled x y) ≡ true)) →
+            method_role p m ≡ Some Do
         ready x y (inl role) = role
         ready (Some x) Empty (inr w) = let clash : false ≡ true = w.1 in cc
         ready _ _ (inr w) = let clash : false ≡ true = w.1 in cc

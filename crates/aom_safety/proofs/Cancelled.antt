@@ -45,7 +45,8 @@ module _ (p : Image) (t : Typing) (c : Choice) (s : State) (fr fr2 : Frame) (sh 
   others : (n : ℕ) → works_at n fr.home ≡ false → requested cells_then n ≡ requested s.cells n
   others n off = grind (arith, nat_tests, requested_there s.cells)
 
-  here : (o : Object) (from : Place) → fr.home ≡ Inside o from → named s.cells o.name ≡ Some o → requested cells_then o.name ≡ on_request cancelled (requested s.cells o.name)
+  here : (o : Object) (from : Place) → fr.home ≡ Inside o from → named s.cells o.name ≡ Some o →
+      requested cells_then o.name ≡ on_request cancelled (requested s.cells o.name)
   here o from e lives = rw e (requested_here s.cells o.name (on_request cancelled (requested s.cells o.name)) o lives)
 
   suits : AllSuit p cells_then below
@@ -57,11 +58,12 @@ module _ (p : Image) (t : Typing) (c : Choice) (s : State) (fr fr2 : Frame) (sh 
       let done : IsTrue (has cancel_done sh.states) = ap (λ b. only_if b (has cancel_done sh.states)) (sym cancels) ∙ r.cancels in
       let then : Option Request = on_request cancelled (requested s.cells o.name) in
       let is_idle = cancel_ends (thing_kind p o.thing) (known_at p fr sh.states (states_claim p o below)) (requested s.cells o.name) done h in
-      rw (here o from e holds.lives) (rejoins_caller p o fr2 sh2 idle ls idle then apart.3 (λ w. rw (ap (λ b. cond b idle (after_of p fr.method)) cancels) at (well w)) (has_itself idle) refl
-      (rw alone is_idle)))
+      rw (here o from e holds.lives) (rejoins_caller p o fr2 sh2 idle ls idle then apart.3
+      (λ w. rw (ap (λ b. cond b idle (after_of p fr.method)) cancels) at (well w)) (has_itself idle) refl (rw alone is_idle)))
 
   -- what the layers below claim to be fresh is another object
-  unworked : (q : Place) (x : Object) → held s.cells q ≡ Some x → is_ready_kind (claim p (declared p s.cells) below q) ≡ false → requested cells_then x.name ≡ requested s.cells x.name
+  unworked : (q : Place) (x : Object) → held s.cells q ≡ Some x → is_ready_kind (claim p (declared p s.cells) below q) ≡ false →
+      requested cells_then x.name ≡ requested s.cells x.name
   unworked q x at fresh = others x.name (go fr.home refl)
     where
       go : (h : Home) → fr.home ≡ h → works_at x.name h ≡ false

@@ -119,14 +119,16 @@ module _ (p : Image) (t : Typing) (wired : IsWired p) (typed : IsTyped p t) (c :
   request = own_request s.cells fr.home
 
   -- a request that is not active is left alone
-  stays : IsTrue (has active_states (state_of request)) → in_phase is_active request ≡ false → WellTyped p t (applied p fr (tasks_of ls) s (cancels_if fr false None))
+  stays : IsTrue (has active_states (state_of request)) → in_phase is_active request ≡ false →
+      WellTyped p t (applied p fr (tasks_of ls) s (cancels_if fr false None))
   stays within inactive =
       let listed = active_listed (own_kind p fr.method) is_kind in
       let states = once_cancelled sh.states in
       let sh' : Shape = record sh { states = states } in
       let here = suits_in (own_kind p fr.method) (its p t (main_of_none p wired) c s fr sh ls at_hand listed sh.states) request listed it.suits in
       let known = stays_cancelled sh.states (state_of request) (grind (arith, nat_tests, has_common, rests_only)) in
-      let less : SaysNoMore (after_cancel sh) sh' = record { registers = λ i. alike; fields = λ i. unknown_at i (field sh i); entries = refl; states = has_itself states; delivery = refl } in
+      let less : SaysNoMore (after_cancel sh) sh' =
+      record { registers = λ i. alike; fields = λ i. unknown_at i (field sh i); entries = refl; states = has_itself states; delivery = refl } in
       well p t c s fr sh ls at_hand _ (next fr) sh' refl at_hand.items at_hand.undos
       (settle p t s.cells (next fr) sh' ls (stepped p t s.cells fr sh' ls (learned p t (main_of_none p wired) c s fr sh ls at_hand listed states known))
       (leads.0, leads.1, transitive leads.0 (after_cancel sh) sh' leads.2 less))
@@ -151,7 +153,8 @@ module _ (p : Image) (t : Typing) (wired : IsWired p) (typed : IsTyped p t) (c :
     class : (v : ℕ) × (fr.view ≡ Some v) × (role_of p v Cancel_role ≡ Some m)
     class = cancelled_view p fr.view m its_method
 
-    between : (c : ℕ) × (home_holder fr.home ≡ Member c) × (descends p c class.0 ≡ true) × (d : ℕ) × (holder_of p fr.method ≡ Member d) × (descends p class.0 d ≡ true)
+    between : (c : ℕ) × (home_holder fr.home ≡ Member c) × (descends p c class.0 ≡ true) × (d : ℕ) × (holder_of p fr.method ≡ Member d)
+        × (descends p class.0 d ≡ true)
     between = at_hand.good.stack.1.view.between class.0 class.1
 
     abbrev role : method_role p m ≡ Some Cancel_role
@@ -184,7 +187,8 @@ module _ (p : Image) (t : Typing) (wired : IsWired p) (typed : IsTyped p t) (c :
     unready : (q : Place) (x : Object) → held s.cells q ≡ Some x → is_ready_kind (claim p (declared p s.cells) over q) ≡ false → (o.name == x.name) ≡ false
     unready q x at fresh = ne_eqb o.name x.name (λ n.
         let same : it.from ≡ q = one_place s.cells it.from q o x at_hand.good.tidy holds.there at n in
-        let ready = ap is_ready_kind (claim_from p (declared p s.cells) fr o it.from sh' ls it.home apart.0 holds.below) ∙ claim_ready p s.cells ls it.from holds.ready in
+        let ready = ap is_ready_kind (claim_from p (declared p s.cells) fr o it.from sh' ls it.home apart.0 holds.below)
+        ∙ claim_ready p s.cells ls it.from holds.ready in
         true≢false (sym ready ∙ ap (λ q. is_ready_kind (claim p (declared p s.cells) over q)) same ∙ fresh))
 
     opened : OwnsNoMore sh' sh
@@ -225,7 +229,8 @@ module _ (p : Image) (t : Typing) (wired : IsWired p) (typed : IsTyped p t) (c :
       between = λ v e.
           let same : class.0 ≡ v = let both = sym class.1 ∙ e in cc in
           (between.0, between.1, rw same at between.2, family.class, works, rw same at family.above);
-      fields = λ f t is. ap (λ v. field_thing p (view_holder v) f) class.1 ∙ wired.family.inherits class.0 family.class f t family.above (ap (λ h. field_thing p h f) (sym works) ∙ is);
+      fields = λ f t is. ap (λ v. field_thing p (view_holder v) f) class.1
+          ∙ wired.family.inherits class.0 family.class f t family.above (ap (λ h. field_thing p h f) (sym works) ∙ is);
     }
 
     fits : (q : Place) → Fits p (seen cs') (held cs' q) (claim p (declared p cs') (Method fr' begins.0 ∷ over) q)
@@ -234,8 +239,7 @@ module _ (p : Image) (t : Typing) (wired : IsWired p) (typed : IsTyped p t) (c :
         go : (b : Bool) → (length (tasks_of over) == f) ≡ b → Fits p (seen cs') (held cs' (Register f i)) (claim p (declared p cs') over (Register f i)) →
             Fits p (seen cs') (held cs' (Register f i)) (cond b (register begins.0 i) (claim p (declared p cs') over (Register f i)))
         go true e h =
-            let none =
-            fits_unowning p (seen cs') (held cs' (Register f i)) Null refl
+            let none = fits_unowning p (seen cs') (held cs' (Register f i)) Null refl
             (subst (λ k. Fits p (seen cs') (held cs' (Register f i)) k) (claim_register_above p cs' over f i (omega (arith, eqb-true _ _ e))) h) in
             subst (λ k. Fits p (seen cs') (held cs' (Register f i)) k) (sym (unset i)) (subst (λ x. Fits p (seen cs') x Unset) (sym none) tt)
         go false e h = h
@@ -244,9 +248,9 @@ module _ (p : Image) (t : Typing) (wired : IsWired p) (typed : IsTyped p t) (c :
         subst (λ h. Fits p (seen cs') (held cs' (Field n f)) (home_claim p (holder_of p m) h begins.0 n f (claim p (declared p cs') over (Field n f))))
         (sym it.home) (go (o.name == n) refl (field_thing p (holder_of p m) f) refl)
       where
-        declares : is_some (field_thing p (view_holder fr.view) f) ≡ true → claim p (declared p cs') over (Field o.name f) ≡ filled (field_thing p (thing_holder o.thing) f) Perhaps
-        declares some =
-            claim_in_view p (declared p cs') over o.name f (λ f. filled (field_thing p (thing_holder o.thing) f) Perhaps) fr.view own_fields some
+        declares : is_some (field_thing p (view_holder fr.view) f) ≡ true →
+            claim p (declared p cs') over (Field o.name f) ≡ filled (field_thing p (thing_holder o.thing) f) Perhaps
+        declares some = claim_in_view p (declared p cs') over o.name f (λ f. filled (field_thing p (thing_holder o.thing) f) Perhaps) fr.view own_fields some
             (ap (λ y. declared_field p y f) (same_cells.named_so o.name ∙ it.lives))
 
         go : (b : Bool) → (o.name == n) ≡ b → (own : Option Thing) → field_thing p (holder_of p m) f ≡ own → Fits p (seen cs') (held cs' (Field n f))
@@ -298,14 +302,14 @@ module _ (p : Image) (t : Typing) (wired : IsWired p) (typed : IsTyped p t) (c :
             (sym is_so) (subst (λ r. Suits (own_kind p fr.method) (record { states = begins.0.states; cancelled = true }) r) (sym here) (suits_cancelling
             (own_kind p fr.method) begins.0.states (known_at p fr sh.states (states_claim p o ls)) request is_kind is_active_now begun it.suits)))
 
-        go : (b : Bool) → (o.name == x.name) ≡ b → Suits (thing_kind p x.thing) (cond b (known_at p fr' begins.0.states (upper x b)) (upper x b)) (requested cs' x.name)
+        go : (b : Bool) → (o.name == x.name) ≡ b →
+            Suits (thing_kind p x.thing) (cond b (known_at p fr' begins.0.states (upper x b)) (upper x b)) (requested cs' x.name)
         go true e = subst (λ y. Suits (thing_kind p y.thing) (known_at p fr' begins.0.states (upper y true)) (requested cs' y.name))
             (same_object s.cells o x it.lives (sym (same_cells.named_so x.name) ∙ lives) e) own_now
         go false e =
             let below : Known = states_claim p x ls in
-            let before =
-            subst (λ h. Suits (thing_kind p x.thing) (cond (works_at x.name h) (known_at p fr sh.states below) below) (requested s.cells x.name)) it.home
-            (at_hand.good.suits x (sym (same_cells.named_so x.name) ∙ lives)) in
+            let before = subst (λ h. Suits (thing_kind p x.thing) (cond (works_at x.name h) (known_at p fr sh.states below) below) (requested s.cells x.name))
+            it.home (at_hand.good.suits x (sym (same_cells.named_so x.name) ∙ lives)) in
             subst (λ r. Suits (thing_kind p x.thing) below r) (sym (others x.name e)) (grind (arith, nat_tests))
 
     -- the caller waits, and finds its object idle
@@ -313,14 +317,13 @@ module _ (p : Image) (t : Typing) (wired : IsWired p) (typed : IsTyped p t) (c :
     stands =
         let quiet = wired.cancels m role in
         let r = result_register (instr_at p fr.method fr.place) in
-        let was : IsTrue (has sh.states active) =
-        rw (active_state request is_active_now) at (suits_in (own_kind p fr.method) (known_at p fr sh.states (states_claim p o ls)) request (active_listed (own_kind p fr.method) is_kind) it.suits) in
+        let was : IsTrue (has sh.states active) = rw (active_state request is_active_now) at (suits_in (own_kind p fr.method)
+        (known_at p fr sh.states (states_claim p o ls)) request (active_listed (own_kind p fr.method) is_kind) it.suits) in
         let less : SaysNoMore (after_cancel sh) sh' = record {
           registers = λ i. alike;
           fields = λ i. alike_filling;
           entries = refl;
-          states =
-              grind (arith, nat_tests, has_second);
+          states = grind (arith, nat_tests, has_second);
           delivery = refl;
         } in
         let on : Leads t fr.method (suc fr.place) sh' = (leads.0, leads.1, transitive leads.0 (after_cancel sh) sh' leads.2 less) in (
@@ -386,7 +389,8 @@ module _ (p : Image) (t : Typing) (wired : IsWired p) (typed : IsTyped p t) (c :
       good = good;
     }
 
-module _ (p : Image) (t : Typing) (wired : IsWired p) (typed : IsTyped p t) (c : Choice) (s : State) (fr : Frame) (sh : Shape) (ls : List Layer) (at_hand : At p t s fr sh ls) where
+module _ (p : Image) (t : Typing) (wired : IsWired p) (typed : IsTyped p t) (c : Choice) (s : State) (fr : Frame) (sh : Shape) (ls : List Layer)
+    (at_hand : At p t s fr sh ls) where
   pub law_cancel : Law p t c s fr sh ls at_hand Cancel
   law_cancel n leads = ((active_home p t (main_of_none p wired) c s fr sh ls at_hand n.0, (settled_only request within, tt)), go (in_phase is_active request) (cancel_method p fr) refl refl)
     where

@@ -82,7 +82,8 @@ has_moved cs q g o there free apart = record {
   there = there;
   here = held_moved cs q g g free ∙ ap (λ b. cond b (held cs q) (cond (same_place q g) None (held cs g))) (same_place_refl g) ∙ there;
   gone = grind (arith, nat_tests, held_moved cs q g q free, same_place_refl q);
-  others = λ r n m. held_moved cs q g r free ∙ ap (λ b. cond b (held cs q) (cond (same_place q r) None (held cs r))) (differs g r m) ∙ ap (λ b. cond b None (held cs r)) (differs q r n);
+  others = λ r n m. held_moved cs q g r free ∙ ap (λ b. cond b (held cs q) (cond (same_place q r) None (held cs r))) (differs g r m)
+      ∙ ap (λ b. cond b None (held cs r)) (differs q r n);
 }
   where
     differs : (x r : Place) → r ≢ x → same_place x r ≡ false
@@ -101,14 +102,16 @@ pub record Trapping (ts : List Task) : Type 0 where
   pub lands : to_trap ts ≡ Trapped ∷ below
 
 trapping : (ts : List Task) → has_trap ts ≡ true → Trapping ts
-trapping (Run fr ∷ ts) e = let r = trapping ts e in record { methods = Run fr ∷ r.methods; below = r.below; all = ap (λ l. Run fr ∷ l) r.all; over = r.over; lands = r.lands }
+trapping (Run fr ∷ ts) e = let r = trapping ts e in
+    record { methods = Run fr ∷ r.methods; below = r.below; all = ap (λ l. Run fr ∷ l) r.all; over = r.over; lands = r.lands }
 trapping (Trapped ∷ ts) e = record { methods = []; below = ts; all = refl; over = tt; lands = refl }
 trapping _ e = cc
 
 is_there : {A : Type 0} (x : Option A) → is_some x ≡ true → (y : A) × (x ≡ Some y)
 is_there x e = grind arith
 
-module _ (p : Image) (t : Typing) (c : Choice) (fr : Frame) (ts : List Task) (s u : State) (at_hand : s.tasks ≡ Run fr ∷ ts) (w : WellTyped p t s) (keeps : WellTyped p t u) where
+module _ (p : Image) (t : Typing) (c : Choice) (fr : Frame) (ts : List Task) (s u : State) (at_hand : s.tasks ≡ Run fr ∷ ts) (w : WellTyped p t s)
+    (keeps : WellTyped p t u) where
   -- the leave is at hand over the innermost trap
   begins_at : (i : Instr) (code : ℤ) (off : Update) → has_trap ts ≡ true → applied p fr ts (counted p s) (Leaves code off) ≡ u →
       HasPushed fr (length ts) i s (applied p fr ts (counted p s) (Leaves code off)) → Begins p code fr (length ts) i s u
@@ -129,14 +132,16 @@ module _ (p : Image) (t : Typing) (c : Choice) (fr : Frame) (ts : List Task) (s 
       }
 
   -- what was to be pushed is pushed
-  pushes : (i : Instr) (code : ℤ) → AllTrue (needs p c fr ts (counted p s) i) → HasPushed fr (length ts) i s (applied p fr ts (counted p s) (Leaves code (off_of p c fr ts (counted p s) i)))
+  pushes : (i : Instr) (code : ℤ) → AllTrue (needs p c fr ts (counted p s) i) →
+      HasPushed fr (length ts) i s (applied p fr ts (counted p s) (Leaves code (off_of p c fr ts (counted p s) i)))
   pushes (Push a) code n =
       let o = is_there (held s.cells (Register (length ts) a)) n.1.0 in
       let goes = has_moved s.cells (Register (length ts) a) (Entry (length s.items)) o.0 o.1 (none_pushed_yet p t s w) refl in
       (o.0, goes, refl)
   pushes x code n = grind (arith, nat_tests, is_there)
 
-  pub begins_by : (i : Instr) (code : ℤ) → LeavesWith c fr i code → AllTrue (needs p c fr ts (counted p s) i) → does p c fr ts (counted p s) i ≡ u → Begins p code fr (length ts) i s u
+  pub begins_by : (i : Instr) (code : ℤ) → LeavesWith c fr i code → AllTrue (needs p c fr ts (counted p s) i) → does p c fr ts (counted p s) i ≡ u →
+      Begins p code fr (length ts) i s u
   begins_by i code h n e = grind (arith, nat_tests, leaves_so p c fr ts, fits p c fr ts, begins_at i code, off_of p c fr ts, pushes i code n)
 
 pub begins : (p : Image) (t : Typing) → IsWired p →
@@ -151,7 +156,8 @@ begins p t wired typed c s u w unused fr ts i code at there h e =
 none_on_its_way : (p : Image) (t : Typing) (s : State) → WellTyped p t s → (ts : List Task) → s.tasks ≡ ts → held s.cells (Going (length ts)) ≡ None
 none_on_its_way p t s w ts at = grind (arith, nat_tests, fits_unowning p, claim_going_above p s.cells w.layers)
 
-module _ (p : Image) (t : Typing) (wired : IsWired p) (s u : State) (w : WellTyped p t s) (code : ℤ) (below : List Task) (at_hand : s.tasks ≡ Unwind code ∷ below) where
+module _ (p : Image) (t : Typing) (wired : IsWired p) (s u : State) (w : WellTyped p t s) (code : ℤ) (below : List Task)
+    (at_hand : s.tasks ≡ Unwind code ∷ below) where
   -- what is made of the item on top, with these below it
   abbrev Dealt : Item → List Item → State → Type 0
   Dealt i rest v = IsOver p (length v.items) code below v.tasks × (v.items ≡ rest) × IsBegun p (Unwind code ∷ below) i (length rest) s v
@@ -168,7 +174,8 @@ module _ (p : Image) (t : Typing) (wired : IsWired p) (s u : State) (w : WellTyp
         (o.0, has_moved s.cells (Entry (length rest)) g o.0 o.1 free refl, grind (arith, nat_tests, below)),
       )
 
-  of_item : AllUndo p s.items → (i : Item) (rest es : List Item) → s.items ≡ i ∷ rest → AreEntries (i ∷ es) → unwound p code below (counted p s) (i ∷ rest) ≡ Goes u → Dealt i rest u
+  of_item : AllUndo p s.items → (i : Item) (rest es : List Item) → s.items ≡ i ∷ rest → AreEntries (i ∷ es) →
+      unwound p code below (counted p s) (i ∷ rest) ≡ Goes u → Dealt i rest u
   of_item undos (An_operation m x) rest es same plain e =
       let fr = operation_frame m x (length rest) in
       let undo = subst (λ l. AllUndo p l) same undos in
@@ -256,12 +263,14 @@ module _ (p : Image) (t : Typing) (s u : State) (code : ℤ) (items : List Item)
   below_trap (Method fr sh ∷ ls) gv es good e = subst (λ v. Arrived (Trapped ∷ Run fr ∷ tasks_of ls) v) (goes_same _ u e) (at_method fr sh ls gv es good)
   below_trap x gv es good e = grind (arith, nat_tests, goes_same)
 
-  below_leave : (ls : List Layer) (es : List CleanupEntry) → Good p t s.cells (Unwinding code es ∷ ls) → arrived p code (tasks_of ls) items (counted p s) ≡ Goes u → Arrived (tasks_of ls) u
+  below_leave : (ls : List Layer) (es : List CleanupEntry) → Good p t s.cells (Unwinding code es ∷ ls) →
+      arrived p code (tasks_of ls) items (counted p s) ≡ Goes u → Arrived (tasks_of ls) u
   below_leave (Mark gv ∷ ls) es good e = below_trap ls gv es good e
   below_leave (Dispatching d seats ∷ ls) es good e = no_dispatch p d good.stack.1.0
   below_leave _ es good e = grind arith
 
-  by_layers : (below : List Task) (ls : List Layer) → tasks_of ls ≡ Unwind code ∷ below → Good p t s.cells ls → arrived p code below items (counted p s) ≡ Goes u → Arrived below u
+  by_layers : (below : List Task) (ls : List Layer) → tasks_of ls ≡ Unwind code ∷ below → Good p t s.cells ls →
+      arrived p code below items (counted p s) ≡ Goes u → Arrived below u
   by_layers below (Unwinding x es ∷ ls) at good e = grind (arith, nat_tests, below, below_leave ls es)
   by_layers below _ at good e = cc
 

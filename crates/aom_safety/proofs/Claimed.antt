@@ -82,16 +82,19 @@ pub owns_no_more : (a b : Shape) → SaysNoMore a b → OwnsNoMore a b
 owns_no_more a b w = record { registers = w.registers; fields = w.fields; entries = w.entries; delivery = w.delivery }
 
 -- then it claims no more
-pub claim_weaker : (p : Image) (d : Place → Kind) (fr : Frame) (a b : Shape) (ls : List Layer) (r : Place) → OwnsNoMore a b → Weaker (claim p d (Method fr a ∷ ls) r) (claim p d (Method fr b ∷ ls) r)
+pub claim_weaker : (p : Image) (d : Place → Kind) (fr : Frame) (a b : Shape) (ls : List Layer) (r : Place) → OwnsNoMore a b →
+    Weaker (claim p d (Method fr a ∷ ls) r) (claim p d (Method fr b ∷ ls) r)
 claim_weaker p d fr a b ls (Register f i) w = go (length (tasks_of ls) == f)
   where
     go : (x : Bool) → Weaker (cond x (register a i) (claim p d ls (Register f i))) (cond x (register b i) (claim p d ls (Register f i)))
     go true = w.registers i
     go false = alike
-claim_weaker p d fr a b ls (Entry k) w = subst (λ es. Weaker (entry_claim a.entries (items_of ls) k (claim p d ls (Entry k))) (entry_claim es (items_of ls) k (claim p d ls (Entry k)))) w.entries alike
+claim_weaker p d fr a b ls (Entry k) w = subst (λ es. Weaker (entry_claim a.entries (items_of ls) k (claim p d ls (Entry k)))
+    (entry_claim es (items_of ls) k (claim p d ls (Entry k)))) w.entries alike
 claim_weaker p d fr a b ls (Field n f) w = go fr.home
   where
-    go : (h : Home) → Weaker (home_claim p (holder_of p fr.method) h a n f (claim p d ls (Field n f))) (home_claim p (holder_of p fr.method) h b n f (claim p d ls (Field n f)))
+    go : (h : Home) → Weaker (home_claim p (holder_of p fr.method) h a n f (claim p d ls (Field n f)))
+        (home_claim p (holder_of p fr.method) h b n f (claim p d ls (Field n f)))
     go Static = alike
     go AtRoot = alike
     go (Inside o from) = inside (o.name == n)
@@ -122,7 +125,8 @@ word_fits_weaker w unset_null f = tt
 word_fits_weaker w _ f = f
 
 -- fresh cells stay fresh where no field of theirs is filled, and none is enlisted
-pub fits_age : (p : Image) (h h' : Sight) (o : Option Object) (k : Kind) → ((x : Object) → o ≡ Some x → is_ready_kind k ≡ false → HasAge h x Fresh → HasAge h' x Fresh) → Fits p h o k → Fits p h' o k
+pub fits_age : (p : Image) (h h' : Sight) (o : Option Object) (k : Kind) →
+    ((x : Object) → o ≡ Some x → is_ready_kind k ≡ false → HasAge h x Fresh → HasAge h' x Fresh) → Fits p h o k → Fits p h' o k
 fits_age p h h' x y g f = grind arith
 
 -- a thing and its claim move together
@@ -133,9 +137,8 @@ pub keep_fits : (image : Image) (h h' : Sight) (k k' : Place → Kind) (p q : Pl
 keep_fits image h h' k k' p q eh requests ek apart fits r = rw (eh r) (rw (ek r) (go (same_place q r) (same_place p r)))
   where
     null : (s : Place) (x : Object) → h.holds s ≡ Some x → is_ready_kind (k s) ≡ false → (f : ℕ) → h.holds (Field x.name f) ≡ None → h'.holds (Field x.name f) ≡ None
-    null s x e fresh f n =
-        eh (Field x.name f) ∙ ap (λ b. cond b (h.holds p) (cond (same_place p (Field x.name f)) None (h.holds (Field x.name f)))) (apart s x e fresh f)
-        ∙ ap (λ v. cond (same_place p (Field x.name f)) None v) n ∙ both (same_place p (Field x.name f))
+    null s x e fresh f n = eh (Field x.name f) ∙ ap (λ b. cond b (h.holds p) (cond (same_place p (Field x.name f)) None (h.holds (Field x.name f))))
+        (apart s x e fresh f) ∙ ap (λ v. cond (same_place p (Field x.name f)) None v) n ∙ both (same_place p (Field x.name f))
       where
         both : (b : Bool) → ◌≡◌ {A = Option Object} (cond b None None) None
         both true = refl
@@ -188,7 +191,8 @@ no_seat_outside x d seats ls h = grind arith
 pub outside_differs : (q from : Place) (ls : List Layer) → Outside q ls → NoFieldHere q from → IsBelow from ls → same_place q from ≡ false
 outside_differs q from ls h n b = grind (arith, nat_tests, cases_Bool, same_place-true q from, NoFieldHere q)
 
-pub no_field_here : (q : Place) (fr : Frame) (o : Object) (from : Place) (sh : Shape) (ls : List Layer) → fr.home ≡ Inside o from → Outside q (Method fr sh ∷ ls) → NoFieldHere q from
+pub no_field_here : (q : Place) (fr : Frame) (o : Object) (from : Place) (sh : Shape) (ls : List Layer) → fr.home ≡ Inside o from →
+    Outside q (Method fr sh ∷ ls) → NoFieldHere q from
 no_field_here x fr o from sh ls e h = grind arith
 
 pub holds_moved : (p : Image) (cs : List Cell) (a b : Place) (ls : List Layer) (o : Object) (from : Place) →
@@ -245,7 +249,8 @@ cond_rel : (R : Kind → Kind → Type 0) → ((k : Kind) → R k k) → (b : Bo
 cond_rel R same true z x y h = same z
 cond_rel R same false z x y h = h
 
-entry_rel : (R : Kind → Kind → Type 0) → ((k : Kind) → R k k) → (es : List CleanupEntry) (items : List Form) (k : ℕ) (x y : Kind) → R x y → R (entry_claim es items k x) (entry_claim es items k y)
+entry_rel : (R : Kind → Kind → Type 0) → ((k : Kind) → R k k) → (es : List CleanupEntry) (items : List Form) (k : ℕ) (x y : Kind) → R x y →
+    R (entry_claim es items k x) (entry_claim es items k y)
 entry_rel R same [] items k x y h = h
 entry_rel R same (z ∷ es) items k x y h = cond_rel R same (length (objects es items) == k) (entry_kind z) _ _ (entry_rel R same es items k x y h)
 
@@ -263,8 +268,7 @@ home_rel R same p k (Inside o from) sh n f x y h = go (o.name == n)
     go true = own_rel R same (field_thing p k f) (field sh f) x y h
     go false = h
 
-pub layer_rel :
-    (R : Kind → Kind → Type 0) → ((k : Kind) → R k k) → (p : Image) (l : Layer) (depth : ℕ) (items : List Form) (r : Place) (x y : Kind) → R x y →
+pub layer_rel : (R : Kind → Kind → Type 0) → ((k : Kind) → R k k) → (p : Image) (l : Layer) (depth : ℕ) (items : List Form) (r : Place) (x y : Kind) → R x y →
     R (layer_claim p l depth items r x) (layer_claim p l depth items r y)
 layer_rel R same p (Method fr sh) depth items (Register f i) x y h = cond_rel R same (depth == f) (register sh i) x y h
 layer_rel R same p l depth items (Entry k) x y h = entry_rel R same (entries_of l) items k x y h
@@ -284,7 +288,8 @@ layer_rel R same p (Mark gv) depth items (Elsewhere Root) x y h = h
 layer_rel R same p (Unwinding code es) depth items (Elsewhere Root) x y h = h
 layer_rel R same p _ depth items _ x y h = h
 
-pub claim_rel : (R : Kind → Kind → Type 0) → ((k : Kind) → R k k) → (p : Image) (d d' : Place → Kind) (ls : List Layer) (r : Place) → R (d r) (d' r) → R (claim p d ls r) (claim p d' ls r)
+pub claim_rel : (R : Kind → Kind → Type 0) → ((k : Kind) → R k k) → (p : Image) (d d' : Place → Kind) (ls : List Layer) (r : Place) → R (d r) (d' r) →
+    R (claim p d ls r) (claim p d' ls r)
 claim_rel R same p d d' [] r h = h
 claim_rel R same p d d' (l ∷ ls) r h = layer_rel R same p l _ _ r _ _ (claim_rel R same p d d' ls r h)
 
@@ -292,13 +297,14 @@ pub declared_ready : (p : Image) (cs : List Cell) (r : Place) → is_ready_kind 
 declared_ready p cs x = grind (arith, nat_tests)
 
 -- declared fields are ready, so that a claim which is ready with nothing declared is ready
-pub claim_ready : (p : Image) (cs : List Cell) (ls : List Layer) (r : Place) → is_ready_kind (claim p (λ x. Null) ls r) ≡ true → is_ready_kind (claim p (declared p cs) ls r) ≡ true
-claim_ready p cs ls r e = claim_rel (λ x y. is_ready_kind x ≡ true → is_ready_kind y ≡ true) (λ k h. h) p (λ x. Null) (declared p cs) ls r (λ h. declared_ready p cs r) e
+pub claim_ready : (p : Image) (cs : List Cell) (ls : List Layer) (r : Place) → is_ready_kind (claim p (λ x. Null) ls r) ≡ true →
+    is_ready_kind (claim p (declared p cs) ls r) ≡ true
+claim_ready p cs ls r e =
+    claim_rel (λ x y. is_ready_kind x ≡ true → is_ready_kind y ≡ true) (λ k h. h) p (λ x. Null) (declared p cs) ls r (λ h. declared_ready p cs r) e
 
 -- of a cell that is not there nothing is claimed but what is declared
-pub claim_unnamed :
-    (p : Image) (t : Typing) (cs : List Cell) (d : Place → Kind) (ls : List Layer) (back : Back) (n f : ℕ) → Stack p t cs back ls → named cs n ≡ None →
-    claim p d ls (Field n f) ≡ d (Field n f)
+pub claim_unnamed : (p : Image) (t : Typing) (cs : List Cell) (d : Place → Kind) (ls : List Layer) (back : Back) (n f : ℕ) → Stack p t cs back ls →
+    named cs n ≡ None → claim p d ls (Field n f) ≡ d (Field n f)
 claim_unnamed p t cs d [] back n f s e = refl
 claim_unnamed p t cs d (Method fr sh ∷ ls) back n f s e = grind (arith, nat_tests, claim_unnamed p t cs d ls (Returns fr.method fr.home) n f s.4 e, ne_eqb)
 claim_unnamed p t cs d (Mark gv ∷ ls) back n f s e = claim_unnamed p t cs d ls (Caught gv) n f s.1 e
@@ -314,7 +320,8 @@ claim_register_above p cs (Method fr sh ∷ ls) f i le = grind (arith, nat_tests
 claim_register_above p cs (_ ∷ ls) f i le = claim_register_above p cs ls f i (omega arith)
 
 -- of a cell of which the layers claim nothing more
-pub claim_unclaimed : (p : Image) (d : Place → Kind) (ls : List Layer) (n f : ℕ) (k : ℕ → Kind) → Unclaimed p k n ls → d (Field n f) ≡ k f → claim p d ls (Field n f) ≡ k f
+pub claim_unclaimed : (p : Image) (d : Place → Kind) (ls : List Layer) (n f : ℕ) (k : ℕ → Kind) → Unclaimed p k n ls → d (Field n f) ≡ k f →
+    claim p d ls (Field n f) ≡ k f
 claim_unclaimed p d ls n f k u e = claim_rel (λ x y. x ≡ y) (λ k. refl) p d (by_field k) ls (Field n f) e ∙ u f
 
 -- of a field that the cell has as what it counts as

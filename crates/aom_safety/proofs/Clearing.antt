@@ -43,7 +43,8 @@ no_trap p height code below (Run fr ∷ ts) o e = no_trap p height code below ts
 no_trap p height code below x o e = grind arith
 
 -- a destruction begins over it
-destructs_over : (p : Image) → IsWired p → (o : Object) (height : ℕ) (code : ℤ) (below ts : List Task) → IsOver p height code below ts → IsOver p height code below (destructed p o height ts)
+destructs_over : (p : Image) → IsWired p → (o : Object) (height : ℕ) (code : ℤ) (below ts : List Task) → IsOver p height code below ts →
+    IsOver p height code below (destructed p o height ts)
 destructs_over p wired o height code below ts h = grind (arith, nat_tests, destroys p wired o.thing)
 
 -- and the next of its line
@@ -61,7 +62,8 @@ line_over p wired m (Inside o from) height code below ts h = go (parent_by p (me
     go None = h
     go (Some x) = of_role x (role_of p x Destruct) refl
 
-pub begins_over : (p : Image) → IsWired p → (o : Object) (height : ℕ) (code : ℤ) (below ts : List Task) → IsOver p height code below ts → IsOver p height code below (begun p o height ts)
+pub begins_over : (p : Image) → IsWired p → (o : Object) (height : ℕ) (code : ℤ) (below ts : List Task) → IsOver p height code below ts →
+    IsOver p height code below (begun p o height ts)
 begins_over p wired o height code below ts h = grind (arith, nat_tests, destructs_over p wired o height code below ts h)
 
 -- a method that stands at the height at which it began has no entry

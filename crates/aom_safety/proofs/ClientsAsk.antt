@@ -81,13 +81,13 @@ pub listed_serves : (p : Image) (class n : ℕ) (x : Thing) → is_of_class clas
 listed_serves p class n x of room = grind (arith, eqb-true, takes_some)
 
 -- and so it has a seat left
-pub listed_room :
-    (p : Image) (class : ℕ) (v : Service) (x : Thing) → is_of_class class x ≡ true → nat_lt (seats_taken v) (most_of (kind_of p (Some class))) ≡ true →
-    seats_taken v < most_of (thing_kind p x)
+pub listed_room : (p : Image) (class : ℕ) (v : Service) (x : Thing) → is_of_class class x ≡ true →
+    nat_lt (seats_taken v) (most_of (kind_of p (Some class))) ≡ true → seats_taken v < most_of (thing_kind p x)
 listed_room p class v x of room = grind (arith, eqb-true, ltb-true)
 
 -- a connect that is not refused
-pub asked_none : (r : Option CommandRefusal) (most : ℕ) (x : Listed) (cs : List Cell) → asked_of r most (Some x) cs ≡ None → (r ≡ None) × (nat_lt (seats_taken (service_of cs x.name)) most ≡ true)
+pub asked_none : (r : Option CommandRefusal) (most : ℕ) (x : Listed) (cs : List Cell) → asked_of r most (Some x) cs ≡ None →
+    (r ≡ None) × (nat_lt (seats_taken (service_of cs x.name)) most ≡ true)
 asked_none y most x cs e = grind arith
 
 pub connects_free : (k : Client) → (row k).connect ≡ None → IsFree k
@@ -99,39 +99,41 @@ module _ (p : Image) (clients : List Client) (cs : List Cell) (fit : ClientsFit 
   -- which is of its sender, where it is a message
   senders_asked : (e : Asked) → ((d m : ℕ) → is_message_of d m e ≡ true → is_from d (service_of cs m).sender ≡ true) →
       (d m : ℕ) → list_any (is_message_of d m) (asked_last e (service_of cs o.name)).queue ≡ true → is_from d (service_of cs m).sender ≡ true
-  senders_asked e own d m h = last d m (list_any (is_message_of d m) (service_of cs o.name).queue) refl (sym (list_any-append (is_message_of d m) (service_of cs o.name).queue (e ∷ [])) ∙ h)
+  senders_asked e own d m h = last d m (list_any (is_message_of d m) (service_of cs o.name).queue) refl
+      (sym (list_any-append (is_message_of d m) (service_of cs o.name).queue (e ∷ [])) ∙ h)
     where
-      last : (d m : ℕ) (b : Bool) → list_any (is_message_of d m) (service_of cs o.name).queue ≡ b → (b || (is_message_of d m e || false)) ≡ true → is_from d (service_of cs m).sender ≡ true
+      last : (d m : ℕ) (b : Bool) → list_any (is_message_of d m) (service_of cs o.name).queue ≡ b → (b || (is_message_of d m e || false)) ≡ true →
+          is_from d (service_of cs m).sender ≡ true
       last d m true at h = fit.senders o.name d m at
       last d m false at h = own d m (sym (or-false (is_message_of d m e)) ∙ h)
 
   -- with clients that are at what they were
-  pub fit_asked :
-      is_server p o.thing ≡ true → is_some (requested cs o.name) ≡ true → (e : Asked) → EntryFits clients o.name e → list_any (asked_again e) (service_of cs o.name).queue ≡ false →
-      ((d m : ℕ) → is_message_of d m e ≡ true → is_from d (service_of cs m).sender ≡ true) → seats_taken (asked_last e (service_of cs o.name)) ≤ most_of (thing_kind p o.thing) →
-      ClientsFit p clients (reserved (asked_last e) o.name cs)
-  fit_asked serves listed e entry new own room = fit_reserved p clients cs fit o lives serves listed (asked_last e) clients refl refl
-      (by_server cs o lives (asked_last e) (λ n v. QueueFits clients n v.queue) (queue_last clients o.name e (service_of cs o.name).queue entry new (fit.queues o.name)) (λ n other. fit.queues n))
-      (by_server cs o lives (asked_last e) (λ n v. (d : ℕ) → has_session v d ≡ true → server_of (client_at clients d) ≡ Some n) (fit.sessions o.name) (λ n other. fit.sessions n))
-      (by_server cs o lives (asked_last e) (λ n v. (d : ℕ) → server_of (client_at clients d) ≡ Some n → has_session v d ≡ true) (fit.listed o.name) (λ n other. fit.listed n))
-      (senders_asked e own) room
+  pub fit_asked : is_server p o.thing ≡ true → is_some (requested cs o.name) ≡ true → (e : Asked) → EntryFits clients o.name e →
+      list_any (asked_again e) (service_of cs o.name).queue ≡ false → ((d m : ℕ) → is_message_of d m e ≡ true → is_from d (service_of cs m).sender ≡ true) →
+      seats_taken (asked_last e (service_of cs o.name)) ≤ most_of (thing_kind p o.thing) → ClientsFit p clients (reserved (asked_last e) o.name cs)
+  fit_asked serves listed e entry new own room = fit_reserved p clients cs fit o lives serves listed (asked_last e) clients refl refl (by_server cs o lives
+      (asked_last e) (λ n v. QueueFits clients n v.queue) (queue_last clients o.name e (service_of cs o.name).queue entry new (fit.queues o.name))
+      (λ n other. fit.queues n)) (by_server cs o lives (asked_last e) (λ n v. (d : ℕ) → has_session v d ≡ true → server_of (client_at clients d) ≡ Some n)
+      (fit.sessions o.name) (λ n other. fit.sessions n)) (by_server cs o lives (asked_last e) (λ n v. (d : ℕ) → server_of (client_at clients d) ≡ Some n →
+      has_session v d ≡ true) (fit.listed o.name) (λ n other. fit.listed n)) (senders_asked e own) room
 
-module _ (p : Image) (clients : List Client) (cs : List Cell) (fit : ClientsFit p clients cs) (o : Object) (lives : named cs o.name ≡ Some o) (serves : is_server p o.thing ≡ true)
-    (listed : is_some (requested cs o.name) ≡ true) (c : ℕ) where
+module _ (p : Image) (clients : List Client) (cs : List Cell) (fit : ClientsFit p clients cs) (o : Object) (lives : named cs o.name ≡ Some o)
+    (serves : is_server p o.thing ≡ true) (listed : is_some (requested cs o.name) ≡ true) (c : ℕ) where
   -- ---- a connect
 
   pub fit_connecting : (slots : ℕ) → IsFree (client_at clients c) → seats_taken (service_of cs o.name) < most_of (thing_kind p o.thing) →
       ClientsFit p (with_client c (Connecting o.name slots) clients) (reserved (asked_last (Connect_of c)) o.name cs)
-  fit_connecting slots free room = fit_reserved p clients cs fit o lives serves listed (asked_last (Connect_of c))
-      (with_client c (Connecting o.name slots) clients) refl refl (by_server cs o lives (asked_last (Connect_of c)) (λ n v. QueueFits
-      (with_client c (Connecting o.name slots) clients) n v.queue) (queue_last (with_client c (Connecting o.name slots) clients) o.name (Connect_of c)
-      (service_of cs o.name).queue entry (none_passes (is_connect_of c) clients o.name never (service_of cs o.name).queue (fit.queues o.name)) (queues o.name))
-      (λ n e. queues n)) (sessions_changed p c (Connecting o.name slots) clients cs (reserved (asked_last (Connect_of c)) o.name cs) fit now)
-      (listed_changed p c (Connecting o.name slots) clients cs (reserved (asked_last (Connect_of c)) o.name cs) fit now)
-      (senders_asked p clients cs fit o lives (Connect_of c) (λ d m h. cc)) (let one = seats_asked (Connect_of c) (service_of cs o.name) in omega (arith, room, one))
+  fit_connecting slots free room = fit_reserved p clients cs fit o lives serves listed (asked_last (Connect_of c)) (with_client c (Connecting o.name slots)
+      clients) refl refl (by_server cs o lives (asked_last (Connect_of c)) (λ n v. QueueFits (with_client c (Connecting o.name slots) clients) n v.queue)
+      (queue_last (with_client c (Connecting o.name slots) clients) o.name (Connect_of c) (service_of cs o.name).queue entry
+      (none_passes (is_connect_of c) clients o.name never (service_of cs o.name).queue (fit.queues o.name)) (queues o.name)) (λ n e. queues n))
+      (sessions_changed p c (Connecting o.name slots) clients cs (reserved (asked_last (Connect_of c)) o.name cs) fit now)
+      (listed_changed p c (Connecting o.name slots) clients cs (reserved (asked_last (Connect_of c)) o.name cs) fit now) (senders_asked p clients cs fit o lives
+      (Connect_of c) (λ d m h. cc)) (let one = seats_asked (Connect_of c) (service_of cs o.name) in omega (arith, room, one))
     where
       queues : (n : ℕ) → QueueFits (with_client c (Connecting o.name slots) clients) n (service_of cs n).queue
-      queues n = queue_other c n (Connecting o.name slots) clients (service_of cs n).queue (none_of_free clients c n free (service_of cs n).queue (fit.queues n)) (fit.queues n)
+      queues n = queue_other c n (Connecting o.name slots) clients (service_of cs n).queue
+          (none_of_free clients c n free (service_of cs n).queue (fit.queues n)) (fit.queues n)
 
       entry : is_connecting_at o.name (client_at (with_client c (Connecting o.name slots) clients) c) ≡ true
       entry = ap (λ x. is_connecting_at o.name x) (client_here c (Connecting o.name slots) clients) ∙ eq-eqb o.name o.name refl
@@ -145,18 +147,18 @@ module _ (p : Image) (clients : List Client) (cs : List Cell) (fit : ClientsFit 
       now : Changes c (Connecting o.name slots) cs (reserved (asked_last (Connect_of c)) o.name cs)
       now = record {
         others = λ n d e. by_server cs o lives (asked_last (Connect_of c)) (λ n v. has_session v d ≡ has_session (service_of cs n) d) refl (λ n other. refl) n;
-        has = by_server cs o lives (asked_last (Connect_of c)) (λ n v. has_session v c ≡ true → server_of (Connecting o.name slots) ≡ Some n) (λ h. unlisted o.name h) (λ n other h. unlisted n h);
+        has = by_server cs o lives (asked_last (Connect_of c)) (λ n v. has_session v c ≡ true → server_of (Connecting o.name slots) ≡ Some n)
+            (λ h. unlisted o.name h) (λ n other h. unlisted n h);
         listed = λ n h. cc;
       }
 
 -- ---- a message
 
-module _ (p : Image) (clients : List Client) (cs : List Cell) (fit : ClientsFit p clients cs) (o : Object) (lives : named cs o.name ≡ Some o) (serves : is_server p o.thing ≡ true)
-    (listed : is_some (requested cs o.name) ≡ true) (c m : ℕ) where
+module _ (p : Image) (clients : List Client) (cs : List Cell) (fit : ClientsFit p clients cs) (o : Object) (lives : named cs o.name ≡ Some o)
+    (serves : is_server p o.thing ≡ true) (listed : is_some (requested cs o.name) ≡ true) (c m : ℕ) where
   -- it is queued where its client has its session open, and stands already
-  pub fit_sent :
-      is_open_at o.name (client_at clients c) ≡ true → list_any (is_message m) (service_of cs o.name).queue ≡ false → is_from c (service_of cs m).sender ≡ true →
-      ClientsFit p clients (reserved (asked_last (Message_of c m)) o.name cs)
+  pub fit_sent : is_open_at o.name (client_at clients c) ≡ true → list_any (is_message m) (service_of cs o.name).queue ≡ false →
+      is_from c (service_of cs m).sender ≡ true → ClientsFit p clients (reserved (asked_last (Message_of c m)) o.name cs)
   fit_sent open_there new from = grind (
     arith,
     nat_tests,

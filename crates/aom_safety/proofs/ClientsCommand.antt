@@ -45,7 +45,8 @@ module _ (p : Image) (c : ℕ) (s : State) (tidy : Tidy s.cells) (fit : ClientsF
   own = client_at s.clients c
 
   -- a server with which a client has a session stands, and is one
-  pub server_there : (n : ℕ) → has_session (service_of s.cells n) c ≡ true → (o : Object) × (o.name ≡ n) × (named s.cells o.name ≡ Some o) × (is_server p o.thing ≡ true)
+  pub server_there : (n : ℕ) → has_session (service_of s.cells n) c ≡ true →
+      (o : Object) × (o.name ≡ n) × (named s.cells o.name ≡ Some o) × (is_server p o.thing ≡ true)
   server_there n h = grind (arith, nat_tests, service_unnamed s.cells n, named_name s.cells n)
 
   -- and is enlisted
@@ -62,13 +63,13 @@ module _ (p : Image) (c : ℕ) (s : State) (tidy : Tidy s.cells) (fit : ClientsF
 
   -- ---- it connects
 
-  fit_connects : (class slots : ℕ) (refused : Option CommandRefusal) → asked_of (row own).connect (most_of (kind_of p (Some class))) (asked_server p class s.cells) s.cells ≡ refused →
+  fit_connects : (class slots : ℕ) (refused : Option CommandRefusal) →
+      asked_of (row own).connect (most_of (kind_of p (Some class))) (asked_server p class s.cells) s.cells ≡ refused →
       ClientsFit p (connecting p c s refused (asked_server p class s.cells) slots).clients (connecting p c s refused (asked_server p class s.cells) slots).cells
   fit_connects class slots refused e = go refused (asked_server p class s.cells) refl e
     where
-      go :
-          (r : Option CommandRefusal) (x : Option Listed) → asked_server p class s.cells ≡ x → asked_of (row own).connect (most_of (kind_of p (Some class))) x s.cells ≡ r →
-          ClientsFit p (connecting p c s r x slots).clients (connecting p c s r x slots).cells
+      go : (r : Option CommandRefusal) (x : Option Listed) → asked_server p class s.cells ≡ x → asked_of (row own).connect
+          (most_of (kind_of p (Some class))) x s.cells ≡ r → ClientsFit p (connecting p c s r x slots).clients (connecting p c s r x slots).cells
       go None (Some x) there e =
           let asked = asked_none (row own).connect (most_of (kind_of p (Some class))) x s.cells e in
           let l = asked_there p class s.cells x tidy there in
@@ -83,8 +84,8 @@ module _ (p : Image) (c : ℕ) (s : State) (tidy : Tidy s.cells) (fit : ClientsF
 
   fit_sends : (refused : Option CommandRefusal) (name : ℕ) (words : List ℤ) → named s.cells name ≡ None → (k : Client) → own ≡ k →
       ClientsFit p (sending p c s refused k name words).clients (sending p c s refused k name words).cells
-  fit_sends None name words free (Open server session slots) at =
-      subst (λ l. ClientsFit p s.clients l) same (subst (λ n. ClientsFit p s.clients (reserved (asked_last (Message_of c name)) n (message ∷ s.cells))) there.1 sent)
+  fit_sends None name words free (Open server session slots) at = subst (λ l. ClientsFit p s.clients l) same
+      (subst (λ n. ClientsFit p s.clients (reserved (asked_last (Message_of c name)) n (message ∷ s.cells))) there.1 sent)
     where
       message : Cell
       message = sent_message c name words server
@@ -123,12 +124,16 @@ module _ (p : Image) (c : ℕ) (s : State) (tidy : Tidy s.cells) (fit : ClientsF
     no_close stays n = grind (arith, nat_tests, none_passes)
 
     -- with no session open
-    goes_alone : (to : Client) → server_of to ≡ server_of own → ((n : ℕ) → is_leaving n own ≡ false) → ClientsFit p (with_client c to s.clients) (withdrawn c s.cells)
-    goes_alone to session stays = fit_withdrawn p s.clients s.cells tidy fit c waiting to session (λ n. queue_left s.clients c n to (service_of s.cells n).queue (no_close stays n) (fit.queues n))
+    goes_alone : (to : Client) → server_of to ≡ server_of own → ((n : ℕ) → is_leaving n own ≡ false) →
+        ClientsFit p (with_client c to s.clients) (withdrawn c s.cells)
+    goes_alone to session stays = fit_withdrawn p s.clients s.cells tidy fit c waiting to session
+        (λ n. queue_left s.clients c n to (service_of s.cells n).queue (no_close stays n) (fit.queues n))
 
     -- with its close asked for already
-    goes_still : (to : Client) → server_of to ≡ server_of own → ((n : ℕ) → is_leaving n own ≡ true → is_leaving n to ≡ true) → ClientsFit p (with_client c to s.clients) (withdrawn c s.cells)
-    goes_still to session still = fit_withdrawn p s.clients s.cells tidy fit c waiting to session (λ n. queue_leaving s.clients c n to (still n) (service_of s.cells n).queue (fit.queues n))
+    goes_still : (to : Client) → server_of to ≡ server_of own → ((n : ℕ) → is_leaving n own ≡ true → is_leaving n to ≡ true) →
+        ClientsFit p (with_client c to s.clients) (withdrawn c s.cells)
+    goes_still to session still = fit_withdrawn p s.clients s.cells tidy fit c waiting to session
+        (λ n. queue_leaving s.clients c n to (still n) (service_of s.cells n).queue (fit.queues n))
 
     -- a server with a session is no message that goes
     pub server_stays : (o : Object) → named s.cells o.name ≡ Some o → has_session (service_of s.cells o.name) c ≡ true → named (withdrawn c s.cells) o.name ≡ Some o
@@ -176,7 +181,8 @@ module _ (p : Image) (c : ℕ) (s : State) (tidy : Tidy s.cells) (fit : ClientsF
     fit_dies _ at = grind (arith, nat_tests, goes_alone Dead)
 
     -- whatever is commanded
-    pub fit_commanded : (command : ClientCommand) (name : ℕ) → named s.cells name ≡ None → ClientsFit p (commanded p c s command name).clients (commanded p c s command name).cells
+    pub fit_commanded : (command : ClientCommand) (name : ℕ) → named s.cells name ≡ None →
+        ClientsFit p (commanded p c s command name).clients (commanded p c s command name).cells
     fit_commanded (Connect class slots) name free = fit_connects class slots (refusal p c s (Connect class slots)) refl
     fit_commanded (Send words) name free = fit_sends (refusal p c s (Send words)) name words free own refl
     fit_commanded Close name free = fit_closes own refl

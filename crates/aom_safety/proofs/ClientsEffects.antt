@@ -66,7 +66,8 @@ module _ (p : Image) (c : Choice) (fr : Frame) (ts : List Task) (s : State) (fre
   fine_makes : (b : Bool) (x a : ℕ) → IsSteady fr s (makes_unless b c.name x a)
   fine_makes x y a = grind arith
 
-  fine_requests : (f : Request → Request) → ((r : Request) (k : ℕ) → (f r).token ≡ Some k → r.token ≡ Some k) → IsSteady fr s (Requested (on_request f (own_request s.cells fr.home)))
+  fine_requests : (f : Request → Request) → ((r : Request) (k : ℕ) → (f r).token ≡ Some k → r.token ≡ Some k) →
+      IsSteady fr s (Requested (on_request f (own_request s.cells fr.home)))
   fine_requests f fewer = (on_none f (own_request s.cells fr.home), fewer_on f fewer (own_request s.cells fr.home))
 
   fine_hands : (b : Bool) (a : ℕ) → IsSteady fr s (hands_unless b c.name a (own_request s.cells fr.home))
@@ -123,14 +124,16 @@ module _ (p : Image) (fr : Frame) (ts : List Task) (s : State) (fit : ClientsFit
 
   pub effect_kept : (e : Effect) → Fine fr s e → IsFit p (applied p fr ts s e)
   effect_kept (Goes_on ch) f = kept_by (applied p fr ts s (Goes_on ch)) refl (steady_update p fr ts s ch.update f) (λ k. k)
-  effect_kept (Calls target m first) f = kept_by (applied p fr ts s (Calls target m first)) refl (steady_passed p fr ts s _ (arguments_of p m) first 0 s.cells) (λ k. k)
-  effect_kept (Sets_trap target m first) f = kept_by (applied p fr ts s (Sets_trap target m first)) refl (steady_passed p fr ts s _ (arguments_of p m) first 0 s.cells) (λ k. k)
+  effect_kept (Calls target m first) f =
+      kept_by (applied p fr ts s (Calls target m first)) refl (steady_passed p fr ts s _ (arguments_of p m) first 0 s.cells) (λ k. k)
+  effect_kept (Sets_trap target m first) f =
+      kept_by (applied p fr ts s (Sets_trap target m first)) refl (steady_passed p fr ts s _ (arguments_of p m) first 0 s.cells) (λ k. k)
   effect_kept (Cancels m) f = kept_by (applied p fr ts s (Cancels m)) refl
       (steady_asked s.cells fr.home (on_request cancelling (own_request s.cells fr.home)) (λ e. on_none cancelling (own_request s.cells fr.home) e)) (λ k. k)
   effect_kept (Returns g a) f = absurd f
   effect_kept (Leaves code u) f = kept_by (applied p fr ts s (Leaves code u)) refl (steady_update p fr ts s u f) (λ k. tasks_to_trap p s.clients _ ts k)
-  effect_kept (Destroys x a words) f =
-      kept_by (applied p fr ts s (Destroys x a words)) refl (steady_moved s.cells (here fr ts s a) (Going (suc (length ts))) (λ n m. refl) refl) (λ k. tasks_begun p s.clients _ x _ _ k)
-  effect_kept (Destroys_last x) f =
-      kept_by (applied p fr ts s (Destroys_last x)) refl (steady_moved s.cells (top_place s.items) (Going (suc (length ts))) (λ n m. refl) refl) (λ k. tasks_begun p s.clients _ x _ _ k)
+  effect_kept (Destroys x a words) f = kept_by (applied p fr ts s (Destroys x a words)) refl
+      (steady_moved s.cells (here fr ts s a) (Going (suc (length ts))) (λ n m. refl) refl) (λ k. tasks_begun p s.clients _ x _ _ k)
+  effect_kept (Destroys_last x) f = kept_by (applied p fr ts s (Destroys_last x)) refl
+      (steady_moved s.cells (top_place s.items) (Going (suc (length ts))) (λ n m. refl) refl) (λ k. tasks_begun p s.clients _ x _ _ k)
   effect_kept r f = kept_by (applied p fr ts s r) refl (steady_update p fr ts s Unchanged tt) (λ k. k)

@@ -38,8 +38,7 @@ message_any c m (_ ∷ es) h = message_any c m es h
 
 module _ (p : Image) (t : Typing) (s : State) (w : WellTyped p t s) where
   -- what a client sent waits in the queue
-  pub queued_well :
-      (clients : List Client) → ClientsFit p clients s.cells → (n c m : ℕ) → list_any (is_message_of c m) (service_of s.cells n).queue ≡ true →
+  pub queued_well : (clients : List Client) → ClientsFit p clients s.cells → (n c m : ℕ) → list_any (is_message_of c m) (service_of s.cells n).queue ≡ true →
       (x : Object) × (held s.cells (Elsewhere (Queued n m)) ≡ Some x)
   queued_well clients fit n c m h = go (named s.cells n) refl
     where
@@ -47,13 +46,15 @@ module _ (p : Image) (t : Typing) (s : State) (w : WellTyped p t s) where
       has = message_any c m (service_of s.cells n).queue h
 
       fits : Fits p (seen s.cells) (held s.cells (Elsewhere (Queued n m))) (declared p s.cells (Elsewhere (Queued n m)))
-      fits = subst (λ k. Fits p (seen s.cells) (held s.cells (Elsewhere (Queued n m))) k) (queued_claim p (declared p s.cells) w.layers n m) (w.good.fits (Elsewhere (Queued n m)))
+      fits = subst (λ k. Fits p (seen s.cells) (held s.cells (Elsewhere (Queued n m))) k) (queued_claim p (declared p s.cells) w.layers n m)
+          (w.good.fits (Elsewhere (Queued n m)))
 
       at : (o : Object) → named s.cells n ≡ Some o → (b : Bool) → is_server p o.thing ≡ b → (x : Object) × (held s.cells (Elsewhere (Queued n m)) ≡ Some x)
       at o e true serves =
-          let kind : declared p s.cells (Elsewhere (Queued n m)) ≡ Own Message Ready =
-          ap (λ b. cond b (filled (message_thing p (named s.cells n)) Full) Null) has ∙ ap (λ y. filled (message_thing p y) Full) e ∙ ap (λ b. filled (cond b (Some Message) None) Full) serves in
-          let x = own_held p (seen s.cells) (held s.cells (Elsewhere (Queued n m))) Message (subst (λ k. Fits p (seen s.cells) (held s.cells (Elsewhere (Queued n m))) k) kind fits) in
+          let kind : declared p s.cells (Elsewhere (Queued n m)) ≡ Own Message Ready = ap (λ b. cond b (filled (message_thing p (named s.cells n)) Full) Null)
+          has ∙ ap (λ y. filled (message_thing p y) Full) e ∙ ap (λ b. filled (cond b (Some Message) None) Full) serves in
+          let x = own_held p (seen s.cells) (held s.cells (Elsewhere (Queued n m))) Message
+          (subst (λ k. Fits p (seen s.cells) (held s.cells (Elsewhere (Queued n m))) k) kind fits) in
           (x.0, x.1)
       at o e false plain =
           let name : o.name ≡ n = named_name s.cells n o e in
@@ -80,12 +81,12 @@ IsAt d (Dispatched e ∷ ts) = e ≡ d
 IsAt d (_ ∷ ts) = IsAt d ts
 
 abbrev pub ServerLives : Image → List Cell → Seat → List Layer → Type 0
-ServerLives p cs x ls = (named cs x.object.name ≡ Some x.object) × (is_server p x.object.thing ≡ true) × SomeIn x.object.name ls × (is_some (requested cs x.object.name) ≡ true)
+ServerLives p cs x ls = (named cs x.object.name ≡ Some x.object) × (is_server p x.object.thing ≡ true) × SomeIn x.object.name ls
+    × (is_some (requested cs x.object.name) ≡ true)
 
 -- its server stands, and sits
-pub server_lives :
-    (p : Image) (t : Typing) (cs : List Cell) (ls : List Layer) (back : Back) (x : Seat) (c : ℕ) (stage : Stage) → Stack p t cs back ls → IsAt (Of_server x c stage) (tasks_of ls) →
-    ServerLives p cs x ls
+pub server_lives : (p : Image) (t : Typing) (cs : List Cell) (ls : List Layer) (back : Back) (x : Seat) (c : ℕ) (stage : Stage) → Stack p t cs back ls →
+    IsAt (Of_server x c stage) (tasks_of ls) → ServerLives p cs x ls
 server_lives p t cs [] back x c stage s at = absurd at
 server_lives p t cs (Method fr sh ∷ ls) back x c stage s at = let r = server_lives p t cs ls (Returns fr.method fr.home) x c stage s.4 at in (r.0, r.1, inr r.2, r.3)
 server_lives p t cs (Mark gv ∷ ls) back x c stage s at = server_lives p t cs ls (Caught gv) x c stage s.1 at
@@ -103,9 +104,8 @@ message_delivered : (d : Delivery) (x : Thing) → HasThing (delivered d) x → 
 message_delivered y x h = grind arith
 
 -- is a message
-pub service_message :
-    (p : Image) (cs : List Cell) (ls : List Layer) (t : Typing) (back : Back) (x : Thing) → Stack p t cs back ls → HasThing (claim p (declared p cs) ls (Elsewhere In_service)) x →
-    x ≡ Message
+pub service_message : (p : Image) (cs : List Cell) (ls : List Layer) (t : Typing) (back : Back) (x : Thing) → Stack p t cs back ls →
+    HasThing (claim p (declared p cs) ls (Elsewhere In_service)) x → x ≡ Message
 service_message p cs [] t back x s h = absurd h
 service_message p cs (Method fr sh ∷ ls) t back x s h = go (serves p fr.method) (service_message p cs ls t (Returns fr.method fr.home) x s.4) h
   where
@@ -119,22 +119,25 @@ service_message p cs (Ending o left ∷ ls) t back x s h = service_message p cs 
 service_message p cs (Unwinding code es ∷ ls) t back x s h = service_message p cs ls t Leaves x s.1 h
 service_message p cs (Dispatching d seats ∷ ls) t back x s h = grind (arith, nat_tests, message_by_stage d, HasThing)
 
-pub serving_plain : (p : Image) (t : Typing) (s : State) (w : WellTyped p t s) (o : Object) → held s.cells (Elsewhere In_service) ≡ Some o → is_server p o.thing ≡ false
-serving_plain p t s w o e = message_plain p o.thing (stands_message p o.thing (subst (λ z. stands_for p o.thing z ≡ true) (service_message p s.cells w.layers t Now y.0 w.good.stack y.1) y.2))
+pub serving_plain : (p : Image) (t : Typing) (s : State) (w : WellTyped p t s) (o : Object) → held s.cells (Elsewhere In_service) ≡ Some o →
+    is_server p o.thing ≡ false
+serving_plain p t s w o e = message_plain p o.thing
+    (stands_message p o.thing (subst (λ z. stands_for p o.thing z ≡ true) (service_message p s.cells w.layers t Now y.0 w.good.stack y.1) y.2))
   where
     y : StandsIn p (claim p (declared p s.cells) w.layers (Elsewhere In_service)) o.thing
-    y = fits_thing p (seen s.cells) o _ (subst (λ y. Fits p (seen s.cells) y (claim p (declared p s.cells) w.layers (Elsewhere In_service))) e (w.good.fits (Elsewhere In_service)))
+    y = fits_thing p (seen s.cells) o _
+        (subst (λ y. Fits p (seen s.cells) y (claim p (declared p s.cells) w.layers (Elsewhere In_service))) e (w.good.fits (Elsewhere In_service)))
 
 -- ---- a cell that goes
 
-pub dying_layers : (ls : List Layer) (ts : List Task) → Destroy ∷ ts ≡ tasks_of ls → (o : Object) × (below : List Layer) × (ls ≡ Dying o ∷ below) × (ts ≡ tasks_of below)
+pub dying_layers : (ls : List Layer) (ts : List Task) → Destroy ∷ ts ≡ tasks_of ls →
+    (o : Object) × (below : List Layer) × (ls ≡ Dying o ∷ below) × (ts ≡ tasks_of below)
 dying_layers (Dying o ∷ ls) ts e = (o, ls, refl, cc)
 dying_layers _ ts e = cc
 
 -- is not the server that is dispatched
-pub goes_apart :
-    (p : Image) (t : Typing) (s : State) (w : WellTyped p t s) (ts : List Task) → s.tasks ≡ Destroy ∷ ts → (o : Object) → held s.cells (Going (length ts)) ≡ Some o →
-    (x : Seat) (c : ℕ) (stage : Stage) → IsAt (Of_server x c stage) ts → (o.name == x.object.name) ≡ false
+pub goes_apart : (p : Image) (t : Typing) (s : State) (w : WellTyped p t s) (ts : List Task) → s.tasks ≡ Destroy ∷ ts → (o : Object) →
+    held s.cells (Going (length ts)) ≡ Some o → (x : Seat) (c : ℕ) (stage : Stage) → IsAt (Of_server x c stage) ts → (o.name == x.object.name) ≡ false
 goes_apart p t s w ts tasks o there x c stage at = ne_eqb o.name x.object.name (λ same. u.some (subst (λ n. SomeIn n d.1) (sym same) l.2))
   where
     d : (o : Object) × (below : List Layer) × (w.layers ≡ Dying o ∷ below) × (ts ≡ tasks_of below)
@@ -147,4 +150,5 @@ goes_apart p t s w ts tasks o there x c stage at = ne_eqb o.name x.object.name (
     l = server_lives p t s.cells d.1 Gone x c stage stack (subst (λ l. IsAt (Of_server x c stage) l) d.3 at)
 
     u : Untouched p (λ f. Null) o.name d.1
-    u = untouched p t s.cells (Going (length ts)) o w.good.tidy there (λ f. Null) d.1 Gone (subst (λ l. length (tasks_of d.1) ≤ length l) (sym d.3) (omega arith)) stack
+    u = untouched p t s.cells (Going (length ts)) o w.good.tidy there (λ f. Null) d.1 Gone
+        (subst (λ l. length (tasks_of d.1) ≤ length l) (sym d.3) (omega arith)) stack

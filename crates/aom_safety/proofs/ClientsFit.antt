@@ -29,10 +29,12 @@ pub record IsFit (p : Image) (s : State) : Type 0 where
 
 -- ---- what a client that connects, closes or has its session open is not
 
-pub connecting_only : (k n : ℕ) (x : Client) → is_connecting_at k x ≡ true → (is_open_at n x ≡ false) × (is_leaving n x ≡ false) × (server_of x ≡ None) × (is_connecting_at n x ≡ true → k ≡ n)
+pub connecting_only : (k n : ℕ) (x : Client) → is_connecting_at k x ≡ true →
+    (is_open_at n x ≡ false) × (is_leaving n x ≡ false) × (server_of x ≡ None) × (is_connecting_at n x ≡ true → k ≡ n)
 connecting_only k n x e = grind arith
 
-pub leaving_only : (k n : ℕ) (x : Client) → is_leaving k x ≡ true → (is_open_at n x ≡ false) × (is_connecting_at n x ≡ false) × (server_of x ≡ Some k) × (is_leaving n x ≡ true → k ≡ n)
+pub leaving_only : (k n : ℕ) (x : Client) → is_leaving k x ≡ true → (is_open_at n x ≡ false) × (is_connecting_at n x ≡ false) × (server_of x ≡ Some k)
+    × (is_leaving n x ≡ true → k ≡ n)
 leaving_only k n x e = grind arith
 
 -- a client that is at no server
@@ -50,9 +52,8 @@ parted_free k x e = grind arith
 
 module _ (clients : List Client) (c n : ℕ) where
   -- where but such an entry of it would not fit, and none is there, none of it is
-  pub only_own :
-      (own : Asked → Bool) → ((e : Asked) → c ≡ client_of e → EntryFits clients n e → own e ≡ true) → (es : List Asked) → QueueFits clients n es → list_any own es ≡ false →
-      list_any (is_of c) es ≡ false
+  pub only_own : (own : Asked → Bool) → ((e : Asked) → c ≡ client_of e → EntryFits clients n e → own e ≡ true) → (es : List Asked) → QueueFits clients n es →
+      list_any own es ≡ false → list_any (is_of c) es ≡ false
   only_own own only [] fits none = refl
   only_own own only (e ∷ es) fits none = go (is_of c e) refl (only_own own only es fits.1 (or_parts (own e) (list_any own es) none).1)
     where
@@ -65,22 +66,22 @@ module _ (clients : List Client) (c n : ℕ) where
   none_of_free free es fits = grind (arith, nat_tests, none_passes (is_of c) clients n, is_of c, eqb-true c, client_of)
 
   -- of one whose only entries are its own at one server, none of which is there
-  none_but_own :
-      (is_own : Asked → Bool) (k : ℕ) → ((e : Asked) → c ≡ client_of e → EntryFits clients n e → (k ≡ n) × (is_own e ≡ true)) → (es : List Asked) → QueueFits clients n es →
-      (k ≡ n → list_any is_own es ≡ false) → list_any (is_of c) es ≡ false
+  none_but_own : (is_own : Asked → Bool) (k : ℕ) → ((e : Asked) → c ≡ client_of e → EntryFits clients n e → (k ≡ n) × (is_own e ≡ true)) → (es : List Asked) →
+      QueueFits clients n es → (k ≡ n → list_any is_own es ≡ false) → list_any (is_of c) es ≡ false
   none_but_own is_own k entry es fits none =
       grind (arith, nat_tests, is_of c, only_own is_own, eqb-true k n, none_passes (is_of c) clients n, eq-eqb k n, eqb-true c, client_of)
 
   -- of one that connects
-  pub none_of_connecting :
-      (k : ℕ) → is_connecting_at k (client_at clients c) ≡ true → (es : List Asked) → QueueFits clients n es → (k ≡ n → list_any (is_connect_of c) es ≡ false) → list_any (is_of c) es ≡ false
+  pub none_of_connecting : (k : ℕ) → is_connecting_at k (client_at clients c) ≡ true → (es : List Asked) → QueueFits clients n es →
+      (k ≡ n → list_any (is_connect_of c) es ≡ false) → list_any (is_of c) es ≡ false
   none_of_connecting k at = none_but_own (is_connect_of c) k entry
     where
       entry : (e : Asked) → c ≡ client_of e → EntryFits clients n e → (k ≡ n) × (is_connect_of c e ≡ true)
       entry e same f = grind (arith, eq-eqb, connecting_only)
 
   -- of one that closes
-  pub none_of_leaving : (k : ℕ) → is_leaving k (client_at clients c) ≡ true → (es : List Asked) → QueueFits clients n es → (k ≡ n → list_any (is_close_of c) es ≡ false) → list_any (is_of c) es ≡ false
+  pub none_of_leaving : (k : ℕ) → is_leaving k (client_at clients c) ≡ true → (es : List Asked) → QueueFits clients n es →
+      (k ≡ n → list_any (is_close_of c) es ≡ false) → list_any (is_of c) es ≡ false
   none_of_leaving k at = none_but_own (is_close_of c) k entry
     where
       entry : (e : Asked) → c ≡ client_of e → EntryFits clients n e → (k ≡ n) × (is_close_of c e ≡ true)
@@ -112,13 +113,13 @@ module _ (p : Image) (c : ℕ) (to : Client) (clients : List Client) (cs cs' : L
 -- ---- the service of one server changes
 
 -- what holds of what it is now, and of all others
-pub by_server :
-    (cs : List Cell) (o : Object) → named cs o.name ≡ Some o → (f : Service → Service) (P : ℕ → Service → Type 0) → P o.name (f (service_of cs o.name)) →
-    ((n : ℕ) → (o.name == n) ≡ false → P n (service_of cs n)) → (n : ℕ) → P n (service_of (reserved f o.name cs) n)
+pub by_server : (cs : List Cell) (o : Object) → named cs o.name ≡ Some o → (f : Service → Service) (P : ℕ → Service → Type 0) →
+    P o.name (f (service_of cs o.name)) → ((n : ℕ) → (o.name == n) ≡ false → P n (service_of cs n)) → (n : ℕ) → P n (service_of (reserved f o.name cs) n)
 by_server cs o lives f P here others n = go (o.name == n) refl
   where
     go : (b : Bool) → (o.name == n) ≡ b → P n (service_of (reserved f o.name cs) n)
-    go true e = subst (λ k. P k (service_of (reserved f o.name cs) k)) (eqb-true o.name n e) (subst (λ v. P o.name v) (sym (service_here cs o.name (f (service_of cs o.name)) o lives)) here)
+    go true e = subst (λ k. P k (service_of (reserved f o.name cs) k)) (eqb-true o.name n e)
+        (subst (λ v. P o.name v) (sym (service_here cs o.name (f (service_of cs o.name)) o lives)) here)
     go false e = subst (λ v. P n v) (sym (service_there cs o.name n (f (service_of cs o.name)) e)) (others n e)
 
 module _ (p : Image) (cs : List Cell) (o : Object) (lives : named cs o.name ≡ Some o) (f : Service → Service) where
@@ -126,29 +127,28 @@ module _ (p : Image) (cs : List Cell) (o : Object) (lives : named cs o.name ≡ 
   then = reserved f o.name cs
 
   -- it is enlisted
-  pub enlisted_then :
-      is_some (requested cs o.name) ≡ true → (clients : List Client) → ClientsFit p clients cs → (x : Object) → named then x.name ≡ Some x → requested then x.name ≡ None →
-      ((service_of then x.name).queue ≡ []) × ((service_of then x.name).sessions ≡ [])
+  pub enlisted_then : is_some (requested cs o.name) ≡ true → (clients : List Client) → ClientsFit p clients cs → (x : Object) → named then x.name ≡ Some x →
+      requested then x.name ≡ None → ((service_of then x.name).queue ≡ []) × ((service_of then x.name).sessions ≡ [])
   enlisted_then listed clients fit x there none =
       grind (arith, nat_tests, named_served cs o.name, requested_served cs o.name, ne_eqb o.name x.name, listed, service_there cs o.name x.name)
 
   -- as long as it has seats
-  pub seats_then :
-      (clients : List Client) → ClientsFit p clients cs → seats_taken (f (service_of cs o.name)) ≤ most_of (thing_kind p o.thing) → (x : Object) → named then x.name ≡ Some x →
-      seats_taken (service_of then x.name) ≤ most_of (thing_kind p x.thing)
-  seats_then clients fit room x there =
-      by_server cs o lives f (λ n v. named cs n ≡ Some x → n ≡ x.name → seats_taken v ≤ most_of (thing_kind p x.thing)) here others x.name
-      (sym (named_served cs o.name (f (service_of cs o.name)) x.name) ∙ there) refl
+  pub seats_then : (clients : List Client) → ClientsFit p clients cs → seats_taken (f (service_of cs o.name)) ≤ most_of (thing_kind p o.thing) → (x : Object) →
+      named then x.name ≡ Some x → seats_taken (service_of then x.name) ≤ most_of (thing_kind p x.thing)
+  seats_then clients fit room x there = by_server cs o lives f (λ n v. named cs n ≡ Some x → n ≡ x.name → seats_taken v ≤ most_of (thing_kind p x.thing)) here
+      others x.name (sym (named_served cs o.name (f (service_of cs o.name)) x.name) ∙ there) refl
     where
       here : named cs o.name ≡ Some x → o.name ≡ x.name → seats_taken (f (service_of cs o.name)) ≤ most_of (thing_kind p x.thing)
-      here at same = let one : Some o ≡ Some x = sym lives ∙ at in let equal : o ≡ x = cc in subst (λ y. seats_taken (f (service_of cs o.name)) ≤ most_of (thing_kind p y.thing)) equal room
+      here at same = let one : Some o ≡ Some x = sym lives ∙ at in let equal : o ≡ x = cc in
+          subst (λ y. seats_taken (f (service_of cs o.name)) ≤ most_of (thing_kind p y.thing)) equal room
 
       others : (n : ℕ) → (o.name == n) ≡ false → named cs n ≡ Some x → n ≡ x.name → seats_taken (service_of cs n) ≤ most_of (thing_kind p x.thing)
-      others n other at same = subst (λ k. seats_taken (service_of cs k) ≤ most_of (thing_kind p x.thing)) (sym same) (fit.seats x (ap (λ k. named cs k) (sym same) ∙ at))
+      others n other at same =
+          subst (λ k. seats_taken (service_of cs k) ≤ most_of (thing_kind p x.thing)) (sym same) (fit.seats x (ap (λ k. named cs k) (sym same) ∙ at))
 
   -- a message that waits is of its sender
-  pub senders_then :
-      (clients : List Client) → ClientsFit p clients cs → ((d : ℕ) → is_from d (service_of cs o.name).sender ≡ true → is_from d (f (service_of cs o.name)).sender ≡ true) →
+  pub senders_then : (clients : List Client) → ClientsFit p clients cs →
+      ((d : ℕ) → is_from d (service_of cs o.name).sender ≡ true → is_from d (f (service_of cs o.name)).sender ≡ true) →
       ((d m : ℕ) → list_any (is_message_of d m) (f (service_of cs o.name)).queue ≡ true → is_from d (service_of cs m).sender ≡ true) →
       (n d m : ℕ) → list_any (is_message_of d m) (service_of then n).queue ≡ true → is_from d (service_of then m).sender ≡ true
   senders_then clients fit keeps here n d m = by_server cs o lives f (λ n v. list_any (is_message_of d m) v.queue ≡ true →
@@ -159,8 +159,8 @@ module _ (p : Image) (cs : List Cell) (o : Object) (lives : named cs o.name ≡ 
 
   -- and what had a sender, or was a token, has one or is one, and nothing else
   pub sources_then : sources_of (f (service_of cs o.name)) ≡ sources_of (service_of cs o.name) → HasSources cs → HasSources then
-  sources_then keeps =
-      sources_as cs then (by_server cs o lives f (λ n v. sources_of v ≡ sources_at cs n) keeps (λ n other. refl)) (λ x there. sym (named_served cs o.name (f (service_of cs o.name)) x.name) ∙ there)
+  sources_then keeps = sources_as cs then (by_server cs o lives f (λ n v. sources_of v ≡ sources_at cs n) keeps (λ n other. refl))
+      (λ x there. sym (named_served cs o.name (f (service_of cs o.name)) x.name) ∙ there)
 
   module _ (keeps : is_some (f (service_of cs o.name)).sender ≡ is_some (service_of cs o.name).sender) where
     pub sent_then : (n : ℕ) → has_sender then n ≡ has_sender cs n
@@ -170,7 +170,8 @@ module _ (p : Image) (cs : List Cell) (o : Object) (lives : named cs o.name ≡ 
     served_then = grind (arith, nat_tests, served_as cs, sent_then, held_served cs o.name)
 
   module _ (serves : is_server p o.thing ≡ true) (clients : List Client) (fit : ClientsFit p clients cs) where
-    pub servers_then : (x : Object) → named then x.name ≡ Some x → is_server p x.thing ≡ false → ((service_of then x.name).queue ≡ []) × ((service_of then x.name).sessions ≡ [])
+    pub servers_then : (x : Object) → named then x.name ≡ Some x → is_server p x.thing ≡ false →
+        ((service_of then x.name).queue ≡ []) × ((service_of then x.name).sessions ≡ [])
     servers_then x there plain = grind (arith, nat_tests, named_served cs o.name, ne_eqb o.name x.name, service_there cs o.name x.name)
 
     pub names_then : (n m : ℕ) (x : Object) → held then (Elsewhere (Queued n m)) ≡ Some x → x.name ≡ m
@@ -178,8 +179,8 @@ module _ (p : Image) (cs : List Cell) (o : Object) (lives : named cs o.name ≡ 
 
 -- ---- the service of an enlisted server changes, and no sender and no token does
 
-module _ (p : Image) (clients : List Client) (cs : List Cell) (fit : ClientsFit p clients cs) (o : Object) (lives : named cs o.name ≡ Some o) (serves : is_server p o.thing ≡ true)
-    (listed : is_some (requested cs o.name) ≡ true) (f : Service → Service) (clients' : List Client) where
+module _ (p : Image) (clients : List Client) (cs : List Cell) (fit : ClientsFit p clients cs) (o : Object) (lives : named cs o.name ≡ Some o)
+    (serves : is_server p o.thing ≡ true) (listed : is_some (requested cs o.name) ≡ true) (f : Service → Service) (clients' : List Client) where
   pub fit_reserved : (f (service_of cs o.name)).sender ≡ (service_of cs o.name).sender → (f (service_of cs o.name)).token ≡ (service_of cs o.name).token →
       ((n : ℕ) → QueueFits clients' n (service_of (reserved f o.name cs) n).queue) →
       ((n d : ℕ) → has_session (service_of (reserved f o.name cs) n) d ≡ true → server_of (client_at clients' d) ≡ Some n) →
@@ -201,8 +202,8 @@ module _ (p : Image) (clients : List Client) (cs : List Cell) (fit : ClientsFit 
 
 -- ---- `accept` has given a session
 
-module _ (p : Image) (clients : List Client) (cs : List Cell) (fit : ClientsFit p clients cs) (o : Object) (lives : named cs o.name ≡ Some o) (serves : is_server p o.thing ≡ true)
-    (listed : is_some (requested cs o.name) ≡ true) (c : ℕ) where
+module _ (p : Image) (clients : List Client) (cs : List Cell) (fit : ClientsFit p clients cs) (o : Object) (lives : named cs o.name ≡ Some o)
+    (serves : is_server p o.thing ≡ true) (listed : is_some (requested cs o.name) ≡ true) (c : ℕ) where
   abbrev own : Client
   own = client_at clients c
 
@@ -230,7 +231,8 @@ module _ (p : Image) (clients : List Client) (cs : List Cell) (fit : ClientsFit 
               ∙ or-false (list_any (λ x. x == d) (service_of cs o.name).sessions)) (λ n other. refl) n;
           has = by_server cs o lives (opened c) (λ n v. has_session v c ≡ true → server_of (at_opening session own) ≡ Some n)
               (λ h. is_open own at) (λ n other h. let clash : Some n ≡ None = sym (fit.sessions n c h) ∙ (connecting_only o.name n own at).2 in cc);
-          listed = by_server cs o lives (opened c) (λ n v. server_of (at_opening session own) ≡ Some n → has_session v c ≡ true) (λ h. eqb_same (service_of cs o.name).sessions) (λ n other h.
+          listed = by_server cs o lives (opened c) (λ n v. server_of (at_opening session own) ≡ Some n → has_session v c ≡ true)
+              (λ h. eqb_same (service_of cs o.name).sessions) (λ n other h.
               let same : Some o.name ≡ Some n = sym (is_open own at) ∙ h in
               absurd (true≢false (sym (eq-eqb o.name n cc) ∙ other)));
         }
@@ -245,10 +247,10 @@ module _ (p : Image) (clients : List Client) (cs : List Cell) (fit : ClientsFit 
     other_stays d other k e = ap not (ne_eqb k c (λ same. true≢false (sym (eq-eqb c d (sym same ∙ eqb-true k d e)) ∙ other)))
 
     pub fit_parted : ClientsFit p (with_client c (at_parting own) clients) (reserved (parted c) o.name cs)
-    fit_parted = fit_reserved p clients cs fit o lives serves listed (parted c) (with_client c (at_parting own) clients) refl refl
-        (by_server cs o lives (parted c) (λ n v. QueueFits (with_client c (at_parting own) clients) n v.queue) (queues o.name) (λ n e. queues n))
-        (sessions_changed p c (at_parting own) clients cs (reserved (parted c) o.name cs) fit now) (listed_changed p c (at_parting own) clients cs (reserved (parted c) o.name cs) fit now)
-        (fit.senders o.name) (let less = seats_parted c (service_of cs o.name) in let was = fit.seats o lives in omega (arith, less, was))
+    fit_parted = fit_reserved p clients cs fit o lives serves listed (parted c) (with_client c (at_parting own) clients) refl refl (by_server cs o lives
+        (parted c) (λ n v. QueueFits (with_client c (at_parting own) clients) n v.queue) (queues o.name) (λ n e. queues n)) (sessions_changed p c
+        (at_parting own) clients cs (reserved (parted c) o.name cs) fit now) (listed_changed p c (at_parting own) clients cs (reserved (parted c) o.name cs) fit
+        now) (fit.senders o.name) (let less = seats_parted c (service_of cs o.name) in let was = fit.seats o lives in omega (arith, less, was))
       where
         queues : (n : ℕ) → QueueFits (with_client c (at_parting own) clients) n (service_of cs n).queue
         queues n = grind (arith, nat_tests, queue_other c n, none_of_leaving clients c n o.name at)
@@ -259,6 +261,7 @@ module _ (p : Image) (clients : List Client) (cs : List Cell) (fit : ClientsFit 
               (any-filter_same (λ x. x == d) (is_other c) true (other_stays d e) (service_of cs o.name).sessions) (λ n other. refl) n;
           has = by_server cs o lives (parted c) (λ n v. has_session v c ≡ true → server_of (at_parting own) ≡ Some n)
               (λ h. absurd (true≢false (sym h ∙ any-filter_same (λ x. x == c) (is_other c) false (λ k e. ap not e) (service_of cs o.name).sessions)))
-              (λ n other h. let same : Some o.name ≡ Some n = sym ((leaving_only o.name n own at).2) ∙ fit.sessions n c h in absurd (true≢false (sym (eq-eqb o.name n cc) ∙ other)));
+              (λ n other h. let same : Some o.name ≡ Some n = sym ((leaving_only o.name n own at).2) ∙ fit.sessions n c h in
+              absurd (true≢false (sym (eq-eqb o.name n cc) ∙ other)));
           listed = λ n h. let clash : None ≡ Some n = sym free.alone ∙ h in cc;
         }

@@ -29,7 +29,8 @@ use Rattle.aom_safety.proofs.Seated.{seats_same}
 
 -- ---- what the clients are at
 
-pub queue_ended_at : (q : List Asked) (clients : List Client) (c : ℕ) → client_at (queue_ended q clients) c ≡ cond (list_any (is_connect_of c) q) Unconnected (client_at clients c)
+pub queue_ended_at : (q : List Asked) (clients : List Client) (c : ℕ) →
+    client_at (queue_ended q clients) c ≡ cond (list_any (is_connect_of c) q) Unconnected (client_at clients c)
 queue_ended_at [] clients c = refl
 queue_ended_at (Message_of d m ∷ es) clients c = queue_ended_at es clients c
 queue_ended_at (Close_of d ∷ es) clients c = queue_ended_at es clients c
@@ -39,7 +40,8 @@ queue_ended_at (Connect_of d ∷ es) clients c =
 gone_twice : (x : Client) → at_gone (at_gone x) ≡ at_gone x
 gone_twice x = grind arith
 
-pub sessions_ended_at : (xs : List ℕ) (clients : List Client) (c : ℕ) → client_at (sessions_ended xs clients) c ≡ cond (list_any (λ d. d == c) xs) (at_gone (client_at clients c)) (client_at clients c)
+pub sessions_ended_at : (xs : List ℕ) (clients : List Client) (c : ℕ) →
+    client_at (sessions_ended xs clients) c ≡ cond (list_any (λ d. d == c) xs) (at_gone (client_at clients c)) (client_at clients c)
 sessions_ended_at [] clients c = refl
 sessions_ended_at (d ∷ ds) clients c = grind (arith, nat_tests, sessions_ended_at ds, eqb-true d c, client_here d, gone_twice, cond_same, client_there d c)
 
@@ -80,7 +82,8 @@ module _ (p : Image) (clients : List Client) (c : ℕ) where
         (from_unslotted d (service_of cs m).sender (fit.senders n d m (ap (λ v. list_any (is_message_of d m) v.queue) (sym (service_unslotted c cs n)) ∙ h)));
     sources = sources_as cs (all_unslotted c cs) sources (λ o h. sym (named_unslotted cs o.name) ∙ h) fit.sources;
     served = served_as cs (all_unslotted c cs) sent (λ o h. sym (held_unslotted cs (Elsewhere In_service)) ∙ h) fit.served;
-    seats = λ o h. subst (λ v. seats_taken v ≤ most_of (thing_kind p o.thing)) (sym (service_unslotted c cs o.name)) (fit.seats o (sym (named_unslotted cs o.name) ∙ h));
+    seats = λ o h. subst (λ v. seats_taken v ≤ most_of (thing_kind p o.thing)) (sym (service_unslotted c cs o.name))
+        (fit.seats o (sym (named_unslotted cs o.name) ∙ h));
     enlisted = λ o h e. subst (λ v. (v.queue ≡ []) × (v.sessions ≡ []))
         (sym (service_unslotted c cs o.name)) (fit.enlisted o (sym (named_unslotted cs o.name) ∙ h) (sym (requested_unslotted cs o.name) ∙ e));
   }
@@ -124,7 +127,8 @@ module _ (p : Image) (clients : List Client) (cs : List Cell) (tidy : Tidy cs)
   then = sessions_ended (service_of cs o.name).sessions (queue_ended (service_of cs o.name).queue clients)
 
   -- a client that neither connects to it nor has a session with it is at what it was
-  other_client : (d : ℕ) → is_connecting_at o.name (client_at clients d) ≡ false → has_session (service_of cs o.name) d ≡ false → client_at then d ≡ client_at clients d
+  other_client : (d : ℕ) → is_connecting_at o.name (client_at clients d) ≡ false → has_session (service_of cs o.name) d ≡ false →
+      client_at then d ≡ client_at clients d
   other_client d connects has = grind (arith, nat_tests, sessions_ended_at, queue_ended_at, none_passes)
 
   no_session : (n d : ℕ) → (o.name == n) ≡ false → server_of (client_at clients d) ≡ Some n → has_session (service_of cs o.name) d ≡ false
@@ -169,7 +173,8 @@ module _ (p : Image) (clients : List Client) (cs : List Cell) (tidy : Tidy cs)
       go (Elsewhere (Queued k m)) at h = quiet_waiting p clients cs tidy fit waiting n x e k m at
       go q at h = absurd (not_it (ap (λ r. is_queue_of o.name r || same_place x.owner g) (sym at) ∙ h))
 
-  service_left : (n : ℕ) → (o.name == n) ≡ false → ((service_of left n).queue ≡ (service_of cs n).queue) × ((service_of left n).sessions ≡ (service_of cs n).sessions)
+  service_left : (n : ℕ) → (o.name == n) ≡ false →
+      ((service_of left n).queue ≡ (service_of cs n).queue) × ((service_of left n).sessions ≡ (service_of cs n).sessions)
   service_left n other = clients_sifted drops cs tidy n (λ x e goes. what_goes n x e goes other)
 
   or_right : (b : Bool) → (b || true) ≡ true
@@ -220,21 +225,25 @@ module _ (p : Image) (clients : List Client) (cs : List Cell) (tidy : Tidy cs)
       queues n true e = grind (arith, nat_tests, eqb-true o.name n e, service_none)
       queues n false e = subst (λ q. QueueFits then n q) (sym (service_left n e).0) (queue_kept n e (service_of cs n).queue (fit.queues n))
 
-      quiet : (n : ℕ) → ((service_of cs n).queue ≡ []) × ((service_of cs n).sessions ≡ []) → (b : Bool) → (o.name == n) ≡ b → ((service_of left n).queue ≡ []) × ((service_of left n).sessions ≡ [])
+      quiet : (n : ℕ) → ((service_of cs n).queue ≡ []) × ((service_of cs n).sessions ≡ []) → (b : Bool) → (o.name == n) ≡ b →
+          ((service_of left n).queue ≡ []) × ((service_of left n).sessions ≡ [])
       quiet n none true e = grind (arith, nat_tests, eqb-true o.name n e, service_none)
       quiet n none false e = ((service_left n e).0 ∙ none.0, (service_left n e).1 ∙ none.1)
 
       seats : (n : ℕ) (b : Bool) → (o.name == n) ≡ b → seats_taken (service_of left n) ≤ seats_taken (service_of cs n)
-      seats n true e = let none : seats_taken (service_of left n) ≡ 0 = ap (λ i. seats_taken (service_of left i)) (sym (eqb-true o.name n e)) ∙ ap seats_taken service_none in omega (arith, none)
+      seats n true e = let none : seats_taken (service_of left n) ≡ 0 = ap (λ i. seats_taken (service_of left i)) (sym (eqb-true o.name n e))
+          ∙ ap seats_taken service_none in omega (arith, none)
       seats n false e = let same = seats_same (service_of left n) (service_of cs n) (service_left n e).0 (service_left n e).1 in omega (arith, same)
 
-      senders : (n d m : ℕ) (b : Bool) → (o.name == n) ≡ b → list_any (is_message_of d m) (service_of left n).queue ≡ true → is_from d (service_of left m).sender ≡ true
+      senders : (n d m : ℕ) (b : Bool) → (o.name == n) ≡ b → list_any (is_message_of d m) (service_of left n).queue ≡ true →
+          is_from d (service_of left m).sender ≡ true
       senders n d m true e h = grind (arith, nat_tests, eqb-true o.name n e, service_none)
       senders n d m false e h = sender_left n d m e (ap (λ q. list_any (is_message_of d m) q) (sym (service_left n e).0) ∙ h)
 
   -- with it and its queue gone
   pub fit_gone : ClientsFit p then (each_unslotted (service_of cs o.name).sessions (without g (without_queue o.name cs)))
-  fit_gone = fit_each_unslotted p then (service_of cs o.name).sessions (without g (without_queue o.name cs)) (subst (λ l. ClientsFit p then l) (sym (gone_so o.name g cs)) fit_left)
+  fit_gone = fit_each_unslotted p then (service_of cs o.name).sessions (without g (without_queue o.name cs))
+      (subst (λ l. ClientsFit p then l) (sym (gone_so o.name g cs)) fit_left)
 
   -- a stage of the dispatch of another server stays kept
   pub stage_gone : (x : Object) (c : ℕ) (stage : Stage) → (o.name == x.name) ≡ false → StageKept p clients cs x c stage →
@@ -260,7 +269,8 @@ module _ (p : Image) (clients : List Client) (cs : List Cell) (tidy : Tidy cs)
             (service_of (each_unslotted (service_of cs o.name).sessions (without g (without_queue o.name cs))) n) (service_of cs n) queue sessions)) k.2,
       )
 
-      at : (stage : Stage) → StageKept p clients cs x c stage → StageKept p then (each_unslotted (service_of cs o.name).sessions (without g (without_queue o.name cs))) x c stage
+      at : (stage : Stage) → StageKept p clients cs x c stage →
+          StageKept p then (each_unslotted (service_of cs o.name).sessions (without g (without_queue o.name cs))) x c stage
       at Accepts k = connect k
       at (Accept_left code) k = connect k
       at Parts k = (ap (λ x. is_leaving n x) (with_session n c other (leaving_only n n (client_at clients c) k.0).2) ∙ k.0, ap (λ q. list_any (is_close_of c) q) queue ∙ k.1)

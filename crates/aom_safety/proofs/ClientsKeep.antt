@@ -79,9 +79,8 @@ stays_listed old x keeps some = grind arith
 
 module _ (p : Image) (s : State) (fit : ClientsFit p s.clients s.cells) where
   -- a cell is at hand to go
-  begun_kept :
-      (a : Place) (k : ℕ) (o : Object) (height : ℕ) (ts : List Task) (u : State) → u.cells ≡ moved a (Going k) s.cells → u.clients ≡ s.clients → u.tasks ≡ begun p o height ts →
-      TasksKept p s.clients s.cells ts → IsFit p u
+  begun_kept : (a : Place) (k : ℕ) (o : Object) (height : ℕ) (ts : List Task) (u : State) → u.cells ≡ moved a (Going k) s.cells → u.clients ≡ s.clients →
+      u.tasks ≡ begun p o height ts → TasksKept p s.clients s.cells ts → IsFit p u
   begun_kept a k o height ts u cells clients tasks stage =
       let still = steady_moved s.cells a (Going k) (λ n m. refl) refl in
       record {
@@ -91,7 +90,8 @@ module _ (p : Image) (s : State) (fit : ClientsFit p s.clients s.cells) where
 
   -- ---- a leave
 
-  arrival_stage : (code : ℤ) (d : Dispatch) (ts : List Task) → TasksKept p s.clients s.cells (Dispatched d ∷ ts) → TasksKept p s.clients s.cells (Dispatched (ended_by code d) ∷ ts)
+  arrival_stage : (code : ℤ) (d : Dispatch) (ts : List Task) → TasksKept p s.clients s.cells (Dispatched d ∷ ts) →
+      TasksKept p s.clients s.cells (Dispatched (ended_by code d) ∷ ts)
   arrival_stage code x ts k = grind arith
 
   -- ---- a server lets go of a session
@@ -118,8 +118,8 @@ module _ (p : Image) (s : State) (fit : ClientsFit p s.clients s.cells) where
   asking_kept x y code = grind (arith, nat_tests, answered_kept code, same_cells p s fit)
 
   -- of a server: a connect that was left has no session, a message is completed, or a session is closed
-  module _ (tidy : Tidy s.cells) (queued : (n c m : ℕ) → list_any (is_message_of c m) (service_of s.cells n).queue ≡ true → (x : Object) × (held s.cells (Elsewhere (Queued n m)) ≡ Some x))
-      (plain : (o : Object) → held s.cells (Elsewhere In_service) ≡ Some o → is_server p o.thing ≡ false) where
+  module _ (tidy : Tidy s.cells) (queued : (n c m : ℕ) → list_any (is_message_of c m) (service_of s.cells n).queue ≡ true → (x : Object) × (held s.cells
+      (Elsewhere (Queued n m)) ≡ Some x)) (plain : (o : Object) → held s.cells (Elsewhere In_service) ≡ Some o → is_server p o.thing ≡ false) where
     service_gone_kept : ClientsFit p s.clients (without (Elsewhere In_service) s.cells)
     service_gone_kept = go (held s.cells (Elsewhere In_service)) refl
       where
@@ -127,9 +127,8 @@ module _ (p : Image) (s : State) (fit : ClientsFit p s.clients s.cells) where
         go None e = subst (λ l. ClientsFit p s.clients l) (sym (without_none s.cells (Elsewhere In_service) e)) fit
         go (Some o) e = fit_without p s.clients s.cells tidy fit o (Elsewhere In_service) e (λ n m. refl) (plain o e) queued
 
-    stage_kept :
-        (x : Seat) (c : ℕ) (stage : Stage) → named s.cells x.object.name ≡ Some x.object → is_server p x.object.thing ≡ true → is_some (requested s.cells x.object.name) ≡ true →
-        StageKept p s.clients s.cells x.object c stage → IsFit p (stage_ends x c stage s)
+    stage_kept : (x : Seat) (c : ℕ) (stage : Stage) → named s.cells x.object.name ≡ Some x.object → is_server p x.object.thing ≡ true →
+        is_some (requested s.cells x.object.name) ≡ true → StageKept p s.clients s.cells x.object c stage → IsFit p (stage_ends x c stage s)
     stage_kept x c (Accept_left code) lives serves listed k = record { fit = fit_unconnected p s.clients s.cells fit x.object.name c k.0 k.1; stage = tt }
     stage_kept x c (Service_left code) lives serves listed k = record { fit = service_gone_kept; stage = tt }
     stage_kept x c Parts lives serves listed k = record { fit = fit_parted p s.clients s.cells fit x.object lives serves listed c k.0 k.1; stage = tt }
@@ -163,14 +162,16 @@ module _ (p : Image) (t : Typing) (wired : IsWired p) (c : Choice) (s : State) (
   -- the server that is dispatched stands
   there : (ts : List Task) → s.tasks ≡ ts → (x : Seat) (d : ℕ) (stage : Stage) → IsAt (Of_server x d stage) ts →
       (named s.cells x.object.name ≡ Some x.object) × (is_server p x.object.thing ≡ true) × (is_some (requested s.cells x.object.name) ≡ true)
-  there ts tasks x d stage at = let l = server_lives p t s.cells w.layers Now x d stage w.good.stack (subst (λ l. IsAt (Of_server x d stage) l) (sym tasks ∙ w.tasks) at) in (l.0, l.1, l.3)
+  there ts tasks x d stage at = let l =
+      server_lives p t s.cells w.layers Now x d stage w.good.stack (subst (λ l. IsAt (Of_server x d stage) l) (sym tasks ∙ w.tasks) at) in (l.0, l.1, l.3)
 
   module _ (fr : Frame) (ts : List Task) (tasks : s.tasks ≡ Run fr ∷ ts) where
     stage_below : TasksKept p s.clients s.cells ts
     stage_below = subst (λ l. TasksKept p s.clients s.cells l) tasks kept.stage
 
     -- a message is completed
-    reply_kept : (a b : ℕ) → AllTrue (needs p c fr ts (counted p s) (instrs.Reply a b)) → IsFit p (applied p fr ts (counted p s) (effect p c fr ts (counted p s) (instrs.Reply a b)))
+    reply_kept : (a b : ℕ) → AllTrue (needs p c fr ts (counted p s) (instrs.Reply a b)) →
+        IsFit p (applied p fr ts (counted p s) (effect p c fr ts (counted p s) (instrs.Reply a b)))
     reply_kept a b met = go (held s.cells (here fr ts (counted p s) a)) refl met.1.1.0
       where
         cs : List Cell
@@ -189,7 +190,8 @@ module _ (p : Image) (t : Typing) (wired : IsWired p) (c : Choice) (s : State) (
         stage = tasks_steady p s.clients s.cells cs still ts stage_below
 
         waiting : (n c m : ℕ) → list_any (is_message_of c m) (service_of cs n).queue ≡ true → (x : Object) × (held cs (Elsewhere (Queued n m)) ≡ Some x)
-        waiting n c m h = let x = queued n c m (ap (λ q. list_any (is_message_of c m) q) (sym (still.queues n)) ∙ h) in (x.0, like.held_so (Elsewhere (Queued n m)) ∙ x.1)
+        waiting n c m h = let x = queued n c m (ap (λ q. list_any (is_message_of c m) q) (sym (still.queues n)) ∙ h) in
+            (x.0, like.held_so (Elsewhere (Queued n m)) ∙ x.1)
 
         go : (o : Option Object) → held s.cells (here fr ts (counted p s) a) ≡ o → is_thing p Message (held s.cells (here fr ts (counted p s) a)) ≡ true →
             IsFit p (applied p fr ts (counted p s) (effect p c fr ts (counted p s) (instrs.Reply a b)))
@@ -209,14 +211,14 @@ module _ (p : Image) (t : Typing) (wired : IsWired p) (c : Choice) (s : State) (
     returns_kept : (g : Gives) (a : ℕ) → IsFit p (returned p fr ts (record (counted p s) { cells = ended_cells p fr s.cells }) g a ts)
     returns_kept g a =
         let still = steady_ended p fr s.cells in
-        return_kept p fr ts (record (counted p s) { cells = ended_cells p fr s.cells }) (fit_steady p s.clients s.cells (ended_cells p fr s.cells) still kept.fit) g a ts
-        (λ x d at. let l = there (Run fr ∷ ts) tasks x d Accepts at in (
+        return_kept p fr ts (record (counted p s) { cells = ended_cells p fr s.cells })
+        (fit_steady p s.clients s.cells (ended_cells p fr s.cells) still kept.fit) g a ts (λ x d at. let l = there (Run fr ∷ ts) tasks x d Accepts at in (
           (ended_alike p fr s.cells).named_so x.object.name ∙ l.0,
           l.1,
           stays_listed (requested s.cells x.object.name) (requested (ended_cells p fr s.cells) x.object.name)
               (still.carried.enlisted x.object ((ended_alike p fr s.cells).named_so x.object.name ∙ l.0)) l.2,
-        ))
-        tasks (tasks_steady p s.clients s.cells (ended_cells p fr s.cells) still ts stage_below) (tasks_steady p s.clients s.cells (ended_cells p fr s.cells) still ts stage_below)
+        )) tasks (tasks_steady p s.clients s.cells (ended_cells p fr s.cells) still ts stage_below)
+        (tasks_steady p s.clients s.cells (ended_cells p fr s.cells) still ts stage_below)
 
     act_kept : (i : Instr) → AllTrue (needs p c fr ts (counted p s) i) → IsFit p (applied p fr ts (counted p s) (effect p c fr ts (counted p s) i))
     act_kept (instrs.Reply a b) met = reply_kept a b met
@@ -250,16 +252,16 @@ module _ (p : Image) (t : Typing) (wired : IsWired p) (c : Choice) (s : State) (
       of (Rests still same) = along _ same (same_cells p v kept.fit _ refl refl kept.stage)
       of (Acts fr ts i x tasks there met may same) = let a = acts_at p c s u fr ts i tasks there e in along _ (sym a.1) (act_kept fr ts tasks i a.0)
       of (Vanishes ts o tasks there none same) = along _ same (gone_kept ts o tasks there)
-      of (Empties ts o tasks there same) =
-          along _ same (parting_kept p v kept.fit o (first_session s.cells o.name (service_of s.cells o.name).sessions) ts (stage_at (Closing ∷ Destroy ∷ ts) tasks))
-      of (Clears code ts items o tasks top there same) =
-          along _ same (begun_kept p v kept.fit (Entry (length items)) _ o (length items) (Unwind code ∷ ts) _ refl refl refl (stage_at (Unwind code ∷ ts) tasks))
+      of (Empties ts o tasks there same) = along _ same
+          (parting_kept p v kept.fit o (first_session s.cells o.name (service_of s.cells o.name).sessions) ts (stage_at (Closing ∷ Destroy ∷ ts) tasks))
+      of (Clears code ts items o tasks top there same) = along _ same
+          (begun_kept p v kept.fit (Entry (length items)) _ o (length items) (Unwind code ∷ ts) _ refl refl refl (stage_at (Unwind code ∷ ts) tasks))
       of (Undoes code ts items m word tasks top same) = along _ same (same_cells p v kept.fit _ refl refl (stage_at (Unwind code ∷ ts) tasks))
       of (Arrives code fr ts items tasks top same) = along _ same (same_cells p v kept.fit _ refl refl (stage_at (Unwind code ∷ Trapped ∷ Run fr ∷ ts) tasks))
       of (Comes_out code d ts items tasks top same) =
           along _ same (same_cells p v kept.fit _ refl refl (arrival_stage p v kept.fit code d ts (stage_at (Unwind code ∷ Trapped ∷ Dispatched d ∷ ts) tasks)))
-      of (Ends d ts tasks same) =
-          along _ same (dispatch_kept p v kept.fit tidy queued (serving_plain p t s w) d ts (λ x k stage same. there (Dispatched d ∷ ts) tasks x k stage same) (stage_at (Dispatched d ∷ ts) tasks))
+      of (Ends d ts tasks same) = along _ same (dispatch_kept p v kept.fit tidy queued (serving_plain p t s w) d ts
+          (λ x k stage same. there (Dispatched d ∷ ts) tasks x k stage same) (stage_at (Dispatched d ∷ ts) tasks))
 
 -- ---- and tokens with them
 
@@ -272,7 +274,8 @@ without_tokens p s kept = record { fit = kept.fit; stage = kept.stage }
 pub clients_keep : ClientsKeep
 clients_keep = record {
   boot = λ p. with_tokens p (boot_state p) (boot_kept p) boot_apart;
-  moves = λ p t wired typed c s u w free kept e. with_tokens p u (moved_kept p t wired c s w free (without_tokens p s kept) u e) (moved_apart p c s u free w.good.tidy kept.tokens e);
-  turns = λ p t outside wired typed heard s u w between hears kept e. with_tokens p u (turn_kept p t wired s w between.idle (without_tokens p s kept) outside heard u hears.name e)
-      (turned_apart p outside heard s u w.good.tidy kept.tokens e);
+  moves = λ p t wired typed c s u w free kept e. with_tokens p u (moved_kept p t wired c s w free (without_tokens p s kept) u e)
+      (moved_apart p c s u free w.good.tidy kept.tokens e);
+  turns = λ p t outside wired typed heard s u w between hears kept e. with_tokens p u (turn_kept p t wired s w between.idle
+      (without_tokens p s kept) outside heard u hears.name e) (turned_apart p outside heard s u w.good.tidy kept.tokens e);
 }

@@ -25,7 +25,8 @@ use Rattle.aom_semantics.specs.Servers.{asked_last, discarded, reserved, is_from
 -- ---- lists
 
 -- the messages of another stay, and are no more than there were
-message_stays : (c d m : ℕ) (es : List Asked) → list_any (is_message_of d m) (filter (stays c) es) ≡ true → ((c == d) ≡ false) × (list_any (is_message_of d m) es ≡ true)
+message_stays : (c d m : ℕ) (es : List Asked) → list_any (is_message_of d m) (filter (stays c) es) ≡ true →
+    ((c == d) ≡ false) × (list_any (is_message_of d m) es ≡ true)
 message_stays c d m [] h = cc
 message_stays c d m (e ∷ es) h = grind (arith, nat_tests, message_stays c d m es)
 
@@ -40,9 +41,8 @@ pub queue_left : (clients : List Client) (c n : ℕ) (to : Client) (es : List As
 queue_left clients c n to es none fits = queue_other c n to clients (filter (stays c) es) (none_but_close c es none) (queue_stays clients n (stays c) es fits)
 
 -- or where it is leaving still
-pub queue_leaving :
-    (clients : List Client) (c n : ℕ) (to : Client) → (is_leaving n (client_at clients c) ≡ true → is_leaving n to ≡ true) → (es : List Asked) → QueueFits clients n es →
-    QueueFits (with_client c to clients) n (filter (stays c) es)
+pub queue_leaving : (clients : List Client) (c n : ℕ) (to : Client) → (is_leaving n (client_at clients c) ≡ true → is_leaving n to ≡ true) → (es : List Asked) →
+    QueueFits clients n es → QueueFits (with_client c to clients) n (filter (stays c) es)
 queue_leaving clients c n to still [] fits = tt
 queue_leaving clients c n to still (e ∷ es) fits = grind (
   arith,
@@ -82,14 +82,15 @@ module _ (p : Image) (clients : List Client) (cs : List Cell) (tidy : Tidy cs) (
       go _ at g = cc
 
   -- so that each queue loses its entries alone, and sessions stay
-  pub service_left : (n : ℕ) → ((service_of (withdrawn c cs) n).queue ≡ filter (stays c) (service_of cs n).queue) × ((service_of (withdrawn c cs) n).sessions ≡ (service_of cs n).sessions)
+  pub service_left : (n : ℕ) → ((service_of (withdrawn c cs) n).queue ≡ filter (stays c) (service_of cs n).queue)
+      × ((service_of (withdrawn c cs) n).sessions ≡ (service_of cs n).sessions)
   service_left n = go (cell_of cs n) refl
     where
       then : service_of (withdrawn c cs) n ≡ service_of (sifted drops left cs) n
       then = ap (λ l. service_of l n) (withdrawn_so c cs)
 
-      at : (x : Cell) → cell_of cs n ≡ Some x → (b : Bool) → drops x ≡ b →
-          ((service_of (withdrawn c cs) n).queue ≡ filter (stays c) (service_of cs n).queue) × ((service_of (withdrawn c cs) n).sessions ≡ (service_of cs n).sessions)
+      at : (x : Cell) → cell_of cs n ≡ Some x → (b : Bool) → drops x ≡ b → ((service_of (withdrawn c cs) n).queue ≡ filter (stays c) (service_of cs n).queue)
+          × ((service_of (withdrawn c cs) n).sessions ≡ (service_of cs n).sessions)
       at x e true d =
           let none = empty n x e d in
           let was : service_of cs n ≡ x.service = service_cell cs n ∙ ap service_in e in
@@ -104,11 +105,12 @@ module _ (p : Image) (clients : List Client) (cs : List Cell) (tidy : Tidy cs) (
             ap (λ v. v.sessions) now ∙ ap (λ v. v.sessions) (sym was),
           )
 
-      go : (x : Option Cell) → cell_of cs n ≡ x →
-          ((service_of (withdrawn c cs) n).queue ≡ filter (stays c) (service_of cs n).queue) × ((service_of (withdrawn c cs) n).sessions ≡ (service_of cs n).sessions)
+      go : (x : Option Cell) → cell_of cs n ≡ x → ((service_of (withdrawn c cs) n).queue ≡ filter (stays c) (service_of cs n).queue)
+          × ((service_of (withdrawn c cs) n).sessions ≡ (service_of cs n).sessions)
       go None e =
           let was : service_of cs n ≡ unserved = service_cell cs n ∙ ap service_in e in
-          let now : service_of (withdrawn c cs) n ≡ unserved = then ∙ service_cell (sifted drops left cs) n ∙ ap service_in (cell_of_sifted drops left cs n tidy ∙ ap (λ y. kept drops left y) e) in
+          let now : service_of (withdrawn c cs) n ≡ unserved = then ∙ service_cell (sifted drops left cs) n
+          ∙ ap service_in (cell_of_sifted drops left cs n tidy ∙ ap (λ y. kept drops left y) e) in
           (ap (λ v. v.queue) now ∙ sym (ap (λ v. filter (stays c) v.queue) was), ap (λ v. v.sessions) now ∙ sym (ap (λ v. v.sessions) was))
       go (Some x) e = at x e (drops x) refl
 
@@ -118,7 +120,8 @@ module _ (p : Image) (clients : List Client) (cs : List Cell) (tidy : Tidy cs) (
       grind (arith, nat_tests, cell_of cs m, service_cell cs m, service_in, from_other, and-false, withdrawn_so, service_sifted, from_kept)
 
   -- the client is at something else then, and asks for nothing more
-  module _ (to : Client) (session : server_of to ≡ server_of (client_at clients c)) (queues : (n : ℕ) → QueueFits (with_client c to clients) n (filter (stays c) (service_of cs n).queue)) where
+  module _ (to : Client) (session : server_of to ≡ server_of (client_at clients c))
+      (queues : (n : ℕ) → QueueFits (with_client c to clients) n (filter (stays c) (service_of cs n).queue)) where
     pub fit_withdrawn : ClientsFit p (with_client c to clients) (withdrawn c cs)
     fit_withdrawn = fit_eased p clients (with_client c to clients) cs (withdrawn c cs) fit record {
       carried = subst (Carried cs) (sym (withdrawn_so c cs)) (carried_sifted drops left
@@ -141,7 +144,8 @@ module _ (p : Image) (clients : List Client) (cs : List Cell) (tidy : Tidy cs) (
 
 -- ---- a close is asked last
 
-module _ (p : Image) (clients : List Client) (cs : List Cell) (fit : ClientsFit p clients cs) (o : Object) (lives : named cs o.name ≡ Some o) (serves : is_server p o.thing ≡ true)
-    (listed : is_some (requested cs o.name) ≡ true) (c : ℕ) where
-  pub fit_told : is_leaving o.name (client_at clients c) ≡ true → list_any (is_close_of c) (service_of cs o.name).queue ≡ false → ClientsFit p clients (reserved (asked_last (Close_of c)) o.name cs)
+module _ (p : Image) (clients : List Client) (cs : List Cell) (fit : ClientsFit p clients cs) (o : Object) (lives : named cs o.name ≡ Some o)
+    (serves : is_server p o.thing ≡ true) (listed : is_some (requested cs o.name) ≡ true) (c : ℕ) where
+  pub fit_told : is_leaving o.name (client_at clients c) ≡ true → list_any (is_close_of c) (service_of cs o.name).queue ≡ false →
+      ClientsFit p clients (reserved (asked_last (Close_of c)) o.name cs)
   fit_told leaves new = grind (arith, nat_tests, fit_asked p clients cs fit o lives serves listed (Close_of c) leaves new, seats_asked (Close_of c))

@@ -45,8 +45,8 @@ use Rattle.aom_safety.proofs.Seated.{seats_same}
 
 -- what a stage has stays kept, so do tasks
 pub tasks_staged : (p : Image) (clients clients' : List Client) (cs cs' : List Cell) (ts : List Task) →
-    ((x : Seat) (c : ℕ) (stage : Stage) → IsAt (Of_server x c stage) ts → StageKept p clients cs x.object c stage → StageKept p clients' cs' x.object c stage) → TasksKept p clients cs ts →
-    TasksKept p clients' cs' ts
+    ((x : Seat) (c : ℕ) (stage : Stage) → IsAt (Of_server x c stage) ts → StageKept p clients cs x.object c stage → StageKept p clients' cs' x.object c stage) →
+    TasksKept p clients cs ts → TasksKept p clients' cs' ts
 tasks_staged p clients clients' cs cs' [] still k = tt
 tasks_staged p clients clients' cs cs' (Dispatched (Of_server x c stage) ∷ ts) still k = still x c stage refl k
 tasks_staged p clients clients' cs cs' (Dispatched _ ∷ ts) still k = tt
@@ -70,7 +70,8 @@ module _ (p : Image) (clients : List Client) (cs cs' : List Cell) (queues : (n :
   pub tasks_queues : (ts : List Task) → TasksKept p clients cs ts → TasksKept p clients cs' ts
   tasks_queues ts k = tasks_staged p clients clients cs cs' ts (λ x c stage at. stage_queues x.object c stage) k
 
-pub tasks_steady : (p : Image) (clients : List Client) (cs cs' : List Cell) → Steady cs cs' → (ts : List Task) → TasksKept p clients cs ts → TasksKept p clients cs' ts
+pub tasks_steady : (p : Image) (clients : List Client) (cs cs' : List Cell) → Steady cs cs' → (ts : List Task) → TasksKept p clients cs ts →
+    TasksKept p clients cs' ts
 tasks_steady p clients cs cs' still ts k = tasks_queues p clients cs cs' still.queues still.sessions ts k
 
 -- ---- cells that move, or are made
@@ -87,7 +88,8 @@ held_elsewhere (c ∷ cs) a b r apart = go (same_place c.owner a) refl (same_pla
     go : (x : Bool) → same_place c.owner a ≡ x → (y : Bool) → same_place a r ≡ y → held (moved a b cs) r ≡ cond y None (held cs r) →
         cond (same_place (cond x b c.owner) r) (Some c.object) (held (moved a b cs) r) ≡ cond y None (cond (same_place c.owner r) (Some c.object) (held cs r))
     go true e true f ih = ap (λ z. cond z (Some c.object) (held (moved a b cs) r)) apart ∙ ih
-    go true e false f ih = ap (λ z. cond z (Some c.object) (held (moved a b cs) r)) apart ∙ ih ∙ sym (ap (λ z. cond z (Some c.object) (held cs r)) (same_place_along c.owner a r e ∙ f))
+    go true e false f ih = ap (λ z. cond z (Some c.object) (held (moved a b cs) r)) apart ∙ ih
+        ∙ sym (ap (λ z. cond z (Some c.object) (held cs r)) (same_place_along c.owner a r e ∙ f))
     go false e true f ih = ap (λ z. cond z (Some c.object) (held (moved a b cs) r)) (ap (λ z. same_place c.owner z) (sym (same_place-true a r f)) ∙ e) ∙ ih
     go false e false f ih = ap (λ z. cond (same_place c.owner r) (Some c.object) z) ih
 
@@ -98,8 +100,8 @@ abbrev pub NoService : Place → Type 0
 NoService b = same_place b (Elsewhere In_service) ≡ false
 
 pub steady_moved : (cs : List Cell) (a b : Place) → NoQueue b → NoService b → Steady cs (moved a b cs)
-steady_moved cs a b apart aside =
-    steady_as cs (moved a b cs) (service_moved cs a b) (named_moved cs a b) (λ n e. sym (requested_moved cs a b n) ∙ e) (λ n m. stays (Elsewhere (Queued n m)) (apart n m))
+steady_moved cs a b apart aside = steady_as cs (moved a b cs) (service_moved cs a b)
+    (named_moved cs a b) (λ n e. sym (requested_moved cs a b n) ∙ e) (λ n m. stays (Elsewhere (Queued n m)) (apart n m))
     (served_as cs (moved a b cs) (λ n. ap (λ v. is_some v.sender) (service_moved cs a b n)) (stays (Elsewhere In_service) aside))
   where
     unless_moved : (o : Object) (x : Bool) (was : Option Object) → cond x None was ≡ Some o → was ≡ Some o
@@ -109,13 +111,15 @@ steady_moved cs a b apart aside =
     stays q other o h = unless_moved o (same_place a q) (held cs q) (sym (held_elsewhere cs a b q other) ∙ h)
 
 no_queue : (owner : Place) → NoQueue owner → (name n m : ℕ) → owner ≡ Elsewhere (Queued n m) → name ≡ m
-no_queue owner apart name n m e = absurd (true≢false (sym (same_place_refl (Elsewhere (Queued n m))) ∙ ap (λ q. same_place q (Elsewhere (Queued n m))) (sym e) ∙ apart n m))
+no_queue owner apart name n m e =
+    absurd (true≢false (sym (same_place_refl (Elsewhere (Queued n m))) ∙ ap (λ q. same_place q (Elsewhere (Queued n m))) (sym e) ∙ apart n m))
 
 pub steady_new : (cs : List Cell) (name : ℕ) (x : Thing) (ws : List ℤ) (owner : Place) →
     NoQueue owner → NoService owner → is_object x ≡ true → named cs name ≡ None → Steady cs (with_new name x ws owner cs)
 steady_new cs name x ws owner apart aside object free = steady_more _ cs free refl refl (no_queue owner apart name) (sym (ap (λ b. cond b 0 1) object)) aside
 
-pub steady_token : (cs : List Cell) (name : ℕ) (token : Token) (owner : Place) → NoQueue owner → NoService owner → named cs name ≡ None → Steady cs (with_token name token owner cs)
+pub steady_token : (cs : List Cell) (name : ℕ) (token : Token) (owner : Place) → NoQueue owner → NoService owner → named cs name ≡ None →
+    Steady cs (with_token name token owner cs)
 steady_token cs name token owner apart aside free = steady_more _ cs free refl refl (no_queue owner apart name) refl aside
 
 -- ---- what an update changes
@@ -129,12 +133,13 @@ steady_asked cs (Inside o from) r keeps = steady_same cs (set_request o.name r c
 steady_asked cs _ r keeps = steady_itself cs
 
 -- a token is handed out
-pub steady_handed : (cs : List Cell) (name : ℕ) (home : Home) (owner : Place) → NoQueue owner → NoService owner → named cs name ≡ None → Steady cs (handed_cells name home owner cs)
+pub steady_handed : (cs : List Cell) (name : ℕ) (home : Home) (owner : Place) → NoQueue owner → NoService owner → named cs name ≡ None →
+    Steady cs (handed_cells name home owner cs)
 steady_handed cs name home owner apart aside free =
     let r = on_request (promised (next_token cs)) (own_request cs home) in
     let like = rerequested_alike cs home r in
-    steady_moved_then cs (rerequested cs home r) _ (steady_asked cs home r (λ e. on_none (promised (next_token cs)) (own_request cs home) e))
-    (steady_token (rerequested cs home r) name (record { class = home_class home; order = next_token cs }) owner apart aside (like.named_so name ∙ free)) like.named_so
+    steady_moved_then cs (rerequested cs home r) _ (steady_asked cs home r (λ e. on_none (promised (next_token cs)) (own_request cs home) e)) (steady_token
+    (rerequested cs home r) name (record { class = home_class home; order = next_token cs }) owner apart aside (like.named_so name ∙ free)) like.named_so
 
 -- and replied to
 listed_redeemed : (order : ℕ) (code : ℤ) (r : Option Request) → redeemed_request order code r ≡ None → r ≡ None
@@ -150,9 +155,8 @@ steady_redeemed (Some order) code cs = steady_same cs (all_redeemed order code c
 })
 
 -- each cell is changed by itself, and stays in its place, with its request and for its clients
-steady_altered :
-    {change : List Cell → List Cell} (a : Alters change) → ((c : Cell) → (a.each c).owner ≡ c.owner) → ((c : Cell) → (a.each c).request ≡ c.request) →
-    ((c : Cell) → (a.each c).service ≡ c.service) → (cs : List Cell) → Steady cs (change cs)
+steady_altered : {change : List Cell → List Cell} (a : Alters change) → ((c : Cell) → (a.each c).owner ≡ c.owner) →
+    ((c : Cell) → (a.each c).request ≡ c.request) → ((c : Cell) → (a.each c).service ≡ c.service) → (cs : List Cell) → Steady cs (change cs)
 steady_altered {change = change} a stays asks serves cs = steady_same cs (change cs) (record {
   service_so = read_kept a services serves cs;
   named_so = named_kept a cs;
@@ -192,7 +196,8 @@ module _ (p : Image) (fr : Frame) (ts : List Task) (s : State) where
   pub steady_update : (u : Update) → IsSteady fr s u → Steady s.cells (cells_after p fr ts s u)
   steady_update (Carried from The_message) h = absurd h
   steady_update (Carried from (In_register a)) h = steady_moved s.cells (spot_place p fr ts s from) (here fr ts s a) (λ n m. refl) refl
-  steady_update (Carried from (In_field f)) h = steady_moved s.cells (spot_place p fr ts s from) (field_place fr.home f) (field_apart fr.home f) (field_aside fr.home f)
+  steady_update (Carried from (In_field f)) h =
+      steady_moved s.cells (spot_place p fr ts s from) (field_place fr.home f) (field_apart fr.home f) (field_aside fr.home f)
   steady_update (Handed name a) h = steady_handed s.cells name fr.home (here fr ts s a) (λ n m. refl) refl h
   steady_update (Made name class a) h = steady_new s.cells name (An_object_of class) _ (here fr ts s a) (λ n m. refl) refl refl h
   steady_update (Written w v) h = steady_stored s.cells fr.home w v

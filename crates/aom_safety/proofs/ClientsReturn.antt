@@ -25,7 +25,8 @@ use Rattle.aom_safety.proofs.Seated.{seats_same}
 use Rattle.std.specs.Prelude.{is_some}
 
 -- the same clients with the same cells, whatever is at hand
-pub same_cells : (p : Image) (s : State) → ClientsFit p s.clients s.cells → (u : State) → u.cells ≡ s.cells → u.clients ≡ s.clients → TasksKept p s.clients s.cells u.tasks → IsFit p u
+pub same_cells : (p : Image) (s : State) → ClientsFit p s.clients s.cells → (u : State) → u.cells ≡ s.cells → u.clients ≡ s.clients →
+    TasksKept p s.clients s.cells u.tasks → IsFit p u
 same_cells p s fit u cells clients stage = record {
   fit = subst (λ l. ClientsFit p l u.cells) (sym clients) (subst (λ l. ClientsFit p s.clients l) (sym cells) fit);
   stage = subst (λ l. TasksKept p l u.cells u.tasks) (sym clients) (subst (λ l. TasksKept p s.clients l u.tasks) (sym cells) stage);
@@ -46,9 +47,9 @@ module _ (p : Image) (fr : Frame) (ts : List Task) (s : State) (fit : ClientsFit
 
   -- to the dispatch of a server
   module _ (g : Gives) (a : ℕ) (below : List Task) where
-    accept_kept :
-        (x : Seat) (c : ℕ) → named s.cells x.object.name ≡ Some x.object → is_server p x.object.thing ≡ true → is_some (requested s.cells x.object.name) ≡ true →
-        TasksKept p s.clients s.cells (Dispatched (Of_server x c Accepts) ∷ below) → IsFit p (returned p fr ts s g a (Trapped ∷ Dispatched (Of_server x c Accepts) ∷ below))
+    accept_kept : (x : Seat) (c : ℕ) → named s.cells x.object.name ≡ Some x.object → is_server p x.object.thing ≡ true →
+        is_some (requested s.cells x.object.name) ≡ true → TasksKept p s.clients s.cells (Dispatched (Of_server x c Accepts) ∷ below) →
+        IsFit p (returned p fr ts s g a (Trapped ∷ Dispatched (Of_server x c Accepts) ∷ below))
     accept_kept x c lives serves listed stage =
         let still = steady_moved s.cells (here fr ts s a) (Elsewhere (Session x.object.name c)) (λ n m. refl) refl in
         record {
@@ -61,19 +62,21 @@ module _ (p : Image) (fr : Frame) (ts : List Task) (s : State) (fit : ClientsFit
           stage = tt;
         }
 
-    ended_kept : (d : Dispatch) →
-        ((x : Seat) (c : ℕ) → d ≡ Of_server x c Accepts → (named s.cells x.object.name ≡ Some x.object) × (is_server p x.object.thing ≡ true) × (is_some (requested s.cells x.object.name) ≡ true)) →
+    ended_kept : (d : Dispatch) → ((x : Seat) (c : ℕ) → d ≡ Of_server x c Accepts →
+        (named s.cells x.object.name ≡ Some x.object) × (is_server p x.object.thing ≡ true) × (is_some (requested s.cells x.object.name) ≡ true)) →
         TasksKept p s.clients s.cells (Dispatched d ∷ below) → IsFit p (returned p fr ts s g a (Trapped ∷ Dispatched d ∷ below))
     ended_kept (Of_server x c Accepts) there stage = let l = there x c refl in accept_kept x c l.0 l.1 l.2 stage
     ended_kept (Of_server x c (Accept_left code)) there stage = same_cells p s fit _ refl refl stage
     ended_kept (Of_server x c Parts) there stage = same_cells p s fit _ refl refl stage
     ended_kept _ there stage = same_cells p s fit _ refl refl tt
 
-  answered_stage : (answer : ℤ) (d : Dispatch) (below : List Task) → TasksKept p s.clients s.cells (Dispatched d ∷ below) → TasksKept p s.clients s.cells (Dispatched (answered_by answer d) ∷ below)
+  answered_stage : (answer : ℤ) (d : Dispatch) (below : List Task) → TasksKept p s.clients s.cells (Dispatched d ∷ below) →
+      TasksKept p s.clients s.cells (Dispatched (answered_by answer d) ∷ below)
   answered_stage answer x below k = grind arith
 
   -- the next destructor of a line, or the cell
-  line_kept : (m : ℕ) (home : Home) (height : ℕ) (below : List Task) → TasksKept p s.clients s.cells (Destroy ∷ below) → TasksKept p s.clients s.cells (line_on p m home height below)
+  line_kept : (m : ℕ) (home : Home) (height : ℕ) (below : List Task) → TasksKept p s.clients s.cells (Destroy ∷ below) →
+      TasksKept p s.clients s.cells (line_on p m home height below)
   line_kept m x height below k = grind arith
 
   -- to whatever is below; where it is the end of `accept`, its server stands

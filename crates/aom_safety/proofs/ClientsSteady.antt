@@ -41,13 +41,13 @@ pub carried_itself : (cs : List Cell) → Carried cs cs
 carried_itself cs = record { lived = λ o h. inl h; enlisted = λ o h e. e; names = λ h. h; sources = λ h. h; served = λ h. h }
 
 -- some cells go, and those that stay have their senders and tokens
-pub carried_sifted :
-    (drops : Cell → Bool) (f : Cell → Service) → ((c : Cell) → sources_of (f c) ≡ sources_of c.service) → ((c : Cell) → is_some (f c).sender ≡ is_some c.service.sender) →
-    (cs : List Cell) → Tidy cs → Carried cs (sifted drops f cs)
+pub carried_sifted : (drops : Cell → Bool) (f : Cell → Service) → ((c : Cell) → sources_of (f c) ≡ sources_of c.service) →
+    ((c : Cell) → is_some (f c).sender ≡ is_some c.service.sender) → (cs : List Cell) → Tidy cs → Carried cs (sifted drops f cs)
 carried_sifted drops f sources senders cs tidy = record {
   lived = λ o h. let b = named_before drops f cs o.name o tidy h in inl (named_cell cs o.name ∙ ap object_in b.1 ∙ ap (λ y. Some y) b.2);
   enlisted = λ o h e. sym (requested_before drops f cs o.name o tidy h) ∙ e;
-  names = λ was n m o h. let b = placed_before drops f cs (Elsewhere (Queued n m)) o tidy h in was n m o (held_cell cs (Elsewhere (Queued n m)) ∙ ap object_in b.1 ∙ ap (λ y. Some y) b.2);
+  names = λ was n m o h. let b = placed_before drops f cs (Elsewhere (Queued n m)) o tidy h in
+      was n m o (held_cell cs (Elsewhere (Queued n m)) ∙ ap object_in b.1 ∙ ap (λ y. Some y) b.2);
   sources = sources_sifted drops f sources cs tidy;
   served = served_sifted drops f senders cs tidy;
 }
@@ -88,7 +88,8 @@ fit_eased p clients clients' cs cs' fit e = record {
 
     seats : (o : Object) → Lived cs o → seats_taken (service_of cs' o.name) ≤ most_of (thing_kind p o.thing)
     seats o (inl was) = let fewer = e.seats o.name in let all = fit.seats o was in omega (arith, fewer, all)
-    seats o (inr new) = let fewer = e.seats o.name in let none : seats_taken (service_of cs o.name) ≡ 0 = ap seats_taken (service_unnamed cs o.name new) in omega (arith, fewer, none)
+    seats o (inr new) = let fewer = e.seats o.name in let none : seats_taken (service_of cs o.name) ≡ 0 = ap seats_taken (service_unnamed cs o.name new) in
+        omega (arith, fewer, none)
 
 -- ---- servers have what they had
 
@@ -97,7 +98,8 @@ pub record Steady (cs cs' : List Cell) : Type 0 where
   pub queues : (n : ℕ) → (service_of cs' n).queue ≡ (service_of cs n).queue
   pub sessions : (n : ℕ) → (service_of cs' n).sessions ≡ (service_of cs n).sessions
   -- and a message that waits its sender
-  pub senders : (n c m : ℕ) → list_any (is_message_of c m) (service_of cs n).queue ≡ true → is_from c (service_of cs m).sender ≡ true → is_from c (service_of cs' m).sender ≡ true
+  pub senders : (n c m : ℕ) → list_any (is_message_of c m) (service_of cs n).queue ≡ true → is_from c (service_of cs m).sender ≡ true →
+      is_from c (service_of cs' m).sender ≡ true
 
 pub fit_steady : (p : Image) (clients : List Client) (cs cs' : List Cell) → Steady cs cs' → ClientsFit p clients cs → ClientsFit p clients cs'
 fit_steady p clients cs cs' still fit = fit_eased p clients clients cs cs' fit record {
@@ -145,9 +147,9 @@ pub record Same (cs cs' : List Cell) : Type 0 where
   pub listed_so : (n : ℕ) → requested cs' n ≡ None → requested cs n ≡ None
 
 -- or where cells move, to no queue, and what comes to be served has a sender
-pub steady_as :
-    (cs cs' : List Cell) → ((n : ℕ) → service_of cs' n ≡ service_of cs n) → ((n : ℕ) → named cs' n ≡ named cs n) → ((n : ℕ) → requested cs' n ≡ None → requested cs n ≡ None) →
-    ((n m : ℕ) (o : Object) → held cs' (Elsewhere (Queued n m)) ≡ Some o → held cs (Elsewhere (Queued n m)) ≡ Some o) → (ServesSent cs → ServesSent cs') → Steady cs cs'
+pub steady_as : (cs cs' : List Cell) → ((n : ℕ) → service_of cs' n ≡ service_of cs n) → ((n : ℕ) → named cs' n ≡ named cs n) →
+    ((n : ℕ) → requested cs' n ≡ None → requested cs n ≡ None) → ((n m : ℕ) (o : Object) → held cs' (Elsewhere (Queued n m)) ≡ Some o →
+    held cs (Elsewhere (Queued n m)) ≡ Some o) → (ServesSent cs → ServesSent cs') → Steady cs cs'
 steady_as cs cs' services names listed queued served = record {
   carried = record {
     lived = λ o h. inl (sym (names o.name) ∙ h);
@@ -170,8 +172,8 @@ fit_same p clients cs cs' like = fit_steady p clients cs cs' (steady_same cs cs'
 
 -- ---- a cell more, of a name that is free, of which nobody asks anything
 
-pub steady_more :
-    (x : Cell) (cs : List Cell) → named cs x.object.name ≡ None → x.service.queue ≡ [] → x.service.sessions ≡ [] → ((n m : ℕ) → x.owner ≡ Elsewhere (Queued n m) → x.object.name ≡ m) →
+pub steady_more : (x : Cell) (cs : List Cell) →
+    named cs x.object.name ≡ None → x.service.queue ≡ [] → x.service.sessions ≡ [] → ((n m : ℕ) → x.owner ≡ Elsewhere (Queued n m) → x.object.name ≡ m) →
     sources_of x.service ≡ cond (is_object x.object.thing) 0 1 → same_place x.owner (Elsewhere In_service) ≡ false → Steady cs (x ∷ cs)
 steady_more x cs free queue sessions named_so source aside = record {
   carried = record {
@@ -189,15 +191,18 @@ steady_more x cs free queue sessions named_so source aside = record {
     none : (n : ℕ) → (x.object.name == n) ≡ true → service_of cs n ≡ unserved
     none n e = ap (service_of cs) (sym (eqb-true x.object.name n e)) ∙ service_unnamed cs x.object.name free
 
-    part : {A : Type 0} (f : Service → A) → f x.service ≡ f unserved → (n : ℕ) (b : Bool) → (x.object.name == n) ≡ b → f (cond b x.service (service_of cs n)) ≡ f (service_of cs n)
+    part : {A : Type 0} (f : Service → A) → f x.service ≡ f unserved → (n : ℕ) (b : Bool) → (x.object.name == n) ≡ b →
+        f (cond b x.service (service_of cs n)) ≡ f (service_of cs n)
     part f same n true e = same ∙ sym (ap f (none n e))
     part f same n false e = refl
 
-    sender : (c m : ℕ) (b : Bool) → (x.object.name == m) ≡ b → is_from c (service_of cs m).sender ≡ true → is_from c (cond b x.service (service_of cs m)).sender ≡ true
+    sender : (c m : ℕ) (b : Bool) → (x.object.name == m) ≡ b → is_from c (service_of cs m).sender ≡ true →
+        is_from c (cond b x.service (service_of cs m)).sender ≡ true
     sender c m true e from = let clash : false ≡ true = sym (ap (λ v. is_from c v.sender) (none m e)) ∙ from in cc
     sender c m false e from = from
 
-    served : ServesSent cs → (o : Object) (b : Bool) → (x.object.name == o.name) ≡ b → held cs (Elsewhere In_service) ≡ Some o → is_some (cond b x.service (service_of cs o.name)).sender ≡ true
+    served : ServesSent cs → (o : Object) (b : Bool) → (x.object.name == o.name) ≡ b → held cs (Elsewhere In_service) ≡ Some o →
+        is_some (cond b x.service (service_of cs o.name)).sender ≡ true
     served sent o true e h = let clash : false ≡ true = sym (ap (λ v. is_some v.sender) (none o.name e)) ∙ sent o h in cc
     served sent o false e h = sent o h
 
@@ -209,11 +214,14 @@ steady_more x cs free queue sessions named_so source aside = record {
     lived o true e h = inr (ap (named cs) (sym (eqb-true x.object.name o.name e)) ∙ free)
     lived o false e h = inl h
 
-    names : AreNamed cs → (n m : ℕ) (o : Object) (b : Bool) → same_place x.owner (Elsewhere (Queued n m)) ≡ b → cond b (Some x.object) (held cs (Elsewhere (Queued n m))) ≡ Some o → o.name ≡ m
-    names was n m o true e h = let same : x.object ≡ o = cc in ap (λ (y : Object). y.name) (sym same) ∙ named_so n m (same_place-true x.owner (Elsewhere (Queued n m)) e)
+    names : AreNamed cs → (n m : ℕ) (o : Object) (b : Bool) → same_place x.owner (Elsewhere (Queued n m)) ≡ b →
+        cond b (Some x.object) (held cs (Elsewhere (Queued n m))) ≡ Some o → o.name ≡ m
+    names was n m o true e h = let same : x.object ≡ o = cc in ap (λ (y : Object). y.name) (sym same)
+        ∙ named_so n m (same_place-true x.owner (Elsewhere (Queued n m)) e)
     names was n m o false e h = was n m o h
 
-    sources : HasSources cs → (o : Object) (b : Bool) → cond b (Some x.object) (named cs o.name) ≡ Some o → sources_of (cond b x.service (service_of cs o.name)) ≡ cond (is_object o.thing) 0 1
+    sources : HasSources cs → (o : Object) (b : Bool) → cond b (Some x.object) (named cs o.name) ≡ Some o →
+        sources_of (cond b x.service (service_of cs o.name)) ≡ cond (is_object o.thing) 0 1
     sources had o true h = let same : x.object ≡ o = cc in source ∙ ap (λ (y : Object). cond (is_object y.thing) 0 1) same
     sources had o false h = had o h
 
@@ -229,13 +237,13 @@ module _ (p : Image) (clients : List Client) (cs : List Cell) (tidy : Tidy cs) (
   -- nor of what waits in a queue
   pub quiet_waiting : ((n m : ℕ) (o : Object) → held cs (Elsewhere (Queued n m)) ≡ Some o → is_server p o.thing ≡ false) →
       (n : ℕ) (x : Cell) → cell_of cs n ≡ Some x → (k m : ℕ) → x.owner ≡ Elsewhere (Queued k m) → IsQuiet x.service
-  quiet_waiting waiting n x e k m at = quiet_cell n x e (waiting k m x.object (ap (held cs) (sym at) ∙ held_cell cs x.owner ∙ ap object_in (cell_placed cs n x tidy e)))
+  quiet_waiting waiting n x e k m at =
+      quiet_cell n x e (waiting k m x.object (ap (held cs) (sym at) ∙ held_cell cs x.owner ∙ ap object_in (cell_placed cs n x tidy e)))
 
   -- a message that stays in its queue has its sender still
-  pub sender_stays :
-      (drops : Cell → Bool) → ((n c m : ℕ) → list_any (is_message_of c m) (service_of cs n).queue ≡ true → (x : Object) × (held cs (Elsewhere (Queued n m)) ≡ Some x)) →
-      (n d m : ℕ) → ((y : Cell) → y.owner ≡ Elsewhere (Queued n m) → drops y ≡ false) → list_any (is_message_of d m) (service_of cs n).queue ≡ true →
-      is_from d (service_of (sifted drops (λ c. c.service) cs) m).sender ≡ true
+  pub sender_stays : (drops : Cell → Bool) → ((n c m : ℕ) → list_any (is_message_of c m) (service_of cs n).queue ≡ true →
+      (x : Object) × (held cs (Elsewhere (Queued n m)) ≡ Some x)) → (n d m : ℕ) → ((y : Cell) → y.owner ≡ Elsewhere (Queued n m) → drops y ≡ false) →
+      list_any (is_message_of d m) (service_of cs n).queue ≡ true → is_from d (service_of (sifted drops (λ c. c.service) cs) m).sender ≡ true
   sender_stays drops queued n d m stays h =
       let x = queued n d m h in
       let y = a_cell_of (cell_in cs (Elsewhere (Queued n m))) x.0 (sym (held_cell cs (Elsewhere (Queued n m))) ∙ x.1) in

@@ -49,7 +49,8 @@ use Rattle.std.proofs.lemmas.Bool.{eq-eqb, eqb-true}
 pub on_none : (f : Request → Request) (r : Option Request) → on_request f r ≡ None → r ≡ None
 on_none f x e = grind arith
 
-pub listed_asked : (cs : List Cell) (m : ℕ) (r : Option Request) → (r ≡ None → requested cs m ≡ None) → (n : ℕ) → requested (set_request m r cs) n ≡ None → requested cs n ≡ None
+pub listed_asked : (cs : List Cell) (m : ℕ) (r : Option Request) → (r ≡ None → requested cs m ≡ None) → (n : ℕ) →
+    requested (set_request m r cs) n ≡ None → requested cs n ≡ None
 listed_asked cs m r keeps n e = grind (arith, nat_tests, requested_unnamed cs m, requested_here cs m r, eqb-true m n, requested_there cs m n r)
 
 listed_bereaved : (p : Image) (n : ℕ) (cs : List Cell) (m : ℕ) → requested (all_bereaved p n cs) m ≡ None → requested cs m ≡ None
@@ -75,12 +76,13 @@ same_requested cs o r keeps =
     record { service_so = service_asked cs o.name r; named_so = like.named_so; held_so = like.held_so; listed_so = listed_asked cs o.name r keeps }
 
 pub same_bereaved : (p : Image) (n : ℕ) (cs : List Cell) → Same cs (all_bereaved p n cs)
-same_bereaved p n cs = let like = bereaved_alike p n cs in record { service_so = service_bereaved p n cs; named_so = like.named_so; held_so = like.held_so; listed_so = listed_bereaved p n cs }
+same_bereaved p n cs = let like = bereaved_alike p n cs in
+    record { service_so = service_bereaved p n cs; named_so = like.named_so; held_so = like.held_so; listed_so = listed_bereaved p n cs }
 
 -- what is owned elsewhere, but in no queue; what comes to be served has a sender
-pub fit_moved :
-    (p : Image) (clients : List Client) (cs : List Cell) (a b : Place) → held cs b ≡ None → ((n m : ℕ) → same_place b (Elsewhere (Queued n m)) ≡ false) →
-    (same_place b (Elsewhere In_service) ≡ true → (o : Object) → held cs a ≡ Some o → has_sender cs o.name ≡ true) → ClientsFit p clients cs → ClientsFit p clients (moved a b cs)
+pub fit_moved : (p : Image) (clients : List Client) (cs : List Cell) (a b : Place) → held cs b ≡ None →
+    ((n m : ℕ) → same_place b (Elsewhere (Queued n m)) ≡ false) → (same_place b (Elsewhere In_service) ≡ true → (o : Object) → held cs a ≡ Some o →
+    has_sender cs o.name ≡ true) → ClientsFit p clients cs → ClientsFit p clients (moved a b cs)
 fit_moved p clients cs a b free apart sent = fit_steady p clients cs (moved a b cs) (steady_as cs (moved a b cs) (service_moved cs a b)
     (named_moved cs a b) (λ n e. sym (requested_moved cs a b n) ∙ e) (λ n m. queued (Elsewhere (Queued n m)) (apart n m)) (λ was o h. same o.name
     ∙ served was o (same_place b (Elsewhere In_service)) refl (same_place a (Elsewhere In_service)) (sym (held_moved cs a b (Elsewhere In_service) free) ∙ h)))
@@ -88,28 +90,25 @@ fit_moved p clients cs a b free apart sent = fit_steady p clients cs (moved a b 
     same : (n : ℕ) → has_sender (moved a b cs) n ≡ has_sender cs n
     same n = ap (λ v. is_some v.sender) (service_moved cs a b n)
 
-    served :
-        ServesSent cs → (o : Object) (x : Bool) → same_place b (Elsewhere In_service) ≡ x → (y : Bool) → cond x (held cs a) (cond y None (held cs (Elsewhere In_service))) ≡ Some o →
-        has_sender cs o.name ≡ true
+    served : ServesSent cs → (o : Object) (x : Bool) → same_place b (Elsewhere In_service) ≡ x → (y : Bool) →
+        cond x (held cs a) (cond y None (held cs (Elsewhere In_service))) ≡ Some o → has_sender cs o.name ≡ true
     served was o x e y h = grind arith
 
     unless_moved : (o : Object) (x : Bool) (was : Option Object) → cond x None was ≡ Some o → was ≡ Some o
     unless_moved o x was h = grind arith
 
     queued : (q : Place) → same_place b q ≡ false → (o : Object) → held (moved a b cs) q ≡ Some o → held cs q ≡ Some o
-    queued q other o h =
-        unless_moved o (same_place a q) (held cs q) (sym (ap (λ x. cond x (held cs a) (cond (same_place a q) None (held cs q))) other) ∙ sym (held_moved cs a b q free) ∙ h)
+    queued q other o h = unless_moved o (same_place a q) (held cs q)
+        (sym (ap (λ x. cond x (held cs a) (cond (same_place a q) None (held cs q))) other) ∙ sym (held_moved cs a b q free) ∙ h)
 
 -- what is asked of anything is a server
-asked_serves :
-    (p : Image) (clients : List Client) (cs : List Cell) → ClientsFit p clients cs → (o : Object) → named cs o.name ≡ Some o → (e : Asked) (es : List Asked) → (service_of cs o.name).queue ≡ e ∷ es →
-    is_server p o.thing ≡ true
+asked_serves : (p : Image) (clients : List Client) (cs : List Cell) → ClientsFit p clients cs → (o : Object) → named cs o.name ≡ Some o →
+    (e : Asked) (es : List Asked) → (service_of cs o.name).queue ≡ e ∷ es → is_server p o.thing ≡ true
 asked_serves p clients cs fit o lives e es queue = grind (arith, nat_tests)
 
 -- the first of a queue is taken
-pub fit_taken :
-    (p : Image) (clients : List Client) (cs : List Cell) (o : Object) → named cs o.name ≡ Some o → is_some (requested cs o.name) ≡ true → (e : Asked) (es : List Asked) →
-    (service_of cs o.name).queue ≡ e ∷ es → ClientsFit p clients cs → ClientsFit p clients (reserved taken_first o.name cs)
+pub fit_taken : (p : Image) (clients : List Client) (cs : List Cell) (o : Object) → named cs o.name ≡ Some o → is_some (requested cs o.name) ≡ true →
+    (e : Asked) (es : List Asked) → (service_of cs o.name).queue ≡ e ∷ es → ClientsFit p clients cs → ClientsFit p clients (reserved taken_first o.name cs)
 fit_taken p clients cs o lives listed e es queue fit = fit_reserved p clients cs fit o lives (asked_serves p clients cs fit o lives e es queue)
     listed taken_first clients refl refl (by_server cs o lives taken_first (λ n v. QueueFits clients n v.queue) (subst (λ q. QueueFits clients o.name (rest q))
     (sym queue) (subst (λ q. QueueFits clients o.name q) queue (fit.queues o.name)).1) (λ n other. fit.queues n)) (by_server cs o lives taken_first
@@ -122,20 +121,22 @@ fit_taken p clients cs o lives listed e es queue fit = fit_reserved p clients cs
     or_right x y h = grind arith
 
 -- a message that it is has a sender
-pub first_sent :
-    (p : Image) (clients : List Client) (cs : List Cell) (o : Object) → named cs o.name ≡ Some o → (c m : ℕ) (es : List Asked) → (service_of cs o.name).queue ≡ Message_of c m ∷ es →
-    ClientsFit p clients cs → (x : Object) → held (reserved taken_first o.name cs) (Elsewhere (Queued o.name m)) ≡ Some x → has_sender (reserved taken_first o.name cs) x.name ≡ true
+pub first_sent : (p : Image) (clients : List Client) (cs : List Cell) (o : Object) →
+    named cs o.name ≡ Some o → (c m : ℕ) (es : List Asked) → (service_of cs o.name).queue ≡ Message_of c m ∷ es → ClientsFit p clients cs → (x : Object) →
+    held (reserved taken_first o.name cs) (Elsewhere (Queued o.name m)) ≡ Some x → has_sender (reserved taken_first o.name cs) x.name ≡ true
 first_sent p clients cs o lives c m es queue fit x there =
     let was : held cs (Elsewhere (Queued o.name m)) ≡ Some x = grind (arith, nat_tests, held_served cs o.name) in
     let first : list_any (is_message_of c m) (service_of cs o.name).queue ≡ true = grind (arith, nat_tests) in
-    sent_then p cs o lives taken_first refl x.name ∙ ap (has_sender cs) (fit.names o.name m x was) ∙ from_some c (service_of cs m).sender (fit.senders o.name c m first)
+    sent_then p cs o lives taken_first refl x.name ∙ ap (has_sender cs) (fit.names o.name m x was)
+    ∙ from_some c (service_of cs m).sender (fit.senders o.name c m first)
   where
     own : ((c == c) && (m == m)) ≡ true
     own = ap (λ b. b && (m == m)) (eq-eqb c c refl) ∙ eq-eqb m m refl
 
 -- ---- tasks
 
-pub tasks_begun : (p : Image) (clients : List Client) (cs : List Cell) (o : Object) (height : ℕ) (ts : List Task) → TasksKept p clients cs ts → TasksKept p clients cs (begun p o height ts)
+pub tasks_begun : (p : Image) (clients : List Client) (cs : List Cell) (o : Object) (height : ℕ) (ts : List Task) → TasksKept p clients cs ts →
+    TasksKept p clients cs (begun p o height ts)
 tasks_begun p clients cs o height ts kept = grind (arith, nat_tests)
 
 -- ---- turns
@@ -172,7 +173,8 @@ module _ (p : Image) (t : Typing) (wired : IsWired p) (s : State) (w : WellTyped
       queue_now : (service_of cs n).queue ≡ es
       queue_now = ap (λ v. v.queue) (service_here s.cells n (taken_first (service_of s.cells n)) x.object there) ∙ ap rest queue
 
-    connect_kept : (c : ℕ) (es : List Asked) → (service_of s.cells n).queue ≡ Connect_of c ∷ es → (m : Option ℕ) → accepting m x c (taken_from n s) ≡ Goes u → IsFit p u
+    connect_kept : (c : ℕ) (es : List Asked) → (service_of s.cells n).queue ≡ Connect_of c ∷ es → (m : Option ℕ) →
+        accepting m x c (taken_from n s) ≡ Goes u → IsFit p u
     connect_kept c es queue m e =
         let first = first_fits (Connect_of c) es queue in
         let method = goes_some m (λ m. accepting m x c (taken_from n s)) WrongKind u refl e in
@@ -182,18 +184,19 @@ module _ (p : Image) (t : Typing) (wired : IsWired p) (s : State) (w : WellTyped
         room : seats_taken (service_of cs n) < most_of (thing_kind p x.object.thing)
         room = grind (arith, nat_tests, seats_first, service_here s.cells)
 
-    message_kept : (c m : ℕ) (es : List Asked) → (service_of s.cells n).queue ≡ Message_of c m ∷ es → (o : Option Object) → attended p x c o m (taken_from n s) ≡ Goes u → IsFit p u
+    message_kept : (c m : ℕ) (es : List Asked) → (service_of s.cells n).queue ≡ Message_of c m ∷ es → (o : Option Object) →
+        attended p x c o m (taken_from n s) ≡ Goes u → IsFit p u
     message_kept c m es queue o e =
         let session = goes_some o (λ o. attended p x c o m (taken_from n s)) NullOrDead u refl e in
         let method = goes_some (part_of p Attends_role session.0.thing) (λ k. attending k x c session.0 m (taken_from n s)) WrongKind u refl session.2 in
-        subst (λ v. IsFit p v) (goes_same _ u method.2)
-        (record {
+        subst (λ v. IsFit p v) (goes_same _ u method.2) (record {
           fit = fit_moved p s.clients cs (Elsewhere (Queued n m)) (Elsewhere In_service) (empty_now (Elsewhere In_service) refl) (λ i j. refl)
               (λ b. first_sent p s.clients s.cells x.object there c m es queue kept.fit) (taken (Message_of c m) es queue);
           stage = tt;
         })
 
-    close_kept : (c : ℕ) (es : List Asked) → (service_of s.cells n).queue ≡ Close_of c ∷ es → (o : Option Object) → parting_with p x c o (taken_from n s) ≡ Goes u → IsFit p u
+    close_kept : (c : ℕ) (es : List Asked) → (service_of s.cells n).queue ≡ Close_of c ∷ es → (o : Option Object) →
+        parting_with p x c o (taken_from n s) ≡ Goes u → IsFit p u
     close_kept c es queue o e =
         let first = first_fits (Close_of c) es queue in
         let then = moved (Elsewhere (Session n c)) (Going 1) cs in
@@ -213,8 +216,8 @@ module _ (p : Image) (t : Typing) (wired : IsWired p) (s : State) (w : WellTyped
     picked_kept e = go (is_server p x.object.thing) e
       where
         requested_fit : (o : Object) (f : Request → Request) → ClientsFit p s.clients (with_request f o s.cells)
-        requested_fit o f =
-            fit_same p s.clients s.cells (with_request f o s.cells) (same_requested s.cells o (on_request f (requested s.cells o.name)) (λ e. on_none f (requested s.cells o.name) e)) kept.fit
+        requested_fit o f = fit_same p s.clients s.cells (with_request f o s.cells)
+            (same_requested s.cells o (on_request f (requested s.cells o.name)) (λ e. on_none f (requested s.cells o.name) e)) kept.fit
 
         go : (b : Bool) → cond b (serves_first p x (service_of s.cells n).queue s) (dispatched (part_of p Handles x.object.thing) x s) ≡ Goes u → IsFit p u
         go true e = serves_kept (service_of s.cells n).queue refl e
@@ -275,7 +278,8 @@ module _ (p : Image) (t : Typing) (wired : IsWired p) (s : State) (w : WellTyped
   delivers_found : (outside : Environment) (name : ℕ) (event : Event) → named s.cells name ≡ None → IsFound (delivers outside name s event)
   delivers_found outside name x free = grind arith
 
-  event_found : (outside : Environment) (name : ℕ) (next : Option TimedEvent) (after : Turning) → named s.cells name ≡ None → IsFound after → IsFound (by_event outside name s next after)
+  event_found : (outside : Environment) (name : ℕ) (next : Option TimedEvent) (after : Turning) → named s.cells name ≡ None → IsFound after →
+      IsFound (by_event outside name s next after)
   event_found outside name x after free f = grind (arith, nat_tests, delivers_found outside name)
 
   timer_found : (next : Option Timed) (after : Turning) → IsFound after → IsFound (by_timer s next after)

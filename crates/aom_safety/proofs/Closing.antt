@@ -17,7 +17,8 @@ use Rattle.aom_shape.specs.declared.kind.Kind.{Kind}
 use Rattle.aom_safety.proofs.Parting.{stage_keeps}
 
 -- what holds of the root once it is gone
-pub root_gone : (p : Image) (t : Typing) (s : State) (seats : List Seat) (ls : List Layer) → Good p t s.cells (Dispatching Of_root seats ∷ ls) → held s.cells (Elsewhere Root) ≡ None
+pub root_gone : (p : Image) (t : Typing) (s : State) (seats : List Seat) (ls : List Layer) → Good p t s.cells (Dispatching Of_root seats ∷ ls) →
+    held s.cells (Elsewhere Root) ≡ None
 root_gone p t s seats ls good = fits_unowning p (seen s.cells) _ Null refl (good.fits (Elsewhere Root))
 
 no_items : (items : List Item) → forms items ≡ [] → items ≡ []
@@ -37,7 +38,8 @@ none_served x e k = grind arith
 
 module _ (p : Image) (t : Typing) (s : State) where
   -- with nothing at hand
-  idle : (s' : State) (d : Dispatch) (seats : List Seat) → serves_none d ≡ true → s'.cells ≡ s.cells → s'.tasks ≡ [] → s'.items ≡ [] → Good p t s.cells (Dispatching d seats ∷ []) → WellTyped p t s'
+  idle : (s' : State) (d : Dispatch) (seats : List Seat) → serves_none d ≡ true → s'.cells ≡ s.cells → s'.tasks ≡ [] → s'.items ≡ [] →
+      Good p t s.cells (Dispatching d seats ∷ []) → WellTyped p t s'
   idle s' d seats plain cells tasks items good = record {
     layers = [];
     tasks = tasks;
@@ -46,7 +48,8 @@ module _ (p : Image) (t : Typing) (s : State) where
     good = subst (λ cs. Good p t cs []) (sym cells) (record { stack = refl; fits = fits d plain good; suits = good.suits; tidy = good.tidy });
   }
     where
-      fits : (d : Dispatch) → serves_none d ≡ true → Good p t s.cells (Dispatching d seats ∷ []) → (r : Place) → Fits p (seen s.cells) (held s.cells r) (declared p s.cells r)
+      fits : (d : Dispatch) → serves_none d ≡ true → Good p t s.cells (Dispatching d seats ∷ []) → (r : Place) →
+          Fits p (seen s.cells) (held s.cells r) (declared p s.cells r)
       fits x y z r = grind (arith, nat_tests, root_gone p t s seats, none_parts d plain, none_served d plain Null)
 
   -- the root goes
@@ -62,7 +65,8 @@ module _ (p : Image) (t : Typing) (s : State) where
       (record { some = λ x. ⊎_elim (λ y. y) (λ y. y) x; unclaimed = λ f. refl; none_in = (tt, tt); unworked = tt; sessions = λ d c. refl })
       good.suits (uprooted p o s) (length s.items) (ap length items) refl refl (ap forms items) (subst (λ is. AllUndo p is) (sym items) tt)
     where
-      claims : (r : Place) → claim p (declared p s.cells) (Dispatching Of_root [] ∷ []) r ≡ changed (claim p (declared p s.cells) (Dispatching d seats ∷ [])) (Elsewhere Root) Null r
+      claims : (r : Place) → claim p (declared p s.cells) (Dispatching Of_root [] ∷ []) r
+          ≡ changed (claim p (declared p s.cells) (Dispatching d seats ∷ [])) (Elsewhere Root) Null r
       claims x = grind (arith, nat_tests, none_parts d plain, none_served d plain)
 
   -- a dispatch ends, and the root goes first where the run stops
@@ -71,10 +75,12 @@ module _ (p : Image) (t : Typing) (s : State) where
   closes wired typed d seats plain other items good x root e = grind (arith, nat_tests, uproots wired typed d seats plain other, idle)
 
 module _ (p : Image) (t : Typing) (s : State) (wired : IsWired p) (typed : IsTyped p t) (items : s.items ≡ []) where
-  of_object : (d : Dispatch) (seats : List Seat) → serves_none d ≡ true → is_of_root d ≡ false → Good p t s.cells (Dispatching d seats ∷ []) → WellTyped p t (object_ends p s)
+  of_object : (d : Dispatch) (seats : List Seat) → serves_none d ≡ true → is_of_root d ≡ false → Good p t s.cells (Dispatching d seats ∷ []) →
+      WellTyped p t (object_ends p s)
   of_object d seats plain other good = closes p t (handled s) wired typed d seats plain other items good s.rest.stopped (held s.cells (Elsewhere Root)) refl
 
-  with_answer : (d : Dispatch) (seats : List Seat) (answer : ℤ) → serves_none d ≡ true → is_of_root d ≡ false → Good p t s.cells (Dispatching d seats ∷ []) → WellTyped p t (answered p answer s)
+  with_answer : (d : Dispatch) (seats : List Seat) (answer : ℤ) → serves_none d ≡ true → is_of_root d ≡ false → Good p t s.cells (Dispatching d seats ∷ []) →
+      WellTyped p t (answered p answer s)
   with_answer d seats answer plain other good = grind (arith, nat_tests, of_object d seats plain other good, idle p t s)
 
   -- each kind of dispatch

@@ -33,12 +33,10 @@ module _ (p : Image) (cs cs' : List Cell) (names : (n : ℕ) → named cs' n ≡
   good_same t places requests tidy good = search (arith, nat_tests, declared_same, fits_ready p, declared_ready p cs)
 
 -- something that is no message is queued last
-pub good_asked :
-    (p : Image) (t : Typing) (cs : List Cell) (o : Object) → named cs o.name ≡ Some o → (e : Asked) → ((m : ℕ) → is_message m e ≡ false) → Good p t cs [] →
-    Good p t (reserved (asked_last e) o.name cs) []
-good_asked p t cs o lives e plain good =
-    good_same p cs (reserved (asked_last e) o.name cs) (named_served cs o.name (asked_last e (service_of cs o.name))) messages sessions t
-    (held_served cs o.name (asked_last e (service_of cs o.name))) (requested_served cs o.name (asked_last e (service_of cs o.name)))
+pub good_asked : (p : Image) (t : Typing) (cs : List Cell) (o : Object) → named cs o.name ≡ Some o → (e : Asked) → ((m : ℕ) → is_message m e ≡ false) →
+    Good p t cs [] → Good p t (reserved (asked_last e) o.name cs) []
+good_asked p t cs o lives e plain good = good_same p cs (reserved (asked_last e) o.name cs) (named_served cs o.name (asked_last e (service_of cs o.name)))
+    messages sessions t (held_served cs o.name (asked_last e (service_of cs o.name))) (requested_served cs o.name (asked_last e (service_of cs o.name)))
     (tidy_served cs o.name (asked_last e (service_of cs o.name)) good.tidy) good
   where
     messages : (n m : ℕ) → has_message (service_of (reserved (asked_last e) o.name cs) n) m ≡ has_message (service_of cs n) m

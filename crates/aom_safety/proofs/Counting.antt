@@ -41,7 +41,8 @@ moves_count : (p : Image) (c : Choice) (s u : State) → s.rest.steps ≡ in_ran
 moves_count p c s u within e = move_steps p c s u e ∙ ap (λ n. cond (restarts p s.tasks) 0 n) (grind arith)
 
 -- a turn counts anew where it dispatches an object
-turn_count : (p : Image) (outside : Environment) (heard : Heard) (s u : State) → turn p outside heard s ≡ Goes u → u.rest.steps ≡ cond (starts (turning outside heard s)) 0 s.rest.steps
+turn_count : (p : Image) (outside : Environment) (heard : Heard) (s u : State) → turn p outside heard s ≡ Goes u →
+    u.rest.steps ≡ cond (starts (turning outside heard s)) 0 s.rest.steps
 turn_count p outside heard s u e = go (turning outside heard s) e
   where
     go : (k : Turning) → turned p s k ≡ Goes u → u.rest.steps ≡ cond (starts k) 0 s.rest.steps
@@ -57,7 +58,8 @@ turn_dispatches p outside heard s u e = go (turning outside heard s) e
 anew : (b : Bool) (n : ℕ) → cond b 0 (in_range n) ≡ in_range (cond b 0 n)
 anew x n = grind arith
 
-runs_count : (p : Image) (outside : Environment) {lines : List Line} {s : State} (reached : Reaches p outside (boot_state p) lines s) → s.rest.steps ≡ in_range (taken reached)
+runs_count : (p : Image) (outside : Environment) {lines : List Line} {s : State} (reached : Reaches p outside (boot_state p) lines s) →
+    s.rest.steps ≡ in_range (taken reached)
 runs_count p outside begins = refl
 runs_count p outside (moves {s = s} {u = u} c reached busy opened goes) = grind (arith, nat_tests, runs_count p outside reached, moves_count p c s u, anew)
 runs_count p outside (turns {s = s} {u = u} heard reached between well goes) =

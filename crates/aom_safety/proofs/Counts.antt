@@ -37,7 +37,8 @@ counted_by passes None = 0
 counted_by passes (Some o) = cond (passes o.thing) 1 0
 
 -- one less where one of them goes
-pub counted_without : {count : List Cell → ℕ} (k : CountsBy count) (cs : List Cell) (g : Place) → Tidy cs → count cs ≡ counted_by k.passes (held cs g) + count (without g cs)
+pub counted_without : {count : List Cell → ℕ} (k : CountsBy count) (cs : List Cell) (g : Place) → Tidy cs →
+    count cs ≡ counted_by k.passes (held cs g) + count (without g cs)
 counted_without k [] g tidy = omega arith
 counted_without {count = count} k (c ∷ cs) g tidy = grind (arith, nat_tests, counted_without k cs g tidy.2, without_none cs g, same_place-true c.owner g)
 

@@ -47,7 +47,8 @@ module _ (p : Image) (t : Typing) (outside : Environment) (wired : IsWired p) (t
     Course s = StillLeaves p code below entries items from s ⊎ HasArrived p outside code below entries items from s
 
     -- something is over the leave
-    goes_on : (s u : State) (c : Choice) → WellTyped p t s → StillLeaves p code below entries items from s → s.tasks ≢ Unwind code ∷ below → step p c s ≡ Goes u → Course u
+    goes_on : (s u : State) (c : Choice) → WellTyped p t s → StillLeaves p code below entries items from s → s.tasks ≢ Unwind code ∷ below →
+        step p c s ≡ Goes u → Course u
     goes_on s u c w h other e =
         let r = works_kept p t wired typed c s u w code below h.rest items h.leaving other e in
         inl (record { dealt = h.dealt; rest = h.rest; all = h.all; course = works c h.course other e r.1; leaving = r.0 })
@@ -97,7 +98,8 @@ module _ (p : Image) (t : Typing) (outside : Environment) (wired : IsWired p) (t
 
     course_of : IsLeaving p code below entries items from → (lines : List Line) (s : State) → Reaches p outside from lines s → Course s
     course_of l _ _ begins = inl (record { dealt = []; rest = entries; all = refl; course = leaves; leaving = l })
-    course_of l _ _ (moves {lines = lines} {s = s} {u = u} c before busy choice e) = moved_on lines s u c (well_on from well lines s before).0 busy choice e (course_of l lines s before)
+    course_of l _ _ (moves {lines = lines} {s = s} {u = u} c before busy choice e) =
+        moved_on lines s u c (well_on from well lines s before).0 busy choice e (course_of l lines s before)
     course_of l _ _ (turns {lines = lines} {s = s} {u = u} heard before between hears e) = turned heard s u between hears e (course_of l lines s before)
 
 pub leaves_arrive : LeavesArrive

@@ -45,13 +45,14 @@ serves_new cs n x e m has thing none = go (n == m) refl
   where
     go : (b : Bool) → (n == m) ≡ b → Weaker (cond (has (cond b unserved (service_of cs m))) (filled
         (thing (cond b (Some (record { name = n; thing = x })) (named cs m))) Full) Null) (cond (has (service_of cs m)) (filled (thing (named cs m)) Full) Null)
-    go true h = subst (λ v. Weaker (cond (has unserved) (filled (thing (Some (record { name = n; thing = x }))) Full) Null) (cond (has v) (filled (thing (named cs m)) Full) Null))
-        (sym (service_unnamed cs m (ap (λ k. named cs k) (sym (eqb-true n m h)) ∙ e)))
-        (subst (λ b. Weaker (cond b (filled (thing (Some (record { name = n; thing = x }))) Full) Null) (cond b (filled (thing (named cs m)) Full) Null)) (sym none) alike)
+    go true h = subst (λ v. Weaker (cond (has unserved) (filled (thing (Some (record { name = n; thing = x }))) Full) Null)
+        (cond (has v) (filled (thing (named cs m)) Full) Null)) (sym (service_unnamed cs m (ap (λ k. named cs k) (sym (eqb-true n m h)) ∙ e))) (subst (λ b.
+        Weaker (cond b (filled (thing (Some (record { name = n; thing = x }))) Full) Null) (cond b (filled (thing (named cs m)) Full) Null)) (sym none) alike)
     go false h = alike
 
 -- nothing but a new cell's fields is declared anew
-declared_new : (p : Image) (cs : List Cell) (n : ℕ) (x : Thing) (ws : List ℤ) (owner : Place) → named cs n ≡ None → (r : Place) → Weaker (declared p (with_new n x ws owner cs) r) (declared p cs r)
+declared_new : (p : Image) (cs : List Cell) (n : ℕ) (x : Thing) (ws : List ℤ) (owner : Place) → named cs n ≡ None → (r : Place) →
+    Weaker (declared p (with_new n x ws owner cs) r) (declared p cs r)
 declared_new p cs n x ws owner e (Field m f) = go (n == m) refl
   where
     null : (c : Option Thing) → Weaker (filled c Perhaps) Null
@@ -59,7 +60,8 @@ declared_new p cs n x ws owner e (Field m f) = go (n == m) refl
     null (Some c) = maybe_null
 
     go : (b : Bool) → (n == m) ≡ b → Weaker (declared_field p (cond b (Some (record { name = n; thing = x })) (named cs m)) f) (declared_field p (named cs m) f)
-    go true h = subst (λ o. Weaker (filled (field_thing p (thing_holder x) f) Perhaps) (declared_field p o f)) (sym e ∙ ap (λ k. named cs k) (eqb-true n m h)) (null (field_thing p (thing_holder x) f))
+    go true h = subst (λ o. Weaker (filled (field_thing p (thing_holder x) f) Perhaps) (declared_field p o f)) (sym e ∙ ap (λ k. named cs k) (eqb-true n m h))
+        (null (field_thing p (thing_holder x) f))
     go false h = alike
 declared_new p cs n x ws owner e (Elsewhere (Session m c)) = serves_new cs n x e m (λ v. has_session v c) (λ o. session_thing p o) refl
 declared_new p cs n x ws owner e (Elsewhere (Queued m k)) = serves_new cs n x e m (λ v. has_message v k) (λ o. message_thing p o) refl
@@ -70,12 +72,12 @@ service_new : (cs : List Cell) (n : ℕ) (x : Thing) (ws : List ℤ) (owner : Pl
     service_of (with_new n x ws owner cs) o.name ≡ service_of cs o.name
 service_new cs n x ws owner o e h = grind (arith, nat_tests, ne_eqb n o.name)
 
-lives_new : (cs : List Cell) (n : ℕ) (x : Thing) (ws : List ℤ) (owner : Place) (o : Object) → named cs n ≡ None → named cs o.name ≡ Some o → named (with_new n x ws owner cs) o.name ≡ Some o
+lives_new : (cs : List Cell) (n : ℕ) (x : Thing) (ws : List ℤ) (owner : Place) (o : Object) → named cs n ≡ None → named cs o.name ≡ Some o →
+    named (with_new n x ws owner cs) o.name ≡ Some o
 lives_new cs n x ws owner o e h = search (arith, nat_tests, ne_eqb n o.name)
 
-holds_new :
-    (p : Image) (cs : List Cell) (n : ℕ) (x : Thing) (ws : List ℤ) (owner : Place) (ls : List Layer) (home : Home) → named cs n ≡ None → Outside owner ls →
-    ((o : Object) (from : Place) → home ≡ Inside o from → NoFieldHere owner from) → IsHoused p cs ls home → IsHoused p (with_new n x ws owner cs) ls home
+holds_new : (p : Image) (cs : List Cell) (n : ℕ) (x : Thing) (ws : List ℤ) (owner : Place) (ls : List Layer) (home : Home) → named cs n ≡ None → Outside owner
+    ls → ((o : Object) (from : Place) → home ≡ Inside o from → NoFieldHere owner from) → IsHoused p cs ls home → IsHoused p (with_new n x ws owner cs) ls home
 holds_new p cs n x ws owner ls y e out nf h = grind (arith, nat_tests, outside_differs owner, lives_new cs n x ws owner)
 
 stack_new : (p : Image) (t : Typing) (cs : List Cell) (n : ℕ) (x : Thing) (ws : List ℤ) (f i : ℕ) (ls : List Layer) (back : Back) →
@@ -105,7 +107,8 @@ stack_new p t cs n x ws f i (Ending o left ∷ ls) back e out s = search (
   stack_new p t cs n x ws f i ls,
 )
 stack_new p t cs n x ws f i (Unwinding code es ∷ ls) back e out s = (s.0, stack_new p t cs n x ws f i ls _ e (omega arith) s.1)
-stack_new p t cs n x ws f i (Dying o ∷ ls) back e out s = ((lives_new cs n x ws (Register f i) o e s.0.0, s.0.1), s.1, stack_new p t cs n x ws f i ls _ e (omega arith) s.2)
+stack_new p t cs n x ws f i (Dying o ∷ ls) back e out s =
+    ((lives_new cs n x ws (Register f i) o e s.0.0, s.0.1), s.1, stack_new p t cs n x ws f i ls _ e (omega arith) s.2)
 
 -- no layer works on a cell that is not there
 module _ (p : Image) (cs : List Cell) (o : Object) where
@@ -122,11 +125,8 @@ module _ (p : Image) (cs : List Cell) (o : Object) where
 
 -- a new cell in a register of the top method
 pub create : (p : Image) (t : Typing) (cs : List Cell) (fr : Frame) (sh : Shape) (ls : List Layer) (n : ℕ) (x : Thing) (ws : List ℤ) (a : ℕ) (k : Kind) →
-    Fitted p t cs fr sh ls →
-    named cs n ≡ None →
-    held cs (top ls a) ≡ None →
-    ((h : Sight) → ((f : ℕ) → h.holds (Field n f) ≡ None) → h.requests n ≡ None → Fits p h (Some (record { name = n; thing = x })) k) →
-    WordFits None k →
+    Fitted p t cs fr sh ls → named cs n ≡ None → held cs (top ls a) ≡ None →
+    ((h : Sight) → ((f : ℕ) → h.holds (Field n f) ≡ None) → h.requests n ≡ None → Fits p h (Some (record { name = n; thing = x })) k) → WordFits None k →
     Fitted p t (with_new n x ws (top ls a) cs) (next (set_word fr a None)) (set_register sh a k) ls
 create p t cs fr sh ls n x ws a k g e free new word = record {
   fits = fits;
@@ -147,7 +147,8 @@ create p t cs fr sh ls n x ws a k g e free new word = record {
     no_field : (f : ℕ) → held cs (Field n f) ≡ None
     no_field f = fits_unowning p (seen cs) _ Null refl (rw (unclaimed ∙ ap (λ o. declared_field p o f) e) at (g.fits (Field n f)))
       where
-        own : (h : Home) → IsHoused p cs ls h → home_claim p (holder_of p fr.method) h sh n f (claim p (declared p cs) ls (Field n f)) ≡ claim p (declared p cs) ls (Field n f)
+        own : (h : Home) → IsHoused p cs ls h →
+            home_claim p (holder_of p fr.method) h sh n f (claim p (declared p cs) ls (Field n f)) ≡ claim p (declared p cs) ls (Field n f)
         own Static h = refl
         own AtRoot h = refl
         own (Inside o from) h = ap (λ b. cond b (own_field (field_thing p (holder_of p fr.method) f) (field sh f) (claim p (declared p cs) ls (Field n f)))
@@ -178,7 +179,8 @@ create p t cs fr sh ls n x ws a k g e free new word = record {
             Suits (thing_kind p o.thing) (states_claim p o (Method fr sh ∷ ls)) (cond b None (requested cs o.name))
         go true same here =
             let unnamed : named cs o.name ≡ None = ap (λ m. named cs m) (sym (eqb-true n o.name same)) ∙ e in
-            rw (unworked_rests p o (Method fr sh ∷ ls) (unworked_home p cs o ls fr.home g.housed unnamed, unworked_unnamed p cs o t ls back g.stack unnamed)) (suits_new (thing_kind p o.thing))
+            rw (unworked_rests p o (Method fr sh ∷ ls) (unworked_home p cs o ls fr.home g.housed unnamed, unworked_unnamed p cs o t ls back g.stack unnamed))
+            (suits_new (thing_kind p o.thing))
         go false other here = g.suits o here
 
 module _ (p : Image) (t : Typing) (c : Choice) (s : State) (fr : Frame) (sh : Shape) (ls : List Layer) (at_hand : At p t s fr sh ls) where
@@ -196,7 +198,8 @@ module _ (p : Image) (t : Typing) (c : Choice) (s : State) (fr : Frame) (sh : Sh
   pub made_well : (a x : ℕ) (k : Kind) → held s.cells (top ls a) ≡ None → IsUnused → ((h : Sight) → HasAge h (record { name = c.name; thing = An_object_of x })
       (new_age p x) → Fits p h (Some (record { name = c.name; thing = An_object_of x })) k) → WordFits None k →
       Leads t fr.method (suc fr.place) (set_register sh a k) → WellTyped p t (applied p fr (tasks_of ls) s (sets fr a None (Made c.name x a)))
-  made_well a x k free unused owns word leads = well p t c s fr sh ls at_hand _ fr' (set_register sh a k) refl at_hand.items at_hand.undos (settle p t _ fr' (set_register sh a k) ls makes leads)
+  made_well a x k free unused owns word leads =
+      well p t c s fr sh ls at_hand _ fr' (set_register sh a k) refl at_hand.items at_hand.undos (settle p t _ fr' (set_register sh a k) ls makes leads)
     where
       fr' : Frame
       fr' = next (set_word fr a None)
@@ -222,7 +225,8 @@ module _ (p : Image) (t : Typing) (c : Choice) (s : State) (fr : Frame) (sh : Sh
           (rw free tt) (λ r. claim-set_register p (declared p s.cells) fr sh ls a k r) (words_set fr.words sh a None k at_hand.good.stack.1.words refl)
 
       go : (b : Bool) → WellTyped p t (applied p fr (tasks_of ls) s (sets fr a None (makes_unless b c.name x a)))
-      go true = well p t c s fr sh ls at_hand _ fr' (set_register sh a k) refl at_hand.items at_hand.undos (settle p t _ fr' (set_register sh a k) ls refuses leads.0)
+      go true = well p t c s fr sh ls at_hand _ fr' (set_register sh a k) refl at_hand.items at_hand.undos
+          (settle p t _ fr' (set_register sh a k) ls refuses leads.0)
       go false = made_well a x k free unused (λ h age. (stands_itself p (An_object_of x), age)) refl leads.0
 
   -- the instruction of this file by its law

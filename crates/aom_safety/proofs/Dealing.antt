@@ -55,20 +55,21 @@ pub record Dealing (p : Image) (t : Typing) (s : State) (e : CleanupEntry) (befo
   pub unserved : IsServed below → ⊥
   pub under_operation : (m : ℕ) → IsUndo p m → Stack p t s.cells (Returns m Static) below
 
-module _ (p : Image) (t : Typing) (wired : IsWired p) (typed : IsTyped p t) (s : State) (e : CleanupEntry) (before below : List Layer) (d : Dealing p t s e before below) where
+module _ (p : Image) (t : Typing) (wired : IsWired p) (typed : IsTyped p t) (s : State) (e : CleanupEntry) (before below : List Layer)
+    (d : Dealing p t s e before below) where
   abbrev q : Place
   q = Entry (length (items_of below))
 
   less : (r : Place) → claim p (declared p s.cells) below r ≡ changed (claim p (declared p s.cells) before) (Entry (length (items_of below))) Null r
-  less = less_claims (claim p (declared p s.cells) before) (claim p (declared p s.cells) below) q (entry_kind e) d.claims (claim_entry_above p s.cells below (length (items_of below)) (omega arith))
+  less = less_claims (claim p (declared p s.cells) before) (claim p (declared p s.cells) below) q (entry_kind e) d.claims
+      (claim_entry_above p s.cells below (length (items_of below)) (omega arith))
 
   -- what the entry's place holds is as the entry says
   entry_fits : Fits p (seen s.cells) (held s.cells (Entry (length (items_of below)))) (entry_kind e)
   entry_fits = rw (d.claims q ∙ ap (λ b. cond b (entry_kind e) (claim p (declared p s.cells) below q)) (same_place_refl q)) at (d.fits q)
 
   -- the object of an entry goes
-  object_goes :
-      (o : Object) (items : List Item) → forms items ≡ items_of below → AllUndo p items → held s.cells (Entry (length (items_of below))) ≡ Some o →
+  object_goes : (o : Object) (items : List Item) → forms items ≡ items_of below → AllUndo p items → held s.cells (Entry (length (items_of below))) ≡ Some o →
       WellTyped p t (destroyed p (Some o) items (tasks_of below) s)
   object_goes o items same undos there =
       let g = Going (length (tasks_of below)) in
@@ -94,7 +95,8 @@ module _ (p : Image) (t : Typing) (wired : IsWired p) (typed : IsTyped p t) (s :
         Fits p (seen s.cells) (held s.cells r) (claim p (declared p s.cells) (Method (operation_frame m w height) after ∷ below) r)
     runs_fitting height after says (Register f i) = go (length (tasks_of below) == f) refl
       where
-        go : (b : Bool) → (length (tasks_of below) == f) ≡ b → Fits p (seen s.cells) (held s.cells (Register f i)) (cond b (register after i) (claim p (declared p s.cells) below (Register f i)))
+        go : (b : Bool) → (length (tasks_of below) == f) ≡ b →
+            Fits p (seen s.cells) (held s.cells (Register f i)) (cond b (register after i) (claim p (declared p s.cells) below (Register f i)))
         go true h =
             let above = rw (claim_register_above p s.cells below f i (omega (arith, eqb-true _ _ h))) at (fits_below (Register f i)) in
             rw (fits_unowning p (seen s.cells) _ Null refl above) (fits_weaker p (seen s.cells) None (says.registers i) (rw (begins_with i) (grind arith)))

@@ -84,7 +84,8 @@ module _ (p : Image) (t : Typing) (cs : List Cell) (q : Place) (o : Object) (tid
   untouched_method k fr sh ls aside out housed u = go housed
     where
       Result : Home → Type 0
-      Result home = (WorksOn o.name home → ⊥) × ((f : ℕ) → home_claim p (holder_of p fr.method) home sh o.name f (k f) ≡ k f) × NotIn o.name home × (works_at o.name home ≡ false)
+      Result home = (WorksOn o.name home → ⊥) × ((f : ℕ) → home_claim p (holder_of p fr.method) home sh o.name f (k f) ≡ k f) × NotIn o.name home
+          × (works_at o.name home ≡ false)
 
       of : (home : Home) → fr.home ≡ home → IsHoused p cs ls home → Result home
       of Static same h = (λ x. x, λ f. refl, tt, refl)
@@ -130,10 +131,12 @@ module _ (p : Image) (t : Typing) (cs : List Cell) (q : Place) (o : Object) (tid
       let u = untouched k ls Gone (outside_less q (Dying x) ls out) s.2 in
       record {
         some = u.some;
-        unclaimed = λ f. ap (λ y. cond (x.name == o.name) Null y) (u.unclaimed f) ∙ ap (λ b. cond b Null (k f)) (other_name (Going (length (tasks_of ls))) x s.0.1 (going_differs q x ls out));
+        unclaimed = λ f. ap (λ y. cond (x.name == o.name) Null y) (u.unclaimed f)
+            ∙ ap (λ b. cond b Null (k f)) (other_name (Going (length (tasks_of ls))) x s.0.1 (going_differs q x ls out));
         none_in = u.none_in;
         unworked = (other_name (Going (length (tasks_of ls))) x s.0.1 (going_differs q x ls out), u.unworked);
-        sessions = λ d c. ap (λ b. cond b Null (claim p d ls (Elsewhere (Session o.name c)))) (other_name (Going (length (tasks_of ls))) x s.0.1 (going_differs q x ls out)) ∙ u.sessions d c;
+        sessions = λ d c. ap (λ b. cond b Null (claim p d ls (Elsewhere (Session o.name c))))
+            (other_name (Going (length (tasks_of ls))) x s.0.1 (going_differs q x ls out)) ∙ u.sessions d c;
       }
   untouched k (Dispatching w seats ∷ ls) back out s =
       let h = unseated seats (no_seat_outside q w seats ls out) s.2 in
@@ -195,7 +198,8 @@ destroys p wired (An_object_of c) m e = destroys_by p wired c c m (itself p c) e
 destroys p wired Message m e = cc
 
 -- the first of a line is of a class that has all the thing's fields
-first_fields : (p : Image) → IsWired p → (x : Thing) (m : ℕ) → destructor_of p x ≡ Some m → (f : ℕ) → field_thing p (thing_holder x) f ≡ field_thing p (holder_of p m) f
+first_fields : (p : Image) → IsWired p → (x : Thing) (m : ℕ) → destructor_of p x ≡ Some m → (f : ℕ) →
+    field_thing p (thing_holder x) f ≡ field_thing p (holder_of p m) f
 first_fields p wired x m e f = grind arith
 
 -- what has no destructor may rest as it goes
@@ -242,10 +246,10 @@ server_last x e = grind arith
 
 module _ (p : Image) (t : Typing) (linked : IsWired p) (typed : IsTyped p t) (cs : List Cell) (o : Object) (ls : List Layer)
     (tidy : Tidy cs) (stack : Stack p t cs Gone ls) (there : held cs (Going (length (tasks_of ls))) ≡ Some o) (lives : named cs o.name ≡ Some o)
-    (apart : Untouched p (λ f. filled (field_thing p (thing_holder o.thing) f) Perhaps) o.name ls)
-    (suits : AllSuit p cs ls) where
+    (apart : Untouched p (λ f. filled (field_thing p (thing_holder o.thing) f) Perhaps) o.name ls) (suits : AllSuit p cs ls) where
   fields_claim : (f : ℕ) → claim p (declared p cs) ls (Field o.name f) ≡ filled (field_thing p (thing_holder o.thing) f) Perhaps
-  fields_claim f = claim_unclaimed p (declared p cs) ls o.name f (λ f. filled (field_thing p (thing_holder o.thing) f) Perhaps) apart.unclaimed (ap (λ x. declared_field p x f) lives)
+  fields_claim f = claim_unclaimed p (declared p cs) ls o.name f (λ f. filled (field_thing p (thing_holder o.thing) f) Perhaps) apart.unclaimed
+      (ap (λ x. declared_field p x f) lives)
 
   -- the object rests as it begins to go
   rested : Suits (thing_kind p o.thing) (resting_in (states_of (thing_kind p o.thing))) (requested cs o.name)
@@ -318,8 +322,7 @@ module _ (p : Image) (t : Typing) (linked : IsWired p) (typed : IsTyped p t) (cs
           good = subst (λ cs. Good p t cs (Dying o ∷ ls)) (sym cells) (record {
             stack = ((lives, there), tt, stack);
             fits = bare e;
-            suits =
-                grind (arith, nat_tests, same_object, there, rested, undestructed p linked o.thing e);
+            suits = grind (arith, nat_tests, same_object, there, rested, undestructed p linked o.thing e);
             tidy = tidy;
           });
         }
@@ -332,7 +335,8 @@ module _ (p : Image) (t : Typing) (linked : IsWired p) (typed : IsTyped p t) (cs
   -- with its sessions
   module _ (fits : (r : Place) → Fits p (seen cs) (held cs r) (Dies p cs o ls r)) where
     -- so a destruction begins
-    pub begin : (s : State) (height : ℕ) → height ≡ length (items_of ls) → s.cells ≡ cs → s.tasks ≡ begun p o height (tasks_of ls) → forms s.items ≡ items_of ls → AllUndo p s.items → WellTyped p t s
+    pub begin : (s : State) (height : ℕ) → height ≡ length (items_of ls) → s.cells ≡ cs → s.tasks ≡ begun p o height (tasks_of ls) →
+        forms s.items ≡ items_of ls → AllUndo p s.items → WellTyped p t s
     begin s height high cells tasks items undos = go (is_server p o.thing) refl tasks
       where
         left : List ℕ
@@ -341,7 +345,8 @@ module _ (p : Image) (t : Typing) (linked : IsWired p) (typed : IsTyped p t) (cs
         rests : is_server p o.thing ≡ true → AllSuit p cs (Dying o ∷ ls)
         rests server x lives' = at_name (o.name == x.name) refl
           where
-            at_name : (b : Bool) → (o.name == x.name) ≡ b → Suits (thing_kind p x.thing) (cond b (resting_in (last_of (thing_kind p x.thing))) (states_claim p x ls)) (requested cs x.name)
+            at_name : (b : Bool) → (o.name == x.name) ≡ b →
+                Suits (thing_kind p x.thing) (cond b (resting_in (last_of (thing_kind p x.thing))) (states_claim p x ls)) (requested cs x.name)
             at_name true e =
                 subst (λ y. Suits (thing_kind p y.thing) (resting_in (last_of (thing_kind p y.thing))) (requested cs y.name)) (same_object cs o x lives lives'
                 e) (subst (λ n. Suits (thing_kind p o.thing) (resting_in n) (requested cs o.name)) (sym (server_last (thing_kind p o.thing) server)) rested)
@@ -394,7 +399,8 @@ module _ (p : Image) (t : Typing) (cs : List Cell) (o : Object) (q : Place) (ls 
   -- so its destruction begins
   pub goes_well : IsWired p → IsTyped p t → Tidy cs → Stack p t (moved q (Going (length (tasks_of ls'))) cs) Gone ls' → Untouched p
       (λ f. filled (field_thing p (thing_holder o.thing) f) Perhaps) o.name ls' → AllSuit p cs ls' → (s : State) (height : ℕ) → height ≡ length (items_of ls') →
-      s.cells ≡ moved q (Going (length (tasks_of ls'))) cs → s.tasks ≡ begun p o height (tasks_of ls') → forms s.items ≡ items_of ls' → AllUndo p s.items → WellTyped p t s
+      s.cells ≡ moved q (Going (length (tasks_of ls'))) cs → s.tasks ≡ begun p o height (tasks_of ls') → forms s.items ≡ items_of ls' →
+      AllUndo p s.items → WellTyped p t s
   goes_well wired typed tidy stack apart suits s height high cells tasks items undos =
       grind (arith, nat_tests, begin, tidy_moved, no_going, goes_there, named_moved, held_lives, there, all_moved, goes_fitting)
 
@@ -436,10 +442,9 @@ module _ (p : Image) (t : Typing) (c : Choice) (s : State) (fr : Frame) (sh : Sh
           let k : ℕ → Kind = λ f. filled (field_thing p (thing_holder o.thing) f) Perhaps in
           goes_well p t cs o q before below at_hand.good.fits e (omega arith) claims linked typed at_hand.good.tidy
           (leads.0, frames_reworded at_hand.good.stack.1 words, housed, at_hand.good.stack.3, stack_moved p t cs q g ls _ free (omega arith) (omega arith) at_hand.good.stack.4)
-          (untouched_method p t cs q o at_hand.good.tidy e k fr' sh' ls
-          (λ x from e. tt) (omega arith) at_hand.good.stack.2 (untouched p t cs q o at_hand.good.tidy e k ls _ (omega arith) at_hand.good.stack.4))
-          at_hand.good.suits
-          (applied p fr (tasks_of ls) s (deletes fr (Some o) a)) (length s.items) (sym (length_forms s.items) ∙ ap length at_hand.items) refl refl at_hand.items at_hand.undos
+          (untouched_method p t cs q o at_hand.good.tidy e k fr' sh' ls (λ x from e. tt) (omega arith) at_hand.good.stack.2
+          (untouched p t cs q o at_hand.good.tidy e k ls _ (omega arith) at_hand.good.stack.4)) at_hand.good.suits (applied p fr (tasks_of ls) s
+          (deletes fr (Some o) a)) (length s.items) (sym (length_forms s.items) ∙ ap length at_hand.items) refl refl at_hand.items at_hand.undos
 
   -- the instruction of this file by its law
   abbrev pub of_destruction : IsWired p → IsTyped p t → (i : Instr) → Option (Law p t c s fr sh ls at_hand i)

@@ -1,4 +1,5 @@
--- A destructor returns: the next of its line begins, or its cell goes. It leaves nothing in the fields past those of its class's parent, and the next is of a class that has all the parent's.
+-- A destructor returns: the next of its line begins, or its cell goes. It leaves nothing in the fields past those of its class's parent, and the next is of a
+-- class that has all the parent's.
 use Rattle.std.proofs.lemmas.Bool.Decides.{nat_tests}
 use Rattle.aom_image.specs.declared.method.Role.TheVariants.{Destruct}
 use Rattle.aom_image.specs.declared.class.ClassKind.{ClassKind}
@@ -54,7 +55,8 @@ empty_at (t ∷ ts) (x ∷ xs) zero y e h = (and_parts _ _ e).0
 empty_at (t ∷ ts) (x ∷ xs) (suc f) y e h = empty_at ts xs f y (and_parts _ _ e).1 h
 
 -- a field past so many is empty where these are
-past_at : (k : ℕ) (ts : List Thing) (xs : List Filling) (f : ℕ) (y : Thing) → empty_past k ts xs ≡ true → k ≤ f → slice_get ts f ≡ Some y → is_empty (at Perhaps xs f) ≡ true
+past_at : (k : ℕ) (ts : List Thing) (xs : List Filling) (f : ℕ) (y : Thing) → empty_past k ts xs ≡ true → k ≤ f → slice_get ts f ≡ Some y →
+    is_empty (at Perhaps xs f) ≡ true
 past_at zero ts xs f y e le h = empty_at ts xs f y e h
 past_at (suc k) [] xs f y e le h = let clash : slice_get {X = Thing} [] f ≡ Some y = h in cc
 past_at (suc k) (t ∷ ts) xs zero y e le h = absurd (omega arith)
@@ -123,7 +125,8 @@ module _ (p : Image) (t : Typing) (c : Choice) (s : State) (fr : Frame) (sh : Sh
     past : (f : ℕ) → above ≤ f → held cs (Field o.name f) ≡ None
     past f le = go (field_thing p (holder_of p fr.method) f) refl (grind (arith, nat_tests, home))
       where
-        go : (x : Option Thing) → field_thing p (holder_of p fr.method) f ≡ x → Fits p h (held cs (Field o.name f)) (own_field x (field sh f) Null) → held cs (Field o.name f) ≡ None
+        go : (x : Option Thing) → field_thing p (holder_of p fr.method) f ≡ x → Fits p h (held cs (Field o.name f)) (own_field x (field sh f) Null) →
+            held cs (Field o.name f) ≡ None
         go None e fits = fits_unowning p h (held cs (Field o.name f)) Null refl fits
         go (Some y) e fits = empty_none p h (held cs (Field o.name f)) y
             (field sh f) (past_at above (fields_of p line.class) sh.fields f y done le (ap (λ k. field_thing p k f) (sym holder) ∙ e)) fits
@@ -136,9 +139,8 @@ module _ (p : Image) (t : Typing) (c : Choice) (s : State) (fr : Frame) (sh : Sh
     beside : (r : Place) → IsBeside r → Fits p h (held cs r) (claim p (declared p cs) (Dying o ∷ ls) r)
     beside (Register f i) u = go (length (tasks_of (Dying o ∷ ls)) == f) refl (at_hand.good.fits (Register f i))
       where
-        go : (b : Bool) → (length (tasks_of (Dying o ∷ ls)) == f) ≡ b →
-            Fits p h (held cs (Register f i)) (cond b (register sh i) (claim p (declared p cs) ls (Register f i))) →
-            Fits p h (held cs (Register f i)) (claim p (declared p cs) ls (Register f i))
+        go : (b : Bool) → (length (tasks_of (Dying o ∷ ls)) == f) ≡ b → Fits p h (held cs (Register f i))
+            (cond b (register sh i) (claim p (declared p cs) ls (Register f i))) → Fits p h (held cs (Register f i)) (claim p (declared p cs) ls (Register f i))
         go true e fits = rw (claim_register_above p cs ls f i (omega (arith, eqb-true _ _ e)))
             (rw (fits_unowning p h _ (register sh i) (none_owns_at sh.registers i free) fits) tt)
         go false e fits = fits
@@ -159,7 +161,8 @@ module _ (p : Image) (t : Typing) (c : Choice) (s : State) (fr : Frame) (sh : Sh
 
     -- no other layer works on it
     apart : Untouched p (λ f. filled (field_thing p (thing_holder o.thing) f) Perhaps) o.name ls
-    apart = untouched p t cs g o at_hand.good.tidy at_hand.good.stack.4.0.1 (λ f. filled (field_thing p (thing_holder o.thing) f) Perhaps) ls Gone (omega arith) at_hand.good.stack.4.2
+    apart = untouched p t cs g o at_hand.good.tidy at_hand.good.stack.4.0.1 (λ f. filled (field_thing p (thing_holder o.thing) f) Perhaps) ls Gone
+        (omega arith) at_hand.good.stack.4.2
 
     bare : (r : Place) → Fits p h (held cs r) (Bare p cs o ls r)
     bare (Field n f) = go (o.name == n) refl
@@ -217,15 +220,16 @@ module _ (p : Image) (t : Typing) (c : Choice) (s : State) (fr : Frame) (sh : Sh
       begins e k parent role =
           let family = through p at_hand.good.stack.4.1.6 line.class e line.above (child p line.class e e parent (itself p e)) in
           let d = subst (λ x. Destroys p x k) (sym thing) (destroys_by p wired at_hand.good.stack.4.1.6 e k family role) in
-          begins_line p t wired typed cs o ls at_hand.good.tidy at_hand.good.stack.4.2 at_hand.good.stack.4.0.1 at_hand.good.stack.4.0.0 apart suits_below bare k d others (Then (Some k)) fr.height
-          at_hand.good.stack.1.height refl refl items at_hand.undos
+          begins_line p t wired typed cs o ls at_hand.good.tidy at_hand.good.stack.4.2 at_hand.good.stack.4.0.1 at_hand.good.stack.4.0.0 apart suits_below bare
+          k d others (Then (Some k)) fr.height at_hand.good.stack.1.height refl refl items at_hand.undos
         where
           others : (f : ℕ) → field_thing p (holder_of p k) f ≡ None → held cs (Field o.name f) ≡ None
           others f none = past f (subst (λ x. fields_above p x ≤ f) (sym parent) (none_from (fields_of p e) f (wired.empties e k role f ∙ none)))
 
       of_role : (e : ℕ) (d : Option ℕ) → parent_of p line.class ≡ Some e → role_of p e Destruct ≡ d → WellTyped p t (Then d)
       of_role e (Some k) parent role = begins e k parent role
-      of_role e None parent role = dies (λ f. past f (subst (λ x. fields_above p x ≤ f) (sym parent) (let none = none_from (fields_of p e) 0 (wired.no_destructor e role 0) in omega (arith, none))))
+      of_role e None parent role = dies (λ f. past f
+          (subst (λ x. fields_above p x ≤ f) (sym parent) (let none = none_from (fields_of p e) 0 (wired.no_destructor e role 0) in omega (arith, none))))
 
       of_parent : (x : Option ℕ) → parent_of p line.class ≡ x → WellTyped p t (Then (class_destructor p x))
       of_parent x parent = grind (arith, nat_tests, dies, past, of_role)

@@ -95,9 +95,12 @@ module _ (gone : Place → Bool) where
         none = ap (λ b. named (cond b (dropped cs) (c ∷ dropped cs)) n) ex ∙ w.none;
       })
       go false true ex ey ih = inl (record {
-        name = ap (λ b. named (cond b (dropped cs) (c ∷ dropped cs)) n) ex ∙ ap (λ b. cond b (Some c.object) (named (dropped cs) n)) ey ∙ sym (ap (λ b. cond b (Some c.object) (named cs n)) ey);
-        service = ap (λ b. service_of (cond b (dropped cs) (c ∷ dropped cs)) n) ex ∙ ap (λ b. cond b c.service (service_of (dropped cs) n)) ey ∙ sym (ap (λ b. cond b c.service (service_of cs n)) ey);
-        request = ap (λ b. requested (cond b (dropped cs) (c ∷ dropped cs)) n) ex ∙ ap (λ b. cond b c.request (requested (dropped cs) n)) ey ∙ sym (ap (λ b. cond b c.request (requested cs n)) ey);
+        name = ap (λ b. named (cond b (dropped cs) (c ∷ dropped cs)) n) ex ∙ ap (λ b. cond b (Some c.object) (named (dropped cs) n)) ey
+            ∙ sym (ap (λ b. cond b (Some c.object) (named cs n)) ey);
+        service = ap (λ b. service_of (cond b (dropped cs) (c ∷ dropped cs)) n) ex ∙ ap (λ b. cond b c.service (service_of (dropped cs) n)) ey
+            ∙ sym (ap (λ b. cond b c.service (service_of cs n)) ey);
+        request = ap (λ b. requested (cond b (dropped cs) (c ∷ dropped cs)) n) ex ∙ ap (λ b. cond b c.request (requested (dropped cs) n)) ey
+            ∙ sym (ap (λ b. cond b c.request (requested cs n)) ey);
       })
       go false false ex ey (inl s) = inl (record {
         name = ap (λ b. named (cond b (dropped cs) (c ∷ dropped cs)) n) ex ∙ ap (λ x. cond (c.object.name == n) (Some c.object) x) s.name;
@@ -142,7 +145,8 @@ module _ (gone : Place → Bool) where
 
     pub declared_dropped : (r : Place) → declared p (dropped cs) r ≡ declared p cs r
     unfolding sessions_in kind_of
-    declared_dropped (Field n f) = serves_dropped n (λ v. true) (λ o. declared_field p o f) refl (λ x e. ap (λ y. declared_field p (Some (record { name = x.name; thing = y })) f) e)
+    declared_dropped (Field n f) =
+        serves_dropped n (λ v. true) (λ o. declared_field p o f) refl (λ x e. ap (λ y. declared_field p (Some (record { name = x.name; thing = y })) f) e)
     declared_dropped (Elsewhere (Session n c)) = serves_dropped n (λ v. has_session v c)
         (λ o. filled (session_thing p o) Full) refl (λ x e. ap (λ y. filled (session_thing p (Some (record { name = x.name; thing = y }))) Full) e)
     declared_dropped (Elsewhere (Queued n m)) = serves_dropped n (λ v. has_message v m)
@@ -168,12 +172,14 @@ module _ (gone : Place → Bool) where
       sits_spared x xs b = grind arith
 
       housed_dropped : (ls : List Layer) (home : Home) → IsHoused p cs ls home → IsHoused p (dropped cs) ls home
-      housed_dropped ls (Inside o from) h = let e = below_spared from ls h.below in record { there = stays_at from o e h.there; lives = stays_named from o e h.there; below = h.below; ready = h.ready }
+      housed_dropped ls (Inside o from) h = let e = below_spared from ls h.below in
+          record { there = stays_at from o e h.there; lives = stays_named from o e h.there; below = h.below; ready = h.ready }
       housed_dropped ls _ h = h
 
       all_sit_dropped : (xs : List Seat) → AllSit cs xs → AllSit (dropped cs) xs
       all_sit_dropped [] s = tt
-      all_sit_dropped (x ∷ xs) s = let e = sits_spared x.place xs s.0.2 in ((stays_at x.place x.object e s.0.0, stays_named x.place x.object e s.0.0, s.0.2, s.0.3), all_sit_dropped xs s.1)
+      all_sit_dropped (x ∷ xs) s = let e = sits_spared x.place xs s.0.2 in
+          ((stays_at x.place x.object e s.0.0, stays_named x.place x.object e s.0.0, s.0.2, s.0.3), all_sit_dropped xs s.1)
 
       -- the object that is dispatched stays
       first_same : (xs : List Seat) (x : Seat) → AllSit cs xs → SitsFirst cs (Some x) xs → SameAtName cs x.object.name
@@ -224,5 +230,6 @@ queued_claim p d [] n m = refl
 queued_claim p d (l ∷ ls) n m = queued_claim p d ls n m
 
 -- what waits in a queue is a message
-pub waits_message : (p : Image) (h : Sight) (x : Object) (b : Bool) (o : Option Object) → Fits p h (Some x) (cond b (filled (message_thing p o) Full) Null) → x.thing ≡ Message
+pub waits_message : (p : Image) (h : Sight) (x : Object) (b : Bool) (o : Option Object) →
+    Fits p h (Some x) (cond b (filled (message_thing p o) Full) Null) → x.thing ≡ Message
 waits_message p h x y z f = grind arith

@@ -55,7 +55,8 @@ found_first cs n (d ∷ ss) x e = go (held cs (Elsewhere (Session n d))) refl e 
         subst (λ (y : Seat). Found cs n y) same (record { client = d; place = refl; there = there })
 
 -- nothing below is at a session with a cell that does not belong there
-none_from : (p : Image) (t : Typing) (cs : List Cell) (n c : ℕ) (ls : List Layer) (back : Back) → Stack p t cs back ls → (SomeIn n ls → ⊥) → NoneFrom (Elsewhere (Session n c)) ls
+none_from : (p : Image) (t : Typing) (cs : List Cell) (n c : ℕ) (ls : List Layer) (back : Back) → Stack p t cs back ls → (SomeIn n ls → ⊥) →
+    NoneFrom (Elsewhere (Session n c)) ls
 none_from p t cs n c [] back s none = tt
 none_from p t cs n c (Method fr sh ∷ ls) back s none = (at_home fr.home s.2, none_from p t cs n c ls _ s.4 (λ h. none (inr h)))
   where
@@ -89,7 +90,8 @@ module _ (p : Image) (t : Typing) (wired : IsWired p) (typed : IsTyped p t) (s :
   high = sym (length_forms s.items) ∙ ap length items
 
   own : Untouched p (λ f. filled (field_thing p (thing_holder o.thing) f) Perhaps) o.name ls
-  own = untouched p t cs (Going (length (tasks_of ls))) o good.tidy there (λ f. filled (field_thing p (thing_holder o.thing) f) Perhaps) ls Gone (omega arith) good.stack.3.2
+  own = untouched p t cs (Going (length (tasks_of ls))) o good.tidy there (λ f. filled (field_thing p (thing_holder o.thing) f) Perhaps) ls Gone
+      (omega arith) good.stack.3.2
 
   -- with none left its destructor begins
   module _ (none : (c : ℕ) → held cs (Elsewhere (Session o.name c)) ≡ None) where
@@ -97,7 +99,8 @@ module _ (p : Image) (t : Typing) (wired : IsWired p) (typed : IsTyped p t) (s :
     bare (Field m f) = go (o.name == m) refl (good.fits (Field m f))
       where
         own_claim : claim p (declared p cs) ls (Field o.name f) ≡ filled (field_thing p (thing_holder o.thing) f) Perhaps
-        own_claim = claim_unclaimed p (declared p cs) ls o.name f (λ f. filled (field_thing p (thing_holder o.thing) f) Perhaps) own.unclaimed (ap (λ x. declared_field p x f) lives)
+        own_claim = claim_unclaimed p (declared p cs) ls o.name f (λ f. filled (field_thing p (thing_holder o.thing) f) Perhaps) own.unclaimed
+            (ap (λ x. declared_field p x f) lives)
 
         go : (b : Bool) → (o.name == m) ≡ b → Fits p (seen cs) (held cs (Field m f)) (cond b (filled (field_thing p (thing_holder o.thing) f) Perhaps)
             (cond b Null (claim p (declared p cs) ls (Field m f)))) → Fits p (seen cs) (held cs (Field m f)) (claim p (declared p cs) ls (Field m f))
@@ -153,7 +156,8 @@ module _ (p : Image) (t : Typing) (wired : IsWired p) (typed : IsTyped p t) (s :
   closing_well None e = grind (arith, nat_tests, destruct, there, lives, own, suits_below, bare, high, none_first, fits_unowning p)
   closing_well (Some x) e =
       let f = found_first cs o.name (service_of cs o.name).sessions x e in
-      subst (λ (y : Seat). WellTyped p t (parting p o (Some y) (tasks_of ls) s)) (ap (λ q. record { object = x.object; place = q }) (sym f.place)) (grind (arith, nat_tests, session_gone))
+      subst (λ (y : Seat). WellTyped p t (parting p o (Some y) (tasks_of ls) s)) (ap (λ q. record { object = x.object; place = q }) (sym f.place))
+      (grind (arith, nat_tests, session_gone))
 
   closing_goes : Keeps p t (closing p (tasks_of (Dying o ∷ ls)) s)
   closing_goes = grind (arith, nat_tests, there, closing_well)

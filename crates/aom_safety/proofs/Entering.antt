@@ -48,7 +48,8 @@ pub record Entering (p : Image) (t : Typing) (cs : List Cell) (x : Seat) (above 
   pub stack : Stack p t cs (Returns m (Inside x.object x.place)) over
   pub fits : (r : Place) → Fits p (seen cs) (held cs r) (with_message served (declared p cs) r)
   pub own : Suits (thing_kind p x.object.thing) (resting_in (before_of p m)) (requested cs x.object.name)
-  pub others : (y : Object) → named cs y.name ≡ Some y → (x.object.name == y.name) ≡ false → Suits (thing_kind p y.thing) (resting_in (rests_in p y)) (requested cs y.name)
+  pub others : (y : Object) → named cs y.name ≡ Some y → (x.object.name == y.name) ≡ false →
+      Suits (thing_kind p y.thing) (resting_in (rests_in p y)) (requested cs y.name)
   pub tidy : Tidy cs
   pub sits : AllSit cs (x ∷ above)
   pub there : IsSome (method_at p m)
@@ -67,7 +68,8 @@ no_fields cs n [] none s = tt
 no_fields cs n (x ∷ xs) none s = (no_field n x.place xs (λ h. none (inr h)) s.0.2, no_fields cs n xs (λ h. none (inr h)) s.1)
 
 -- what stands over no cell that goes
-module _ (p : Image) (t : Typing) (typed : IsTyped p t) (cs : List Cell) (x : Seat) (above : List Seat) (over : List Layer) (m : ℕ) (ws : List (Option ℤ)) (e : Entering p t cs x above over m ws) where
+module _ (p : Image) (t : Typing) (typed : IsTyped p t) (cs : List Cell) (x : Seat) (above : List Seat) (over : List Layer) (m : ℕ) (ws : List (Option ℤ))
+    (e : Entering p t cs x above over m ws) where
   abbrev o : Object
   o = x.object
 
@@ -90,7 +92,8 @@ module _ (p : Image) (t : Typing) (typed : IsTyped p t) (cs : List Cell) (x : Se
   base : (r : Place) → Fits p (seen cs) (held cs r) (claim p (declared p cs) over r)
   base r = subst (λ k. Fits p (seen cs) (held cs r) k) (sym (e.claims (declared p cs) r)) (e.fits r)
 
-  fits : (height : ℕ) (after : Shape) → SaysNoMore after (entry_shape p m) → (r : Place) → Fits p (seen cs) (held cs r) (claim p (declared p cs) (Method (begun height) after ∷ over) r)
+  fits : (height : ℕ) (after : Shape) → SaysNoMore after (entry_shape p m) → (r : Place) →
+      Fits p (seen cs) (held cs r) (claim p (declared p cs) (Method (begun height) after ∷ over) r)
   fits height after w (Register f i) = go (length (tasks_of over) == f)
     where
       none : held cs (Register f i) ≡ None
@@ -115,7 +118,8 @@ module _ (p : Image) (t : Typing) (typed : IsTyped p t) (cs : List Cell) (x : Se
   fits height after w (Elsewhere Root) = base (Elsewhere Root)
   fits height after w (Elsewhere In_service) = go (serves p m) refl
     where
-      go : (b : Bool) → serves p m ≡ b → Fits p (seen cs) (held cs (Elsewhere In_service)) (cond b (delivered after.delivery) (claim p (declared p cs) over (Elsewhere In_service)))
+      go : (b : Bool) → serves p m ≡ b →
+          Fits p (seen cs) (held cs (Elsewhere In_service)) (cond b (delivered after.delivery) (claim p (declared p cs) over (Elsewhere In_service)))
       go true serving = subst (λ x. Fits p (seen cs) (held cs (Elsewhere In_service)) (delivered x)) (sym w.delivery) (subst
           (λ b. Fits p (seen cs) (held cs (Elsewhere In_service)) (cond b (Own Message Ready) Null)) (sym e.message ∙ serving) (e.fits (Elsewhere In_service)))
       go false plain = base (Elsewhere In_service)
@@ -129,12 +133,14 @@ module _ (p : Image) (t : Typing) (typed : IsTyped p t) (cs : List Cell) (x : Se
       below z = states_claim p z over
 
       known : known_at p (begun height) after.states (below x.object) ≡ resting_in after.states
-      known = known_plain p (begun height) after.states (below x.object) e.plain ∙ ap (λ (k : Known). record { states = after.states; cancelled = k.cancelled }) (e.states x.object)
+      known = known_plain p (begun height) after.states (below x.object) e.plain
+          ∙ ap (λ (k : Known). record { states = after.states; cancelled = k.cancelled }) (e.states x.object)
 
       own_now : Suits (thing_kind p x.object.thing) (known_at p (begun height) after.states (below x.object)) (requested cs x.object.name)
       own_now = rw known (suits_less (thing_kind p x.object.thing) after.states (before_of p m) false (requested cs x.object.name) w.states e.own)
 
-      go : (b : Bool) → (x.object.name == y.name) ≡ b → Suits (thing_kind p y.thing) (cond b (known_at p (begun height) after.states (below y)) (below y)) (requested cs y.name)
+      go : (b : Bool) → (x.object.name == y.name) ≡ b →
+          Suits (thing_kind p y.thing) (cond b (known_at p (begun height) after.states (below y)) (below y)) (requested cs y.name)
       go true same = rw (same_object cs x.object y e.sits.0.1 lives same) at own_now
       go false other = subst (λ k. Suits (thing_kind p y.thing) k (requested cs y.name)) (sym (e.states y)) (e.others y lives other)
 

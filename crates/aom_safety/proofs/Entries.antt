@@ -70,23 +70,26 @@ top_operation p (An_operation m w ∷ rest) below e u = record { rest = rest; me
 top_operation p _ below e u = cc
 
 -- a method's claims with its last entry, and without
-module _ (p : Image) (cs : List Cell) (fr : Frame) (sh : Shape) (ls : List Layer) (v : CleanupEntry) (es : List CleanupEntry) (e : sh.entries ≡ v ∷ es) (items : List Item)
-    (known : forms items ≡ objects es (items_of ls)) where
+module _ (p : Image) (cs : List Cell) (fr : Frame) (sh : Shape) (ls : List Layer) (v : CleanupEntry) (es : List CleanupEntry) (e : sh.entries ≡ v ∷ es)
+    (items : List Item) (known : forms items ≡ objects es (items_of ls)) where
   abbrev less : Shape
   less = record sh { entries = es }
 
   place_of_top : Entry (length (objects es (items_of ls))) ≡ Entry (length items)
   place_of_top = ap (λ fs. Entry (length fs)) (sym known) ∙ ap Entry (length_forms items)
 
-  whole : (r : Place) → claim p (declared p cs) (Method fr sh ∷ ls) r ≡ changed (claim p (declared p cs) (Method fr less ∷ ls)) (Entry (length items)) (entry_kind v) r
+  whole : (r : Place) → claim p (declared p cs) (Method fr sh ∷ ls) r
+      ≡ changed (claim p (declared p cs) (Method fr less ∷ ls)) (Entry (length items)) (entry_kind v) r
   whole r = grind (arith, nat_tests, claim_push p, place_of_top)
 
   entry_here : claim p (declared p cs) (Method fr sh ∷ ls) (Entry (length items)) ≡ entry_kind v
-  entry_here = whole (Entry (length items)) ∙ ap (λ b. cond b (entry_kind v) (claim p (declared p cs) (Method fr less ∷ ls) (Entry (length items)))) (same_place_refl (Entry (length items)))
+  entry_here = whole (Entry (length items))
+      ∙ ap (λ b. cond b (entry_kind v) (claim p (declared p cs) (Method fr less ∷ ls) (Entry (length items)))) (same_place_refl (Entry (length items)))
 
   entry_less : (r : Place) → claim p (declared p cs) (Method fr less ∷ ls) r ≡ changed (claim p (declared p cs) (Method fr sh ∷ ls)) (Entry (length items)) Null r
-  entry_less r = less_claims (claim p (declared p cs) (Method fr sh ∷ ls)) (claim p (declared p cs) (Method fr less ∷ ls)) (Entry (length items)) (entry_kind v) whole
-      (ap (λ q. claim p (declared p cs) (Method fr less ∷ ls) q) (sym place_of_top) ∙ claim_entry_above p cs (Method fr less ∷ ls) (length (objects es (items_of ls))) (omega arith)) r
+  entry_less r = less_claims (claim p (declared p cs) (Method fr sh ∷ ls)) (claim p (declared p cs) (Method fr less ∷ ls))
+      (Entry (length items)) (entry_kind v) whole (ap (λ q. claim p (declared p cs) (Method fr less ∷ ls) q) (sym place_of_top)
+      ∙ claim_entry_above p cs (Method fr less ∷ ls) (length (objects es (items_of ls))) (omega arith)) r
 
 module _ (p : Image) (t : Typing) (c : Choice) (s : State) (fr : Frame) (sh : Shape) (ls : List Layer) (at_hand : At p t s fr sh ls) where
   g : Fitted p t s.cells fr sh ls
@@ -152,7 +155,8 @@ module _ (p : Image) (t : Typing) (c : Choice) (s : State) (fr : Frame) (sh : Sh
       needed false = tt
 
       goes : (b : Bool) → WellTyped p t (applied p fr (tasks_of ls) s (unless_refused b (Object_pushed a) (sets fr a None (Object_pushed a))))
-      goes true = leave_keeps p t wired (record s { cells = cells; items = An_object ∷ s.items }) no_memory fr' (pushed_shape a) ls items at_hand.undos there n.1.0 n.1.1.0 n.1.1.1.0 n.1.1.1.1.0
+      goes true = leave_keeps p t wired (record s { cells = cells; items = An_object ∷ s.items }) no_memory fr'
+          (pushed_shape a) ls items at_hand.undos there n.1.0 n.1.1.0 n.1.1.1.0 n.1.1.1.1.0
       goes false = well p t c s fr sh ls at_hand _ fr' (pushed_shape a) refl items at_hand.undos (settle p t cells fr' (pushed_shape a) ls there leads.0)
 
   -- ---- the push of an operation
@@ -179,10 +183,12 @@ module _ (p : Image) (t : Typing) (c : Choice) (s : State) (fr : Frame) (sh : Sh
       needed true = leave_is_met p t s.cells (next fr) fr with_operation ls operation_fitted n.1.0 n.1.1.0
       needed false = tt
 
-      goes : (b : Bool) → WellTyped p t (applied p fr (tasks_of ls) s (unless_refused b (Operation_pushed m (read fr (tasks_of ls) s a)) (updates fr (Operation_pushed m (read fr (tasks_of ls) s a)))))
+      goes : (b : Bool) → WellTyped p t (applied p fr (tasks_of ls) s
+          (unless_refused b (Operation_pushed m (read fr (tasks_of ls) s a)) (updates fr (Operation_pushed m (read fr (tasks_of ls) s a)))))
       goes true = leave_keeps p t wired (record s { items = An_operation m (read fr (tasks_of ls) s a) ∷ s.items }) no_memory
           (next fr) with_operation ls items undos operation_fitted n.1.0 n.1.1.0 n.1.1.1.0 n.1.1.1.1.0
-      goes false = well p t c s fr sh ls at_hand _ (next fr) with_operation refl items undos (settle p t s.cells (next fr) with_operation ls operation_fitted leads.0)
+      goes false = well p t c s fr sh ls at_hand _ (next fr) with_operation refl items undos
+          (settle p t s.cells (next fr) with_operation ls operation_fitted leads.0)
 
   -- ---- a pop
 
@@ -196,30 +202,32 @@ module _ (p : Image) (t : Typing) (c : Choice) (s : State) (fr : Frame) (sh : Sh
       fr' : Frame
       fr' = next (set_word fr a None)
 
-      popped_at :
-          (x : CleanupEntry) (es : List CleanupEntry) → sh.entries ≡ x ∷ es → (rest : List Item) → s.items ≡ An_object ∷ rest → forms rest ≡ objects es (items_of ls) →
-          AllTrue (needs p c fr (tasks_of ls) s (Pop a)) × WellTyped p t (does p c fr (tasks_of ls) s (Pop a))
+      popped_at : (x : CleanupEntry) (es : List CleanupEntry) → sh.entries ≡ x ∷ es → (rest : List Item) → s.items ≡ An_object ∷ rest →
+          forms rest ≡ objects es (items_of ls) → AllTrue (needs p c fr (tasks_of ls) s (Pop a)) × WellTyped p t (does p c fr (tasks_of ls) s (Pop a))
       popped_at x es e rest is known =
           let d = declared p s.cells in
           let k = entry_kind x in
           let sh' = record (set_register sh a k) { entries = es } in
           let q = Entry (length rest) in
           let high : length rest ≡ length (objects es (items_of ls)) = sym (length_forms rest) ∙ ap length known in
-          let claims = λ (r : Place).
-          claim-set_register p d fr (record sh { entries = es }) ls a k r
+          let claims = λ (r : Place). claim-set_register p d fr (record sh { entries = es }) ls a k r
           ∙ ap (λ y. cond (same_place (top ls a) r) k y) (entry_less p s.cells fr sh ls x es e rest known r)
           ∙ ap (λ y. changed (changed (claim p d (Method fr sh ∷ ls)) q Null) (top ls a) y r) (sym (entry_here p s.cells fr sh ls x es e rest known)) in
-          let there = relocate p t s.cells fr fr' sh sh' ls q (top ls a) g refl refl refl refl free (omega (arith, high, length_objects es (items_of ls))) (omega arith)
+          let there = relocate p t s.cells fr fr' sh sh' ls q (top ls a) g refl refl refl refl free
+          (omega (arith, high, length_objects es (items_of ls))) (omega arith)
           (λ o from e. (tt, tt)) (λ r x e k f. refl) claims (words_set fr.words sh a None k at_hand.good.stack.1.words (no_word_fits k (grind arith))) in
-          let lead : Leads t fr.method (suc fr.place) sh' = subst (λ es. Leads t fr.method (suc fr.place) (set_register (record sh { entries = without_top es }) a (top_kind es))) e leads.0 in
+          let lead : Leads t fr.method (suc fr.place) sh' =
+          subst (λ es. Leads t fr.method (suc fr.place) (set_register (record sh { entries = without_top es }) a (top_kind es))) e leads.0 in
           let undos : AllUndo p rest = subst (λ i. AllUndo p i) is at_hand.undos in (
             (ap is_none free, (ap tops_entry is, (ap tops_object is, tt))),
-            subst (λ i. WellTyped p t (record s { cells = moved (Entry (length (below_top i))) (top ls a) s.cells; tasks = Run fr' ∷ tasks_of ls; items = below_top i })) (sym is)
+            subst (λ i. WellTyped p t
+                (record s { cells = moved (Entry (length (below_top i))) (top ls a) s.cells; tasks = Run fr' ∷ tasks_of ls; items = below_top i })) (sym is)
                 (well p t c s fr sh ls at_hand (record s { cells = moved q (top ls a) s.cells; tasks = Run fr' ∷ tasks_of ls; items = rest })
                 fr' sh' refl known undos (settle p t (moved q (top ls a) s.cells) fr' sh' ls there lead)),
           )
 
-      go : (es : List CleanupEntry) → sh.entries ≡ es → tops_object_entry es ≡ true → AllTrue (needs p c fr (tasks_of ls) s (Pop a)) × WellTyped p t (does p c fr (tasks_of ls) s (Pop a))
+      go : (es : List CleanupEntry) → sh.entries ≡ es → tops_object_entry es ≡ true →
+          AllTrue (needs p c fr (tasks_of ls) s (Pop a)) × WellTyped p t (does p c fr (tasks_of ls) s (Pop a))
       go (Pushed_object x age ∷ es) e h =
           let at_top = top_object s.items (objects es (items_of ls)) (at_hand.items ∙ ap (λ es. objects es (items_of ls)) e) in
           popped_at (Pushed_object x age) es e at_top.0 at_top.1 at_top.2
@@ -230,15 +238,16 @@ module _ (p : Image) (t : Typing) (c : Choice) (s : State) (fr : Frame) (sh : Sh
   pub law_pop_operation : Law p t c s fr sh ls at_hand PopOperation
   law_pop_operation n leads = go sh.entries refl n.1.0
     where
-      go : (es : List CleanupEntry) → sh.entries ≡ es → tops_operation_entry es ≡ true → AllTrue (needs p c fr (tasks_of ls) s PopOperation) × WellTyped p t (does p c fr (tasks_of ls) s PopOperation)
+      go : (es : List CleanupEntry) → sh.entries ≡ es → tops_operation_entry es ≡ true →
+          AllTrue (needs p c fr (tasks_of ls) s PopOperation) × WellTyped p t (does p c fr (tasks_of ls) s PopOperation)
       go (Pushed_operation ∷ es) e h =
           let op = top_operation p s.items (objects es (items_of ls)) (at_hand.items ∙ ap (λ es. objects es (items_of ls)) e) at_hand.undos in
           let q = Entry (length op.rest) in
           let sh' = record sh { entries = es } in
           let nothing : Fits p (seen s.cells) (held s.cells q) Null =
           subst (λ k. Fits p (seen s.cells) (held s.cells q) k) (entry_here p s.cells fr sh ls Pushed_operation es e op.rest op.known) (at_hand.good.fits q) in
-          let there =
-          relabel p t s.cells fr (next fr) sh sh' ls q Null g refl refl refl refl nothing (entry_less p s.cells fr sh ls Pushed_operation es e op.rest op.known) at_hand.good.stack.1.words in
+          let there = relabel p t s.cells fr (next fr) sh sh' ls q Null g refl refl refl refl nothing
+          (entry_less p s.cells fr sh ls Pushed_operation es e op.rest op.known) at_hand.good.stack.1.words in
           let lead : Leads t fr.method (suc fr.place) sh' = subst (λ es. Leads t fr.method (suc fr.place) (record sh { entries = without_top es })) e leads.0 in (
             (ap tops_entry op.is, (ap tops_operation op.is, tt)),
             subst (λ i. WellTyped p t (record s { tasks = Run (next fr) ∷ tasks_of ls; items = below_top i })) (sym op.is)
@@ -267,13 +276,15 @@ module _ (p : Image) (t : Typing) (c : Choice) (s : State) (fr : Frame) (sh : Sh
       tops x below (An_operation m w ∷ items) f = refl
       tops _ below _ f = absurd (grind arith)
 
-      go : (es : List CleanupEntry) → sh.entries ≡ es → not (no_entry es) ≡ true → AllTrue (needs p c fr (tasks_of ls) s PopDelete) × WellTyped p t (does p c fr (tasks_of ls) s PopDelete)
+      go : (es : List CleanupEntry) → sh.entries ≡ es → not (no_entry es) ≡ true →
+          AllTrue (needs p c fr (tasks_of ls) s PopDelete) × WellTyped p t (does p c fr (tasks_of ls) s PopDelete)
       go [] e h = cc
       go (x ∷ es) e h =
           let less = record sh { entries = es } in
           let d : Dealing p t s x (Method fr sh ∷ ls) (Method fr less ∷ ls) = record {
             fits = at_hand.good.fits;
-            claims = λ r. ap (λ es. claim p (declared p s.cells) (Method fr (record sh { entries = es }) ∷ ls) r) e ∙ claim_push p (declared p s.cells) fr less ls x r;
+            claims = λ r. ap (λ es. claim p (declared p s.cells) (Method fr (record sh { entries = es }) ∷ ls) r) e
+                ∙ claim_push p (declared p s.cells) fr less ls x r;
             deep = refl;
             suits = at_hand.good.suits;
             tidy = at_hand.good.tidy;
@@ -307,7 +318,8 @@ module _ (p : Image) (t : Typing) (c : Choice) (s : State) (fr : Frame) (sh : Sh
       goes false = made_well p t c s fr sh ls at_hand a x k free unused (λ h age. (stands_itself p (An_object_of x), age)) refl leads.0
 
   -- each instruction of this file by its law
-  abbrev pub of_entries : IsWired p → IsTyped p t → IsUnused p t c s fr sh ls at_hand → (i : Instr) → instr_at p fr.method fr.place ≡ Some i → Option (Law p t c s fr sh ls at_hand i)
+  abbrev pub of_entries : IsWired p → IsTyped p t → IsUnused p t c s fr sh ls at_hand → (i : Instr) → instr_at p fr.method fr.place ≡ Some i →
+      Option (Law p t c s fr sh ls at_hand i)
   of_entries wired typed unused (NewOrLeave a x) here = Some (law_new_or_leave wired a x unused)
   of_entries wired typed unused (Push a) here = Some (law_push wired a)
   of_entries wired typed unused (PushOperation a m) here = Some (law_push_operation wired a m here)

@@ -1,4 +1,5 @@
--- What a linked image gives of its families, by the laws of families: what descends from a class has what the class has, and an owner weighs more than what it owns.
+-- What a linked image gives of its families, by the laws of families: what descends from a class has what the class has, and an owner weighs more than what it
+-- owns.
 use Rattle.std.proofs.lemmas.Bool.Decides.{nat_tests}
 use Rattle.std.proofs.Common.{None, Option, Some, ap, arith, length, refl, slice_get, sym, true, ℕ, ◌<◌, ◌∙◌, ◌≡◌, ◌≤◌}
 use Rattle.std.proofs.lemmas.Option.{slice_get_within}
@@ -90,7 +91,8 @@ module _ (p : Image) (linked : IsLinked p) where
       lighter = λ c d f x e h.
           let there = owner_there c f (An_object_of d) e in
           let before = owned_before c d f e in
-          weights_fall.generations p x c (descendant_there x d h (omega (arith, there, before))) (weights_fall.fields p linked.parents linked.calls linked.needs c d f x e h);
+          weights_fall.generations p x c (descendant_there x d h (omega (arith, there, before)))
+          (weights_fall.fields p linked.parents linked.calls linked.needs c d f x e h);
       served = λ c s e.
           let there = server_there c s e in
           let before = session_before c s e in

@@ -72,7 +72,8 @@ abbrev pub spares : Option ℕ → ℕ → Bool
 spares None i = false
 spares (Some a) i = i == a
 
-pub none_owns_from : (cs : List Cell) (d : ℕ) (spared : Option ℕ) → ((i : ℕ) → spares spared i ≡ false → held cs (Register d i) ≡ None) → none_owns_but cs d spared ≡ true
+pub none_owns_from : (cs : List Cell) (d : ℕ) (spared : Option ℕ) → ((i : ℕ) → spares spared i ≡ false → held cs (Register d i) ≡ None) →
+    none_owns_but cs d spared ≡ true
 none_owns_from [] d spared h = refl
 none_owns_from (c ∷ cs) d spared h = and_from _ _ (go spared c.owner h) (none_owns_from cs d spared (λ i n. (front_free _ _ _ (h i n)).1))
   where
@@ -200,7 +201,8 @@ module _ (p : Image) (t : Typing) (c : Choice) (s : State) (fr : Frame) (sh : Sh
       below = claim p (declared p s.cells) ls (Entry (length (items_of ls)))
 
       claims : claim p (declared p s.cells) (Method fr sh ∷ ls) (Entry (length (items_of ls))) ≡ Own (An_object_of w.class) Ready
-      claims = ap (λ es. entry_claim es (items_of ls) (length (items_of ls)) below) w.alone ∙ ap (λ b. cond b (Own (An_object_of w.class) Ready) below) (eq-eqb (length (items_of ls)) _ refl)
+      claims = ap (λ es. entry_claim es (items_of ls) (length (items_of ls)) below) w.alone
+          ∙ ap (λ b. cond b (Own (An_object_of w.class) Ready) below) (eq-eqb (length (items_of ls)) _ refl)
 
       taken : (o : Option Object) → Fits p (seen s.cells) o (Own (An_object_of w.class) Ready) → Fits p (seen s.cells) o (Own (An_object_of x) Ready)
       taken None f = f
@@ -227,8 +229,10 @@ module _ (p : Image) (t : Typing) (c : Choice) (s : State) (fr : Frame) (sh : Sh
   level : (g : Gives) → entries_done p g sh.entries ≡ true → is_level p fr (tasks_of ls) s g ≡ true
   level x e = grind (arith, nat_tests, one_left, eq-eqb, length_forms, same_items)
 
-module _ (p : Image) (t : Typing) (c : Choice) (s : State) (fr : Frame) (sh : Shape) (ls : List Layer) (at_hand : At p t s fr sh ls) (a : ℕ) (r : Returnable p fr sh a) where
-  spared : (g : Gives) → none_owns (result_moved p fr.method fr.place sh g a).registers ≡ true → (i : ℕ) → spares (result_source g a) i ≡ false → held s.cells (top ls i) ≡ None
+module _ (p : Image) (t : Typing) (c : Choice) (s : State) (fr : Frame) (sh : Shape) (ls : List Layer) (at_hand : At p t s fr sh ls) (a : ℕ)
+    (r : Returnable p fr sh a) where
+  spared : (g : Gives) → none_owns (result_moved p fr.method fr.place sh g a).registers ≡ true → (i : ℕ) → spares (result_source g a) i ≡ false →
+      held s.cells (top ls i) ≡ None
   spared (An_own x) n i other =
       grind (arith, nat_tests, free_register p t c s fr sh ls at_hand i, at-put_at Unset sh.registers a i Null, eqb_comm a i, none_owns_at)
   spared (A_maybe x) n i other =
@@ -245,7 +249,8 @@ module _ (p : Image) (t : Typing) (c : Choice) (s : State) (fr : Frame) (sh : Sh
       own (Inside o from) e h =
           let holds : IsHoused p s.cells ls (Inside o from) = subst (λ h. IsHoused p s.cells ls h) e at_hand.good.stack.2 in
           let below : Known = states_claim p o ls in
-          let here = subst (λ h. Suits (thing_kind p o.thing) (cond (works_at o.name h) (known_at p fr sh.states below) below) (requested s.cells o.name)) e (at_hand.good.suits o holds.lives) in
+          let here = subst (λ h. Suits (thing_kind p o.thing) (cond (works_at o.name h) (known_at p fr sh.states below) below) (requested s.cells o.name)) e
+          (at_hand.good.suits o holds.lives) in
           completed (thing_kind p o.thing) (known_at p fr sh.states below) (requested s.cells o.name) h
           (subst (λ b. Suits (thing_kind p o.thing) (cond b (known_at p fr sh.states below) below) (requested s.cells o.name)) (eq-eqb o.name o.name refl) here)
 
@@ -262,5 +267,6 @@ module _ (p : Image) (t : Typing) (c : Choice) (s : State) (fr : Frame) (sh : Sh
   ended_plainly e w = grind (arith, nat_tests)
 
   -- the needs of a return, from those of its result and of what it returns to
-  pub return_needs : AllTrue (result_needs p fr (tasks_of ls) s (gives_of p fr.method) a) → AllTrue (end_needs p fr (tasks_of ls) s (tasks_of ls)) → AllTrue (needs p c fr (tasks_of ls) s (Return a))
+  pub return_needs : AllTrue (result_needs p fr (tasks_of ls) s (gives_of p fr.method) a) → AllTrue (end_needs p fr (tasks_of ls) s (tasks_of ls)) →
+      AllTrue (needs p c fr (tasks_of ls) s (Return a))
   return_needs result end = grind (arith, nat_tests, all_join, result, level p t c s fr sh ls at_hand, none_owns_from s.cells, spared, answered)

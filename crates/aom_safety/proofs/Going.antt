@@ -62,14 +62,16 @@ module _ (p : Image) (t : Typing) (cs : List Cell) (g : Place) (o : Object) (tid
     ready = h.ready;
   }
 
-  pub housed_without : (ls : List Layer) (home : Home) → Outside g ls → ((from : Place) → NoFieldHere g from) → IsHoused p cs ls home → IsHoused p (without g cs) ls home
+  pub housed_without : (ls : List Layer) (home : Home) → Outside g ls → ((from : Place) → NoFieldHere g from) → IsHoused p cs ls home →
+      IsHoused p (without g cs) ls home
   housed_without ls x out plain h = grind (arith, nat_tests, holds_without, outside_differs)
 
   -- the server that goes above a layer is another cell
   ending_other : (x : Object) (ls : List Layer) → Outside g ls → IsOverDying x ls → Stack p t cs Now ls → (o.name == x.name) ≡ false
   ending_other x y out same s = grind (arith, ne_eqb, eq-eqb, other_name, going_differs)
 
-  pub stack_without : (ls : List Layer) (back : Back) → Outside g ls → ((from : Place) → NoFieldHere g from) → Stack p t cs back ls → Stack p t (without g cs) back ls
+  pub stack_without : (ls : List Layer) (back : Back) → Outside g ls → ((from : Place) → NoFieldHere g from) → Stack p t cs back ls →
+      Stack p t (without g cs) back ls
   stack_without [] back out plain s = s
   stack_without (Method fr sh ∷ ls) back out plain s =
       grind (arith, nat_tests, outside_less g (Method fr sh) ls out, housed_without ls fr.home, stack_without ls (Returns fr.method fr.home))
@@ -82,7 +84,8 @@ module _ (p : Image) (t : Typing) (cs : List Cell) (g : Place) (o : Object) (tid
           held_without cs g r ∙ ap (λ b. cond b None (held cs r)) other ∙ there,
           named_without cs g o x.name tidy there_it (another r x other there) ∙ lives,
         )) none none s.2,
-        first_kept cs (without g cs) g (seat_of d) seats (λ r x other there lives some. ap is_some (requested_without cs g o x.name tidy there_it (another r x other there)) ∙ some) none s.2 s.3,
+        first_kept cs (without g cs) g (seat_of d) seats
+            (λ r x other there lives some. ap is_some (requested_without cs g o x.name tidy there_it (another r x other there)) ∙ some) none s.2 s.3,
         attended_at p cs (without g cs) d (λ y first.
             let f = subst (λ o. SitsFirst cs o seats) first s.3 in
             service_without cs g o y.object.name tidy there_it (another y.place y.object (grind arith) (sits_there cs seats y s.2 f).0)) s.4,
@@ -154,7 +157,8 @@ module _ (p : Image) (t : Typing) (cs : List Cell) (o : Object) (ls : List Layer
 
       keep : (r : Place) → is_queue_of o.name r ≡ false → claim p (declared p cs) (Dying o ∷ ls) r ≡ claim p (declared p cs) ls r →
           declared p cs r ≡ declared p (without (Going (length (tasks_of ls))) cs) r → Fits p (seen cs') (held cs r) (claim p (declared p cs') ls r)
-      keep r plain e h = fits_age p (seen cs) (seen cs') (held cs r) _ (λ x e' fresh age. (λ f. fewer (Field x.name f) (age.0 f), unrequested cs g x.name tidy age.1))
+      keep r plain e h = fits_age p
+          (seen cs) (seen cs') (held cs r) _ (λ x e' fresh age. (λ f. fewer (Field x.name f) (age.0 f), unrequested cs g x.name tidy age.1))
           (subst (λ k. Fits p (seen cs) (held cs r) k) (e ∙ claim_rel (λ x y. x ≡ y) (λ k. refl) p (declared p cs) (declared p cs') ls r h) (fits r plain))
 
       -- what is null and holds nothing goes on so
@@ -328,15 +332,12 @@ module _ (p : Image) (t : Typing) (s : State) (o : Object) (ls : List Layer) (go
       let cs3 = each_unslotted ss cs2 in
       let alike = each_unslotted_alike ss cs2 in
       let requests = each_unslotted_requests ss cs2 in
-      goes_on p t (after less) ls
-      (stack_alike p t cs2 cs3 alike (λ n some. ap is_some (requests n) ∙ some) ls Gone (stack_without p t less g o tidy_less stack_less.0.1 ls Gone (omega arith) (λ from. tt) stack_less.2))
+      goes_on p t (after less) ls (stack_alike p t cs2 cs3 alike
+      (λ n some. ap is_some (requests n) ∙ some) ls Gone (stack_without p t less g o tidy_less stack_less.0.1 ls Gone (omega arith) (λ from. tt) stack_less.2))
       (λ r. fits_alike p t cs2 cs3 alike ls r (λ x e fresh. requests x.name) (fits_after p t less o ls stack_less tidy_less suits_less fits_less none_waits r))
-      (λ x lives. subst (λ r. Suits (thing_kind p x.thing) (states_claim p x ls) r)
-      (sym (requests x.name)) (suits_after p t less o ls stack_less tidy_less suits_less fits_less none_waits x (sym (alike.named_so x.name) ∙ lives)))
-      (alike.tidy (tidy_without less g tidy_less))
-      refl items undos
+      (λ x lives. subst (λ r. Suits (thing_kind p x.thing) (states_claim p x ls) r) (sym (requests x.name)) (suits_after p t less o ls stack_less tidy_less
+      suits_less fits_less none_waits x (sym (alike.named_so x.name) ∙ lives))) (alike.tidy (tidy_without less g tidy_less)) refl items undos
 
-pub going_keeps :
-    (p : Image) (t : Typing) (s : State) (o : Object) (ls : List Layer) → Good p t s.cells (Dying o ∷ ls) → forms s.items ≡ items_of ls → AllUndo p s.items →
-    Keeps p t (gone (held s.cells (Going (length (tasks_of ls)))) (tasks_of ls) s)
+pub going_keeps : (p : Image) (t : Typing) (s : State) (o : Object) (ls : List Layer) → Good p t s.cells (Dying o ∷ ls) → forms s.items ≡ items_of ls →
+    AllUndo p s.items → Keeps p t (gone (held s.cells (Going (length (tasks_of ls)))) (tasks_of ls) s)
 going_keeps p t s o ls good items undos = grind (arith, nat_tests, emptied_by, nothing_left, queue_dropped, rests_less, gone_well)

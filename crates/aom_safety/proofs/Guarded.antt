@@ -29,5 +29,6 @@ acts_at p c s u fr ts i at there e =
     (guarded_met (needs p c fr ts v i) (does p c fr ts v i) u goes, guarded_goes (needs p c fr ts v i) (does p c fr ts v i) u goes)
 
 -- where nothing is stuck, the option has something
-pub goes_some : {A : Type 0} (o : Option A) (run : Option A → Outcome) (stuck : Stuck) (u : State) → run None ≡ IsStuck stuck → run o ≡ Goes u → (x : A) × (o ≡ Some x) × (run (Some x) ≡ Goes u)
+pub goes_some : {A : Type 0} (o : Option A) (run : Option A → Outcome) (stuck : Stuck) (u : State) → run None ≡ IsStuck stuck → run o ≡ Goes u →
+    (x : A) × (o ≡ Some x) × (run (Some x) ≡ Goes u)
 goes_some x run stuck u none e = grind arith

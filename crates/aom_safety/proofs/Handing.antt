@@ -54,7 +54,8 @@ module _ (p : Image) (t : Typing) (main_none : (m : ℕ) → method_role p m ≡
   own = own_request s.cells fr.home
 
   pub law_hand : (a : ℕ) → Law p t c s fr sh ls at_hand (Hand a)
-  law_hand a n leads = ((ap is_none none, (ap is_token_kind (home_is_own p t main_none c s fr sh ls at_hand listed) ∙ n.1.0, (free.0, (free.1, tt)))), go (is_crowded p s.cells))
+  law_hand a n leads =
+      ((ap is_none none, (ap is_token_kind (home_is_own p t main_none c s fr sh ls at_hand listed) ∙ n.1.0, (free.0, (free.1, tt)))), go (is_crowded p s.cells))
     where
       k : Kind
       k = Maybe Message Ready
@@ -82,7 +83,8 @@ module _ (p : Image) (t : Typing) (main_none : (m : ℕ) → method_role p m ≡
       asks f suit = asked p t main_none c s fr sh ls at_hand listed issued (on_request f own) (on_some f own) suit
 
       waits : Fitted p t (rerequested s.cells fr.home (on_request (promised (next_token s.cells)) own)) fr sh' ls
-      waits = asks (promised (next_token s.cells)) (suits_promised (own_kind p fr.method) (its p t main_none c s fr sh ls at_hand listed sh.states) (next_token s.cells) own n.1.0 free.1 it.suits)
+      waits = asks (promised (next_token s.cells))
+          (suits_promised (own_kind p fr.method) (its p t main_none c s fr sh ls at_hand listed sh.states) (next_token s.cells) own n.1.0 free.1 it.suits)
 
       full : Fitted p t (rerequested s.cells fr.home (on_request (completed_at_once busy) own)) fr sh' ls
       full = asks (completed_at_once busy) (suits_busy (own_kind p fr.method) (its p t main_none c s fr sh ls at_hand listed sh.states) own n.1.0 free.1 it.suits)
@@ -90,17 +92,20 @@ module _ (p : Image) (t : Typing) (main_none : (m : ℕ) → method_role p m ≡
       token : Token
       token = record { class = home_class fr.home; order = next_token s.cells }
 
-      handed : Fitted p t (with_token c.name token (top ls a) (rerequested s.cells fr.home (on_request (promised (next_token s.cells)) own))) fr' (set_register sh' a k) ls
+      handed : Fitted p t (with_token c.name token (top ls a) (rerequested s.cells fr.home (on_request (promised (next_token s.cells)) own))) fr'
+          (set_register sh' a k) ls
       handed =
           let cs = rerequested s.cells fr.home (on_request (promised (next_token s.cells)) own) in
           let like = rerequested_alike s.cells fr.home (on_request (promised (next_token s.cells)) own) in
-          alike_fitted p t (with_new c.name Message [] (top ls a) cs) (with_token c.name token (top ls a) cs) (token_alike c.name token (top ls a) cs) (λ n. refl) fr' (set_register sh' a k) ls
-          (create p t cs fr sh' ls c.name Message [] a k waits (like.named_so c.name ∙ unused) (like.held_so (top ls a) ∙ none) (λ h nf u. (stands_itself p Message, tt)) refl)
+          alike_fitted p t (with_new c.name Message [] (top ls a) cs) (with_token c.name token (top ls a) cs) (token_alike c.name token (top ls a) cs)
+          (λ n. refl) fr' (set_register sh' a k) ls (create p t cs fr sh' ls c.name Message [] a k waits (like.named_so c.name ∙ unused)
+          (like.held_so (top ls a) ∙ none) (λ h nf u. (stands_itself p Message, tt)) refl)
 
       go : (b : Bool) → WellTyped p t (applied p fr (tasks_of ls) s (sets fr a None (hands_unless b c.name a own)))
       go true = well p t c s fr sh ls at_hand _ fr' (set_register sh' a k) refl at_hand.items at_hand.undos (settle p t _ fr' (set_register sh' a k) ls
           (stepped p t _ (set_word fr a None) (set_register sh' a k) ls (write p t _ fr sh' ls a None k full n.0 (λ h. tt) refl)) leads.0)
-      go false = well p t c s fr sh ls at_hand _ fr' (set_register sh' a k) refl at_hand.items at_hand.undos (settle p t _ fr' (set_register sh' a k) ls handed leads.0)
+      go false = well p t c s fr sh ls at_hand _ fr' (set_register sh' a k) refl at_hand.items at_hand.undos
+          (settle p t _ fr' (set_register sh' a k) ls handed leads.0)
 
   -- each instruction of this file by its law
   abbrev pub of_tokens : (i : Instr) → Option (Law p t c s fr sh ls at_hand i)

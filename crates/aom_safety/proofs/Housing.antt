@@ -53,9 +53,11 @@ pub houses_field : (p : Image) (h k : Holder) (f : ℕ) → Houses p h k → is_
 houses_field p h k f houses some = grind (arith, nat_tests)
 
 -- nothing else stands for a session
-pub stands_session : (p : Image) → IsFamily p → (c session : ℕ) → sessions_at p c ≡ Some session → (x : Thing) → stands_for p x (An_object_of session) ≡ true → x ≡ An_object_of session
+pub stands_session : (p : Image) → IsFamily p → (c session : ℕ) → sessions_at p c ≡ Some session → (x : Thing) → stands_for p x (An_object_of session) ≡ true →
+    x ≡ An_object_of session
 stands_session p family c session at x stands = grind arith
 
-pub stands_session_of : (p : Image) → IsFamily p → (t : Thing) (session : ℕ) → session_class p t ≡ Some session → (x : Thing) → stands_for p x (An_object_of session) ≡ true → x ≡ An_object_of session
+pub stands_session_of : (p : Image) → IsFamily p → (t : Thing) (session : ℕ) → session_class p t ≡ Some session → (x : Thing) →
+    stands_for p x (An_object_of session) ≡ true → x ≡ An_object_of session
 unfolding kind_of sessions_in
 stands_session_of p family x session e y stands = grind (arith, nat_tests, stands_session p family)

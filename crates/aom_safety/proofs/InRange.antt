@@ -89,7 +89,8 @@ module _ (p : Image) (wired : IsWired p) (fr : Frame) (ts : List Task) (s : Stat
   update_in_range : (u : Update) → UpdateFits p u → AllInRange (cells_after p fr ts s u)
   update_in_range x fits = grind (arith, nat_tests, move_in_range, fits, write_in_range, request_in_range, session_in_range, end_in_range, redeemed_in_range)
 
-  pass_in_range : (depth : ℕ) (xs : List Argument) (first to : ℕ) (cs : List Cell) → to + length xs ≤ 16 → AllInRange cs → AllInRange (passed_cells p fr ts s depth xs first to cs)
+  pass_in_range : (depth : ℕ) (xs : List Argument) (first to : ℕ) (cs : List Cell) → to + length xs ≤ 16 → AllInRange cs →
+      AllInRange (passed_cells p fr ts s depth xs first to cs)
   pass_in_range depth [] first to cs few all = all
   pass_in_range depth (Takes_word ∷ xs) first to cs few all = pass_in_range depth xs (suc first) (suc to) cs (omega arith) all
   pass_in_range depth (Takes_own t ∷ xs) first to cs few all = grind (arith, nat_tests, pass_in_range depth xs, move_in_range)
@@ -142,7 +143,8 @@ turns p outside heard s u all e = elim (turns_so p outside heard s u e) as (λ v
     | accepts client m at ↦ serve_in_range x.object.name _ s.cells all
     | attends client message m o there at ↦ move_in_range (Elsewhere (Queued x.object.name message)) (Elsewhere In_service)
         (taken_from x.object.name s).cells tt (serve_in_range x.object.name _ s.cells all)
-    | parts client o there ↦ move_in_range (Elsewhere (Session x.object.name client)) (Going 1) (taken_from x.object.name s).cells tt (serve_in_range x.object.name _ s.cells all)
+    | parts client o there ↦ move_in_range (Elsewhere (Session x.object.name client)) (Going 1) (taken_from x.object.name s).cells tt
+        (serve_in_range x.object.name _ s.cells all)
   ]
 ]
 

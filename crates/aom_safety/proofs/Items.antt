@@ -43,7 +43,8 @@ pub no_mark : (x : CleanupEntry) → Mark_form ≡ entry_form x → ⊥
 no_mark x e = grind arith
 
 -- an entry is among the items
-pub entry_there : (es : List CleanupEntry) (below : List Form) (items : List Item) (k : ℕ) → forms items ≡ objects es below → k < length es → is_some (entry_at items k) ≡ true
+pub entry_there : (es : List CleanupEntry) (below : List Form) (items : List Item) (k : ℕ) → forms items ≡ objects es below → k < length es →
+    is_some (entry_at items k) ≡ true
 entry_there (x ∷ es) below (An_object ∷ items) zero e lt = refl
 entry_there (x ∷ es) below (An_object ∷ items) (suc k) e lt = let same : forms items ≡ objects es below = cc in entry_there es below items k same (omega arith)
 entry_there (x ∷ es) below (An_operation m w ∷ items) zero e lt = refl
@@ -66,7 +67,8 @@ readied_items (Pushed_operation ∷ es) zero below = refl
 readied_items (e ∷ es) (suc k) below = ap (λ fs. entry_form e ∷ fs) (readied_items es k below)
 
 -- what is claimed of an entry, counted from the last
-pub entry_claimed : (es : List CleanupEntry) (below : List Form) (k : ℕ) (rest : Kind) → k < length es → entry_claim es below (length (objects es below) - suc k) rest ≡ entry_kind (at Pushed_operation es k)
+pub entry_claimed : (es : List CleanupEntry) (below : List Form) (k : ℕ) (rest : Kind) → k < length es →
+    entry_claim es below (length (objects es below) - suc k) rest ≡ entry_kind (at Pushed_operation es k)
 entry_claimed [] below k rest lt = absurd (omega arith)
 entry_claimed (x ∷ es) below zero rest lt = grind (arith, nat_tests, eq-eqb)
 entry_claimed (x ∷ es) below (suc k) rest lt = grind (arith, nat_tests, length_each es below, ne_eqb, entry_claimed es below k rest)
@@ -80,7 +82,6 @@ readied_claim (x ∷ es) below (suc k) j rest lt =
     grind (arith, nat_tests, readied_items es k below, readied_claim es below k j rest, length_each es below, eqb-true)
 
 -- a method that begins with no entry over layers that are as they should be
-pub begins_well :
-    (p : Image) (t : Typing) (cs : List Cell) (fr : Frame) (sh : Shape) (over : List Layer) (s : State) → sh.entries ≡ [] → Good p t cs (Method fr sh ∷ over) →
-    s.cells ≡ cs → s.tasks ≡ Run fr ∷ tasks_of over → forms s.items ≡ items_of over → AllUndo p s.items → WellTyped p t s
+pub begins_well : (p : Image) (t : Typing) (cs : List Cell) (fr : Frame) (sh : Shape) (over : List Layer) (s : State) → sh.entries ≡ [] →
+    Good p t cs (Method fr sh ∷ over) → s.cells ≡ cs → s.tasks ≡ Run fr ∷ tasks_of over → forms s.items ≡ items_of over → AllUndo p s.items → WellTyped p t s
 begins_well p t cs fr sh over s none good cells tasks items undos = search (arith, nat_tests)

@@ -72,20 +72,23 @@ module _ (p : Image) (t : Typing) (c : Choice) (s : State) (fr : Frame) (sh : Sh
   pub law_jump : (to : ℕ) → Law p t c s fr sh ls at_hand (Jump to)
   law_jump to n leads = (
     tt,
-    well p t c s fr sh ls at_hand _ (to_place fr to) sh refl at_hand.items at_hand.undos (settle p t s.cells (to_place fr to) sh ls (placed (to_place fr to) refl refl refl refl) leads.0),
+    well p t c s fr sh ls at_hand _ (to_place fr to) sh refl at_hand.items at_hand.undos
+        (settle p t s.cells (to_place fr to) sh ls (placed (to_place fr to) refl refl refl refl) leads.0),
   )
 
   -- both flows know what is known here
   pub goes_either : (to : ℕ) → AllLead t fr.method (flow_compare fr.place sh to) → (b : Bool) → WellTyped p t (applied p fr (tasks_of ls) s (jumps_if fr b to))
   goes_either to leads true = well p t c s fr sh ls at_hand _
       (to_place fr to) sh refl at_hand.items at_hand.undos (settle p t s.cells (to_place fr to) sh ls (placed (to_place fr to) refl refl refl refl) leads.1.0)
-  goes_either to leads false = well p t c s fr sh ls at_hand _ (next fr) sh refl at_hand.items at_hand.undos (settle p t s.cells (next fr) sh ls (stepped p t s.cells fr sh ls g) leads.0)
+  goes_either to leads false = well p t c s fr sh ls at_hand _ (next fr) sh refl at_hand.items at_hand.undos
+      (settle p t s.cells (next fr) sh ls (stepped p t s.cells fr sh ls g) leads.0)
 
   -- what the jump learns of a field
   holds_nothing : (x : Option Thing) → Fits p (seen s.cells) None (filled x Empty)
   holds_nothing x = grind arith
 
-  holds_something : (x : Option Thing) (o : Object) → is_some x ≡ true → Fits p (seen s.cells) (Some o) (filled x Perhaps) → Fits p (seen s.cells) (Some o) (filled x Full)
+  holds_something : (x : Option Thing) (o : Object) → is_some x ≡ true → Fits p (seen s.cells) (Some o) (filled x Perhaps) →
+      Fits p (seen s.cells) (Some o) (filled x Full)
   holds_something x o some f = grind arith
 
   pub not_empty : (x : Option Thing) (o : Object) → Fits p (seen s.cells) (Some o) (filled x Empty) → ⊥
@@ -112,15 +115,15 @@ module _ (p : Image) (t : Typing) (c : Choice) (s : State) (fr : Frame) (sh : Sh
 
       stays : (fr' : Frame) → fr'.home ≡ fr.home → fr'.method ≡ fr.method → began fr' ≡ began fr → fr'.words ≡ fr.words →
           forms s.items ≡ objects sh.entries (items_of ls) → Leads t fr'.method fr'.place sh → WellTyped p t (record s { tasks = Run fr' ∷ tasks_of ls })
-      stays fr' eh em eg ew items leads = well p t c s fr sh ls at_hand _ fr' sh refl items at_hand.undos (settle p t s.cells fr' sh ls (placed fr' eh em eg ew) leads)
+      stays fr' eh em eg ew items leads =
+          well p t c s fr sh ls at_hand _ fr' sh refl items at_hand.undos (settle p t s.cells fr' sh ls (placed fr' eh em eg ew) leads)
 
       learns : (fr' : Frame) (y : Filling) (o : Option Object) →
           held s.cells q ≡ o → fr'.home ≡ fr.home → fr'.method ≡ fr.method → began fr' ≡ began fr → fr'.words ≡ fr.words →
           Fits p (seen s.cells) o (filled x y) → Leads t fr'.method fr'.place (set_field sh f y) → WellTyped p t (record s { tasks = Run fr' ∷ tasks_of ls })
-      learns fr' y o e eh em eg ew new leads = well p t c s fr sh ls at_hand _ fr' (set_field sh f y) refl at_hand.items at_hand.undos (settle p t s.cells fr' (set_field sh f y) ls
-          (relabel p t s.cells fr fr' sh (set_field sh f y) ls q (filled x y) g eh em eg refl (rw e new)
-          (λ r. claim-set_field p (declared p s.cells) fr fr.home sh ls f y (filled x y) r refl own some refl)
-          (λ i. rw ew (at_hand.good.stack.1.words i))) leads)
+      learns fr' y o e eh em eg ew new leads = well p t c s fr sh ls at_hand _ fr' (set_field sh f y) refl at_hand.items at_hand.undos
+          (settle p t s.cells fr' (set_field sh f y) ls (relabel p t s.cells fr fr' sh (set_field sh f y) ls q (filled x y) g eh em eg refl (rw e new) (λ r.
+          claim-set_field p (declared p s.cells) fr fr.home sh ls f y (filled x y) r refl own some refl) (λ i. rw ew (at_hand.good.stack.1.words i))) leads)
 
       go : (y : Filling) (o : Option Object) → held s.cells q ≡ o → AllLead t fr.method (flow_jump_empty p fr.method fr.place sh y f to) →
           Fits p (seen s.cells) (held s.cells q) (filled x y) → WellTyped p t (applied p fr (tasks_of ls) s (jumps_unless fr o to))

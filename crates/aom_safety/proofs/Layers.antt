@@ -28,26 +28,36 @@ mark_of : (l : Layer) → task_of l ≡ Trapped → (gv : Gives) × (l ≡ Mark 
 mark_of l e = grind arith
 
 module _ {G : Type 0} (P : List Layer → Type 0) where
-  top_layer : (x : Task) (ts : List Task) (ls : List Layer) → tasks_of ls ≡ x ∷ ts → P ls → ((l : Layer) (below : List Layer) → task_of l ≡ x → tasks_of below ≡ ts → P (l ∷ below) → G) → G
-  top_layer x ts ls e h gives = cons_given (λ ls. (tasks_of ls ≡ x ∷ ts) × P ls) ls (e, h) (λ h. let clash = h.0 in cc) (λ l below is h. let e = h.0 in gives l below (cc) (cc) h.1)
+  top_layer : (x : Task) (ts : List Task) (ls : List Layer) → tasks_of ls ≡ x ∷ ts → P ls →
+      ((l : Layer) (below : List Layer) → task_of l ≡ x → tasks_of below ≡ ts → P (l ∷ below) → G) → G
+  top_layer x ts ls e h gives =
+      cons_given (λ ls. (tasks_of ls ≡ x ∷ ts) × P ls) ls (e, h) (λ h. let clash = h.0 in cc) (λ l below is h. let e = h.0 in gives l below (cc) (cc) h.1)
 
-  pub method_layer : (fr : Frame) (ts : List Task) (ls : List Layer) → tasks_of ls ≡ Run fr ∷ ts → P ls → ((sh : Shape) (below : List Layer) → tasks_of below ≡ ts → P (Method fr sh ∷ below) → G) → G
-  method_layer fr ts ls e h gives = top_layer (Run fr) ts ls e h (λ l below task rest h. let f = method_of l fr task in gives f.0 below rest (subst (λ l. P (l ∷ below)) f.1 h))
+  pub method_layer : (fr : Frame) (ts : List Task) (ls : List Layer) → tasks_of ls ≡ Run fr ∷ ts → P ls →
+      ((sh : Shape) (below : List Layer) → tasks_of below ≡ ts → P (Method fr sh ∷ below) → G) → G
+  method_layer fr ts ls e h gives =
+      top_layer (Run fr) ts ls e h (λ l below task rest h. let f = method_of l fr task in gives f.0 below rest (subst (λ l. P (l ∷ below)) f.1 h))
 
-  pub going_layer : (ts : List Task) (ls : List Layer) → tasks_of ls ≡ Destroy ∷ ts → P ls → ((o : Object) (below : List Layer) → tasks_of below ≡ ts → P (Dying o ∷ below) → G) → G
-  going_layer ts ls e h gives = top_layer Destroy ts ls e h (λ l below task rest h. let f = going_of l task in gives f.0 below rest (subst (λ l. P (l ∷ below)) f.1 h))
+  pub going_layer : (ts : List Task) (ls : List Layer) → tasks_of ls ≡ Destroy ∷ ts → P ls →
+      ((o : Object) (below : List Layer) → tasks_of below ≡ ts → P (Dying o ∷ below) → G) → G
+  going_layer ts ls e h gives =
+      top_layer Destroy ts ls e h (λ l below task rest h. let f = going_of l task in gives f.0 below rest (subst (λ l. P (l ∷ below)) f.1 h))
 
   pub closing_layer : (ts : List Task) (ls : List Layer) →
       tasks_of ls ≡ Closing ∷ ts → P ls → ((o : Object) (left : List ℕ) (below : List Layer) → tasks_of below ≡ ts → P (Ending o left ∷ below) → G) → G
-  closing_layer ts ls e h gives = top_layer Closing ts ls e h (λ l below task rest h. let f = closing_of l task in gives f.0 f.1 below rest (subst (λ l. P (l ∷ below)) f.2 h))
+  closing_layer ts ls e h gives =
+      top_layer Closing ts ls e h (λ l below task rest h. let f = closing_of l task in gives f.0 f.1 below rest (subst (λ l. P (l ∷ below)) f.2 h))
 
   pub leave_layer : (code : ℤ) (ts : List Task) (ls : List Layer) → tasks_of ls ≡ Unwind code ∷ ts → P ls →
       ((es : List CleanupEntry) (below : List Layer) → tasks_of below ≡ ts → P (Unwinding code es ∷ below) → G) → G
-  leave_layer code ts ls e h gives = top_layer (Unwind code) ts ls e h (λ l below task rest h. let f = leave_of l code task in gives f.0 below rest (subst (λ l. P (l ∷ below)) f.1 h))
+  leave_layer code ts ls e h gives =
+      top_layer (Unwind code) ts ls e h (λ l below task rest h. let f = leave_of l code task in gives f.0 below rest (subst (λ l. P (l ∷ below)) f.1 h))
 
   pub dispatch_layer : (d : Dispatch) (ts : List Task) (ls : List Layer) → tasks_of ls ≡ Dispatched d ∷ ts → P ls →
       ((seats : List Seat) (below : List Layer) → tasks_of below ≡ ts → P (Dispatching d seats ∷ below) → G) → G
-  dispatch_layer d ts ls e h gives = top_layer (Dispatched d) ts ls e h (λ l below task rest h. let f = dispatch_of l d task in gives f.0 below rest (subst (λ l. P (l ∷ below)) f.1 h))
+  dispatch_layer d ts ls e h gives =
+      top_layer (Dispatched d) ts ls e h (λ l below task rest h. let f = dispatch_of l d task in gives f.0 below rest (subst (λ l. P (l ∷ below)) f.1 h))
 
-  pub mark_layer : (ts : List Task) (ls : List Layer) → tasks_of ls ≡ Trapped ∷ ts → P ls → ((gv : Gives) (below : List Layer) → tasks_of below ≡ ts → P (Mark gv ∷ below) → G) → G
+  pub mark_layer : (ts : List Task) (ls : List Layer) → tasks_of ls ≡ Trapped ∷ ts → P ls →
+      ((gv : Gives) (below : List Layer) → tasks_of below ≡ ts → P (Mark gv ∷ below) → G) → G
   mark_layer ts ls e h gives = top_layer Trapped ts ls e h (λ l below task rest h. let f = mark_of l task in gives f.0 below rest (subst (λ l. P (l ∷ below)) f.1 h))

@@ -68,7 +68,8 @@ items_from_trap (Method fr sh ∷ ls) = grind (arith, nat_tests, items_from_trap
 items_from_trap _ = refl
 
 -- the entries of two layers as those of one
-entries_join : (es fs : List CleanupEntry) (items : List Form) (k : ℕ) (below : Kind) → entry_claim (es ++ fs) items k below ≡ entry_claim es (objects fs items) k (entry_claim fs items k below)
+entries_join : (es fs : List CleanupEntry) (items : List Form) (k : ℕ) (below : Kind) →
+    entry_claim (es ++ fs) items k below ≡ entry_claim es (objects fs items) k (entry_claim fs items k below)
 entries_join [] fs items k below = refl
 entries_join (e ∷ es) fs items k below = grind (arith, nat_tests, objects_append es fs items, entries_join es fs items k below)
 
@@ -80,7 +81,8 @@ join_claims p d code es fs ls x = grind (arith, nat_tests, entries_join es fs)
 no_end : {A : Type 0} (p : Image) (d : Dispatch) (m : ℕ) (home : Home) → leaves p m ≡ true → EndsDispatch p d (Returns m home) → A
 no_end p d m home may e = grind arith
 
-not_going : (p : Image) (t : Typing) (cs : List Cell) (ls : List Layer) (m : ℕ) (home : Home) → leaves p m ≡ true → Stack p t cs (Returns m home) ls → past_going ls ≡ ls
+not_going : (p : Image) (t : Typing) (cs : List Cell) (ls : List Layer) (m : ℕ) (home : Home) → leaves p m ≡ true →
+    Stack p t cs (Returns m home) ls → past_going ls ≡ ls
 not_going p t cs x m home e s = grind arith
 
 -- a method ends by a leave, and its entries are still there
@@ -121,7 +123,8 @@ all_ended p t cs code (Mark gv ∷ ls) es m home e s r h o fits = rw (append-nil
 all_ended p t cs code (Dispatching d seats ∷ ls) es m home e s r h o fits = no_end p d m home e s.0
 all_ended p t cs code _ es m home e s r h o fits = absurd (first_of (assumption tt, cc))
 
-stack_from_trap : (p : Image) (t : Typing) (cs : List Cell) (ls : List Layer) (m : ℕ) (home : Home) → leaves p m ≡ true → Stack p t cs (Returns m home) ls → Stack p t cs Leaves (from_trap ls)
+stack_from_trap : (p : Image) (t : Typing) (cs : List Cell) (ls : List Layer) (m : ℕ) (home : Home) → leaves p m ≡ true → Stack p t cs (Returns m home) ls →
+    Stack p t cs Leaves (from_trap ls)
 stack_from_trap p t cs (Method fr sh ∷ ls) m home e s = stack_from_trap p t cs ls fr.method fr.home (s.0.0 e).0 s.4
 stack_from_trap p t cs (Mark gv ∷ ls) m home e s = (tt, s.1)
 stack_from_trap p t cs (Dispatching d seats ∷ ls) m home e s = no_end p d m home e s.0
@@ -153,7 +156,8 @@ module _ (p : Image) (t : Typing) (wired : IsWired p) (cs : List Cell) (x : Obje
   loud_cancels m loud = grind (arith, nat_tests)
 
   -- nor does it cancel
-  pub known_loud : (fr : Frame) (sh : Shape) (ls : List Layer) → is_quiet p fr.method ≡ false → (states_claim p x ls).cancelled ≡ false → (states_claim p x (Method fr sh ∷ ls)).cancelled ≡ false
+  pub known_loud : (fr : Frame) (sh : Shape) (ls : List Layer) → is_quiet p fr.method ≡ false → (states_claim p x ls).cancelled ≡ false →
+      (states_claim p x (Method fr sh ∷ ls)).cancelled ≡ false
   known_loud fr sh ls loud none = grind (arith, nat_tests, loud_cancels fr.method loud)
 
   -- so no method cancels below one that is not quiet
@@ -172,10 +176,10 @@ module _ (p : Image) (t : Typing) (wired : IsWired p) (cs : List Cell) (x : Obje
 
   -- what a method that may leave works on is not being cancelled
   module _ (lives : named cs x.name ≡ Some x) where
-    rested_left :
-        (ls : List Layer) (m : ℕ) (home : Home) → leaves p m ≡ true → Stack p t cs (Returns m home) ls → Joins p x ls → Suits k (resting_in (rests_in p x)) r →
-        Suits k (states_claim p x (from_trap ls)) r
-    rested_left (Method fr sh ∷ ls) m home e s (inl w) rests = rested_left ls fr.method fr.home (s.0.0 e).0 s.4 (on_it p cs ls x fr.view fr.method fr.home lives w s.2 s.3) rests
+    rested_left : (ls : List Layer) (m : ℕ) (home : Home) → leaves p m ≡ true → Stack p t cs (Returns m home) ls → Joins p x ls →
+        Suits k (resting_in (rests_in p x)) r → Suits k (states_claim p x (from_trap ls)) r
+    rested_left (Method fr sh ∷ ls) m home e s (inl w) rests =
+        rested_left ls fr.method fr.home (s.0.0 e).0 s.4 (on_it p cs ls x fr.view fr.method fr.home lives w s.2 s.3) rests
     rested_left (Method fr sh ∷ ls) m home e s (inr u) rests = rests_there p x (from_trap ls) r (unworked_from_trap x.name ls u.1) rests
     rested_left (Mark gv ∷ Method fr sh ∷ ls) m home e s j rests =
         rejoins_trap p x gv fr sh ls (rests_in p x) r j (rests_unissued k) (known_loud fr sh ls s.1.0.4 (none_cancels ls fr.method fr.home s.1.0.4 s.1.4)) rests
@@ -191,7 +195,8 @@ module _ (p : Image) (t : Typing) (wired : IsWired p) (cs : List Cell) (x : Obje
     works_left fr sh ls may u housed apart s w h = rested_left ls fr.method fr.home may s (on_it p cs ls x fr.view fr.method fr.home lives w housed apart)
         (suits_rests k sh.states r u (subst (λ n. Suits k n r) (grind (arith, nat_tests, known_plain, loud_cancels, none_cancels)) h))
 
-    suits_left : (ls : List Layer) (m : ℕ) (home : Home) → leaves p m ≡ true → Stack p t cs (Returns m home) ls → Suits k (states_claim p x ls) r → Suits k (states_claim p x (from_trap ls)) r
+    suits_left : (ls : List Layer) (m : ℕ) (home : Home) → leaves p m ≡ true → Stack p t cs (Returns m home) ls → Suits k (states_claim p x ls) r →
+        Suits k (states_claim p x (from_trap ls)) r
     suits_left (Method fr sh ∷ ls) m home e s h = go (works_at x.name fr.home) refl h (λ h. suits_left ls fr.method fr.home (s.0.0 e).0 s.4 h)
       where
         below : Known
@@ -223,9 +228,8 @@ RegistersFit p cs ls = (f i : ℕ) → f < length (tasks_of ls) → Fits p (seen
 registers_below : (p : Image) (cs : List Cell) (fr : Frame) (sh : Shape) (ls : List Layer) → RegistersFit p cs (Method fr sh ∷ ls) → RegistersFit p cs ls
 registers_below p cs fr sh ls h f i lt = grind (arith, nat_tests, ne_eqb)
 
-frame_is_free :
-    (p : Image) (cs : List Cell) (fr : Frame) (sh : Shape) (ls : List Layer) → RegistersFit p cs (Method fr sh ∷ ls) → none_owns sh.registers ≡ true →
-    none_owns_but cs (length (tasks_of ls)) None ≡ true
+frame_is_free : (p : Image) (cs : List Cell) (fr : Frame) (sh : Shape) (ls : List Layer) → RegistersFit p cs (Method fr sh ∷ ls) →
+    none_owns sh.registers ≡ true → none_owns_but cs (length (tasks_of ls)) None ≡ true
 frame_is_free p cs fr sh ls h n = grind (arith, nat_tests, none_owns_from, fits_unowning, none_owns_at, claim_register)
 
 -- under a method that may leave there is a trap, and the registers up to it own nothing

@@ -30,7 +30,8 @@ module _ (p : Image) (looped_so : IsLooped p) (fr : Frame) (i : Instr) (at : ins
   -- after an instruction that begins no loop
   goes_on : IsStraight i → RoundsAt p fr (suc fr.place)
   unfolding loop_in
-  goes_on straight from to d n body inside = ⊎_elim (λ lt. rounds from to d n body (lt, omega (arith, inside.1))) (λ le. absurd (begins (omega (arith, inside.0)))) (cases_lt from fr.place)
+  goes_on straight from to d n body inside =
+      ⊎_elim (λ lt. rounds from to d n body (lt, omega (arith, inside.1))) (λ le. absurd (begins (omega (arith, inside.0)))) (cases_lt from fr.place)
     where
       begins : from ≡ fr.place → ⊥
       begins e = let clash : None ≡ Some d = sym straight ∙ ap loop_in (sym at ∙ ap (λ x. instr_at p fr.method x) (sym e) ∙ body.begins) in cc
@@ -73,7 +74,8 @@ module _ (p : Image) (looped_so : IsLooped p) (fr : Frame) (rounds : RoundsAt p 
       other : from ≢ fr.place → (0 < counter (set_counter fr e k) d) × (counter (set_counter fr e k) d ≤ n)
       other differs =
           let below : from < fr.place = ⊎_elim (λ lt. lt) (λ le. absurd (differs (omega (arith, inside.0)))) (cases_lt from fr.place) in
-          let apart = looped_so.apart fr.method from to d n fr.place here_begins.1 e k (suc fr.place) body here_begins.2 differs inside (omega arith, omega (arith, here_begins.2.later)) in
+          let apart = looped_so.apart fr.method from to d n fr.place here_begins.1 e k (suc fr.place) body here_begins.2 differs inside
+          (omega arith, omega (arith, here_begins.2.later)) in
           let is = other_counter e k d (λ same. apart (sym same)) in
           let old = rounds from to d n body (below, omega (arith, inside.1)) in
           (subst (λ x. 0 < x) (sym is) old.0, subst (λ x. x ≤ n) (sym is) old.1)
@@ -83,7 +85,8 @@ module _ (p : Image) (looped_so : IsLooped p) (fr : Frame) (rounds : RoundsAt p 
     closing = looped_so.closes fr.method fr.place e t at
 
     -- of another loop whose body has the place of the next
-    aside : (k from to d n : ℕ) → Body p fr.method from to d n → from ≢ closing.0 → IsIn from to fr.place → (0 < counter (set_counter fr e k) d) × (counter (set_counter fr e k) d ≤ n)
+    aside : (k from to d n : ℕ) → Body p fr.method from to d n → from ≢ closing.0 → IsIn from to fr.place →
+        (0 < counter (set_counter fr e k) d) × (counter (set_counter fr e k) d ≤ n)
     aside k from to d n body differs inside = let apart =
         looped_so.apart fr.method from to d n closing.0 fr.place e closing.1 fr.place body closing.2 differs inside (closing.2.later, omega arith) in
         let is = other_counter e k d (λ same. apart (sym same)) in

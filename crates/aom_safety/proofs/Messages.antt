@@ -86,7 +86,8 @@ module _ (p : Image) (t : Typing) (c : Choice) (s : State) (fr : Frame) (sh : Sh
       claimed = ap (λ b. cond b (delivered sh.delivery) (claim p d ls (Elsewhere In_service))) n.1.0 ∙ delivered_here sh.delivery n.1.1.0
 
       there : (x : Object) × (held s.cells (Elsewhere In_service) ≡ Some x)
-      there = let x = own_held p (seen s.cells) (held s.cells (Elsewhere In_service)) Message (rw claimed at (at_hand.good.fits (Elsewhere In_service))) in (x.0, x.1)
+      there = let x = own_held p (seen s.cells) (held s.cells (Elsewhere In_service)) Message
+          (rw claimed at (at_hand.good.fits (Elsewhere In_service))) in (x.0, x.1)
 
       free : held s.cells (top ls a) ≡ None
       free = free_register p t c s fr sh ls at_hand a n.0
@@ -98,9 +99,8 @@ module _ (p : Image) (t : Typing) (c : Choice) (s : State) (fr : Frame) (sh : Sh
           ∙ ap (λ x. changed (changed (claim p d (Method fr sh ∷ ls)) (Elsewhere In_service) Null) (top ls a) x r) (sym claimed)
 
       taken : Fitted p t (moved (Elsewhere In_service) (top ls a) s.cells) (next (set_word fr a None)) after ls
-      taken = relocate p t s.cells fr (next (set_word fr a None)) sh after ls (Elsewhere In_service) (top ls a)
-          (fitted p t s.cells fr sh ls at_hand.good) refl refl refl refl free (grind (arith, nat_tests, served_unseated)) (omega arith)
-          (λ o from e. (grind (arith, nat_tests), tt)) (λ r x e k f. refl) claims
+      taken = relocate p t s.cells fr (next (set_word fr a None)) sh after ls (Elsewhere In_service) (top ls a) (fitted p t s.cells fr sh ls at_hand.good) refl
+          refl refl refl free (grind (arith, nat_tests, served_unseated)) (omega arith) (λ o from e. (grind (arith, nat_tests), tt)) (λ r x e k f. refl) claims
           (words_set fr.words sh a None (Own Message Ready) at_hand.good.stack.1.words refl)
 
 -- ---- a message goes from a register
@@ -119,10 +119,12 @@ module _ (p : Image) (t : Typing) (s : State) (fr : Frame) (sh : Shape)
   fits : (r : Place) → Fits p (seen left) (held left r) (claim p (declared p left) (Method (next (set_word fr a None)) after ∷ ls) r)
   fits r = subst (λ k. Fits p (seen left) (held left r) k) (sym claims) (go (same_place r (top ls a)) refl)
     where
-      claims : claim p (declared p left) (Method (next (set_word fr a None)) after ∷ ls) r ≡ changed (claim p (declared p left) (Method fr sh ∷ ls)) (top ls a) Null r
+      claims : claim p (declared p left) (Method (next (set_word fr a None)) after ∷ ls) r
+          ≡ changed (claim p (declared p left) (Method fr sh ∷ ls)) (top ls a) Null r
       claims = claim_frame p (declared p left) fr (next (set_word fr a None)) after ls r refl refl ∙ claim-set_register p (declared p left) fr sh ls a Null r
 
-      go : (b : Bool) → same_place r (top ls a) ≡ b → Fits p (seen left) (held left r) (cond (same_place (top ls a) r) Null (claim p (declared p left) (Method fr sh ∷ ls) r))
+      go : (b : Bool) → same_place r (top ls a) ≡ b →
+          Fits p (seen left) (held left r) (cond (same_place (top ls a) r) Null (claim p (declared p left) (Method fr sh ∷ ls) r))
       go true e =
           rw (held_dropped (λ r. same_place r (top ls a)) s.cells r ∙ ap (λ b. cond b None (held s.cells r)) e) (rw (same_place_comm (top ls a) r ∙ e) tt)
       go false e = rw (same_place_comm (top ls a) r ∙ e) (rw (claim_rel (λ x y. x ≡ y) (λ k. refl) p (declared p s.cells) (declared p left)
@@ -136,7 +138,8 @@ module _ (p : Image) (t : Typing) (s : State) (fr : Frame) (sh : Shape)
         (suits_dropped (λ r. same_place r (top ls a)) p s.cells at_hand.good.tidy messages (Method fr sh ∷ ls) at_hand.good.suits);
     tidy = tidy_dropped (λ r. same_place r (top ls a)) s.cells at_hand.good.tidy;
     frames = frames_reworded at_hand.good.stack.1 (words_set fr.words sh a None Null at_hand.good.stack.1.words refl);
-    housed = subst (λ l. IsHoused p l ls fr.home) (place_dropped (top ls a) s.cells) (grind (arith, nat_tests, housed_without p t s.cells (top ls a) it at_hand.good.tidy there ls fr.home, top ls a));
+    housed = subst (λ l. IsHoused p l ls fr.home) (place_dropped (top ls a) s.cells)
+        (grind (arith, nat_tests, housed_without p t s.cells (top ls a) it at_hand.good.tidy there ls fr.home, top ls a));
     apart = at_hand.good.stack.3;
     stack = subst (λ l. Stack p t l (Returns fr.method fr.home) ls) (place_dropped (top ls a) s.cells)
         (stack_without p t s.cells (top ls a) it at_hand.good.tidy there ls (Returns fr.method fr.home) (omega arith) (λ from. tt) at_hand.good.stack.4);
@@ -148,7 +151,8 @@ module _ (p : Image) (t : Typing) (s : State) (fr : Frame) (sh : Shape)
 module _ (p : Image) (t : Typing) (c : Choice) (s : State) (fr : Frame) (sh : Shape) (ls : List Layer) (at_hand : At p t s fr sh ls) where
   -- ---- a message is replied to, once what waits for it is completed
 
-  replies : (a : ℕ) (code : ℤ) → word fr a ≡ None → (it : Object) → held s.cells (top ls a) ≡ Some it → it.thing ≡ Message → Leads t fr.method (suc fr.place) (set_register sh a Null) →
+  replies : (a : ℕ) (code : ℤ) →
+      word fr a ≡ None → (it : Object) → held s.cells (top ls a) ≡ Some it → it.thing ≡ Message → Leads t fr.method (suc fr.place) (set_register sh a Null) →
       WellTyped p t (record s { cells = without (top ls a) (redeemed_by (token_of s.cells (held s.cells (top ls a))) code s.cells); tasks = Run (next (set_word fr a None)) ∷ tasks_of ls })
   replies a code none it there message leads =
       let order = token_of s.cells (held s.cells (top ls a)) in

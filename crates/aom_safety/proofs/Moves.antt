@@ -36,14 +36,14 @@ module _ (p : Image) (t : Typing) (c : Choice) (s : State) (fr : Frame) (sh : Sh
   law_move a b n leads =
       let free = free_register p t c s fr sh ls at_hand a n.1.0 in
       let no = no_word p t c s fr sh ls at_hand b n.0 in
-      let claims = λ (r : Place).
-      claim-set_register p (declared p s.cells) fr (set_register sh b Null) ls a (register sh b) r
-      ∙ ap (λ x. cond (same_place (top ls a) r) (register sh b) x) (claim-set_register p (declared p s.cells) fr sh ls b Null r)
-      ∙ ap (λ x. changed (changed (claim p (declared p s.cells) (Method fr sh ∷ ls)) (top ls b) Null) (top ls a) x r) (sym (claim_register p (declared p s.cells) fr sh ls b)) in
-      let h = relocate p t s.cells fr (next (set_word fr a None)) sh (set_register (set_register sh b Null) a (register sh b)) ls (top ls b) (top ls a)
-      (fitted p t s.cells fr sh ls at_hand.good) refl refl refl refl free (omega arith) (omega arith) (λ o from e. (tt, tt)) (λ r x e k f. refl) claims
-      (words_set fr.words (set_register sh b Null) a None (register sh b) (words_null fr.words sh b at_hand.good.stack.1.words no) (no_word_fits (register sh b) n.0)) in
-      let g = settle p t (moved (top ls b) (top ls a) s.cells) (next (set_word fr a None)) (set_register (set_register sh b Null) a (register sh b)) ls h leads.0 in (
+      let claims = λ (r : Place). claim-set_register p (declared p s.cells) fr (set_register sh b Null) ls a (register sh b) r
+      ∙ ap (λ x. cond (same_place (top ls a) r) (register sh b) x) (claim-set_register p (declared p s.cells) fr sh ls b Null r) ∙ ap (λ x. changed
+      (changed (claim p (declared p s.cells) (Method fr sh ∷ ls)) (top ls b) Null) (top ls a) x r) (sym (claim_register p (declared p s.cells) fr sh ls b)) in
+      let h = relocate p t s.cells fr (next (set_word fr a None)) sh (set_register (set_register sh b Null) a (register sh b)) ls (top ls b) (top ls a) (fitted
+      p t s.cells fr sh ls at_hand.good) refl refl refl refl free (omega arith) (omega arith) (λ o from e. (tt, tt)) (λ r x e k f. refl) claims (words_set
+      fr.words (set_register sh b Null) a None (register sh b) (words_null fr.words sh b at_hand.good.stack.1.words no) (no_word_fits (register sh b) n.0)) in
+      let g = settle p t (moved (top ls b) (top ls a) s.cells) (next (set_word fr a None))
+      (set_register (set_register sh b Null) a (register sh b)) ls h leads.0 in (
         (ap is_none no, (ap is_none free, tt)),
         grind (arith, nat_tests, well),
       )
@@ -75,7 +75,8 @@ module _ (p : Image) (t : Typing) (c : Choice) (s : State) (fr : Frame) (sh : Sh
       some = may_be_some p t c s fr sh ls at_hand _ k may
 
       free : held s.cells (field_place fr.home f) ≡ None
-      free = fits_unowning p (seen s.cells) _ _ (empties p t c s fr sh ls at_hand _ (field sh f) n.1.1.0) (field_fits p t c s fr sh ls at_hand f (may_be_some p t c s fr sh ls at_hand _ k n.0))
+      free = fits_unowning p (seen s.cells) _ _ (empties p t c s fr sh ls at_hand _ (field sh f) n.1.1.0)
+          (field_fits p t c s fr sh ls at_hand f (may_be_some p t c s fr sh ls at_hand _ k n.0))
 
       no : word fr b ≡ None
       no = no_word p t c s fr sh ls at_hand b (declared_object p t c s fr sh ls at_hand _ k n.0)
@@ -109,7 +110,8 @@ module _ (p : Image) (t : Typing) (c : Choice) (s : State) (fr : Frame) (sh : Sh
       fresh_aside r y h is_fresh = go (same_place (top ls b) r) refl
         where
           here : (same : Bool) → same_place (top ls b) r ≡ same → is_ready_kind (cond same l (claim p d (Method fr sh ∷ ls) r)) ≡ false
-          here same e = ap (λ z. is_ready_kind (cond z l (claim p d (Method fr sh ∷ ls) r))) (sym e) ∙ ap is_ready_kind (sym (claim-set_register p d fr sh ls b l r)) ∙ is_fresh
+          here same e = ap (λ z. is_ready_kind (cond z l (claim p d (Method fr sh ∷ ls) r))) (sym e)
+              ∙ ap is_ready_kind (sym (claim-set_register p d fr sh ls b l r)) ∙ is_fresh
 
           go : (same : Bool) → same_place (top ls b) r ≡ same → (g : ℕ) → same_place q (Field y.name g) ≡ false
           go true e = let ready = filled_ready p t c s fr sh ls at_hand x k may in let not = here true e in cc

@@ -20,7 +20,8 @@ use Rattle.aom_safety.specs.Steps.{Empties, Acts, Arrives, Clears, Comes_out, En
 use Rattle.aom_semantics.specs.Servers.{without_queue}
 
 -- a cell goes
-vanishes : (p : Image) (c : Choice) (ts : List Task) (s u : State) → s.tasks ≡ Destroy ∷ ts → gone (held s.cells (Going (length ts))) ts (counted p s) ≡ Goes u → Move p c s u
+vanishes : (p : Image) (c : Choice) (ts : List Task) (s u : State) → s.tasks ≡ Destroy ∷ ts →
+    gone (held s.cells (Going (length ts))) ts (counted p s) ≡ Goes u → Move p c s u
 vanishes p c ts s u at e = some_given (λ o. gone o ts (counted p s) ≡ Goes u) (held s.cells (Going (length ts))) e (λ stuck. cc) (λ o there e.
     let needed = needs_gone (without_queue o.name s.cells) o in
     let after : State = vanished o ts (counted p s) in

@@ -42,7 +42,8 @@ module _ (p : Image) (t : Typing) (wired : IsWired p) (s : State) (w : WellTyped
       go None None e = w
       go (Some r) x e = w
 
-  sends_well : (refused : Option CommandRefusal) (name : ℕ) (words : List ℤ) → named s.cells name ≡ None → (k : Client) → client_at s.clients c ≡ k → WellTyped p t (sending p c s refused k name words)
+  sends_well : (refused : Option CommandRefusal) (name : ℕ) (words : List ℤ) → named s.cells name ≡ None → (k : Client) → client_at s.clients c ≡ k →
+      WellTyped p t (sending p c s refused k name words)
   sends_well None name words free (Open server session slots) at =
       let there = server_there p c s good.tidy fit server (fit.listed server c (ap server_of at)) in
       well _ refl refl (rw there.1 at (good_sent p t s.cells good there.0 there.2 there.3 c name free (the_message there.0.name) refl refl refl refl refl

@@ -61,7 +61,8 @@ comes_stored cs _ w v = comes_itself cs
 -- ---- one request changes, or one service
 
 -- it waits for nothing new
-pub comes_asked : (cs : List Cell) (n : ℕ) (r : Option Request) → ((k : ℕ) → awaited r ≡ Some k → awaited (requested cs n) ≡ Some k) → NoneComes cs (set_request n r cs)
+pub comes_asked : (cs : List Cell) (n : ℕ) (r : Option Request) → ((k : ℕ) → awaited r ≡ Some k → awaited (requested cs n) ≡ Some k) →
+    NoneComes cs (set_request n r cs)
 comes_asked cs n r fewer = record {
   waits = λ m k e. grind (arith, nat_tests, eqb-true, here, requested_there);
   told = λ m k e. ap (λ (v : Service). order_in v.token) (sym (service_asked cs n r m)) ∙ e;
@@ -70,7 +71,8 @@ comes_asked cs n r fewer = record {
     here : (o : Option Object) → named cs n ≡ o → (k : ℕ) → awaited (requested (set_request n r cs) n) ≡ Some k → awaited (requested cs n) ≡ Some k
     here x free k e = grind (arith, nat_tests, requested_unnamed, named_kept (asking n r) cs n, asking n r, requested_here cs n r)
 
-pub comes_requested : (cs : List Cell) (home : Home) (r : Option Request) → ((k : ℕ) → awaited r ≡ Some k → awaited (own_request cs home) ≡ Some k) → NoneComes cs (rerequested cs home r)
+pub comes_requested : (cs : List Cell) (home : Home) (r : Option Request) → ((k : ℕ) → awaited r ≡ Some k → awaited (own_request cs home) ≡ Some k) →
+    NoneComes cs (rerequested cs home r)
 comes_requested cs x r fewer = grind (arith, nat_tests, comes_itself cs, comes_asked cs)
 
 -- it is no other token
@@ -114,7 +116,8 @@ comes_unslotted cs client = record {
 
 comes_each_unslotted : (cs : List Cell) (clients : List ℕ) → NoneComes cs (each_unslotted clients cs)
 comes_each_unslotted cs [] = comes_itself cs
-comes_each_unslotted cs (c ∷ clients) = comes_then cs (all_unslotted c cs) (each_unslotted clients (all_unslotted c cs)) (comes_unslotted cs c) (comes_each_unslotted (all_unslotted c cs) clients)
+comes_each_unslotted cs (c ∷ clients) =
+    comes_then cs (all_unslotted c cs) (each_unslotted clients (all_unslotted c cs)) (comes_unslotted cs c) (comes_each_unslotted (all_unslotted c cs) clients)
 
 -- a server goes with what waits in its queue
 pub comes_gone : (cs : List Cell) → Tidy cs → (n : ℕ) (g : Place) (clients : List ℕ) → NoneComes cs (each_unslotted clients (without g (without_queue n cs)))

@@ -46,7 +46,8 @@ pub record RunsFor (p : Image) (m k : ℕ) (h : Holder) (view : Option ℕ) : Ty
   pub only : method_role p m ≡ Some Construct → k ≡ m
 
 -- where nothing overrides the method
-itself_runs : (p : Image) (m : ℕ) (h : Holder) (view : Option ℕ) → IsSome (method_at p m) → Houses p h (holder_of p m) → CountsAs p h view (holder_of p m) → RunsFor p m m h view
+itself_runs : (p : Image) (m : ℕ) (h : Holder) (view : Option ℕ) → IsSome (method_at p m) → Houses p h (holder_of p m) →
+    CountsAs p h view (holder_of p m) → RunsFor p m m h view
 itself_runs p m h view there houses counts = record {
   there = there;
   role = refl;
@@ -82,7 +83,8 @@ overrides_plainly p fit m k d e there at over =
     grind (arith, nat_tests, leads_there p m e there, there, all_there (StandsInNamed p) p.methods k d fit at, same_roles d.role Do)
 
 -- and where something does
-overrider_runs : (p : Image) → IsWired p → (m v k : ℕ) (h : Holder) (e : Method) → IsCalled p m → RunsAlike p m v k e → CountsAs p h (Some v) (holder_of p m) → RunsFor p m k h (Some v)
+overrider_runs : (p : Image) → IsWired p → (m v k : ℕ) (h : Holder) (e : Method) → IsCalled p m → RunsAlike p m v k e → CountsAs p h (Some v) (holder_of p m) →
+    RunsFor p m k h (Some v)
 unfolding arguments_in gives_in leaves_in quiet_in role_in class_in before_in after_in
 overrider_runs p wired m v k h e called x counts = record {
   there = ap is_some x.alike.there;
@@ -118,7 +120,8 @@ overrider_runs p wired m v k h e called x counts = record {
     same : (w : ℕ) → Some v ≡ Some w → v ≡ w
     same w is = cc
 
-pub runs_for : (p : Image) → IsWired p → (m : ℕ) (view : Option ℕ) (h : Holder) → IsCalled p m → Houses p h (holder_of p m) → CountsAs p h view (holder_of p m) → RunsFor p m (body_of p m view) h view
+pub runs_for : (p : Image) → IsWired p → (m : ℕ) (view : Option ℕ) (h : Holder) → IsCalled p m → Houses p h (holder_of p m) →
+    CountsAs p h view (holder_of p m) → RunsFor p m (body_of p m view) h view
 unfolding body_of
 runs_for p wired m None h called houses counts = itself_runs p m h None called.there houses counts
 runs_for p wired m (Some v) h called houses counts = some_given (λ o. IsSome o) (method_at p m) called.there (λ none. cc) (λ e at there.
@@ -128,7 +131,8 @@ runs_for p wired m (Some v) h called houses counts = some_given (λ o. IsSome o)
     ])
 
 -- what says no more than its first state says no more than that of the method called
-pub begins_as : (p : Image) (m k : ℕ) (h : Holder) (view : Option ℕ) → RunsFor p m k h view → (after : Shape) → SaysNoMore after (entry_shape p k) → SaysNoMore after (entry_shape p m)
+pub begins_as : (p : Image) (m k : ℕ) (h : Holder) (view : Option ℕ) → RunsFor p m k h view → (after : Shape) → SaysNoMore after (entry_shape p k) →
+    SaysNoMore after (entry_shape p m)
 begins_as p m k h view runs after w = record {
   registers = λ i. subst (λ xs. Weaker (register after i) (at Unset (map argument_kind xs) i)) runs.arguments (w.registers i);
   fields = λ i. subst (λ r. WeakerFilling (field after i) (at Perhaps (entry_fields r) i)) runs.role (w.fields i);

@@ -95,7 +95,8 @@ field_thing_of p t cs (Method fr sh ∷ ls) back n f c s h = go fr.home s.1.hold
         inside : (b : Bool) → (o.name == n) ≡ b → (own : Option Thing) → field_thing p (holder_of p fr.method) f ≡ own →
             HasThing (cond b (own_field own (field sh f) (claim p (declared p cs) ls (Field n f))) (claim p (declared p cs) ls (Field n f))) c →
             (o : Object) × (named cs n ≡ Some o) × (field_thing p (thing_holder o.thing) f ≡ Some c)
-        inside true e (Some x) is h = (o, ap (λ m. named cs m) (sym (eqb-true o.name n e)) ∙ hs.lives, houses.fields f c (is ∙ filled_thing (Some x) (field sh f) c h))
+        inside true e (Some x) is h =
+            (o, ap (λ m. named cs m) (sym (eqb-true o.name n e)) ∙ hs.lives, houses.fields f c (is ∙ filled_thing (Some x) (field sh f) c h))
         inside true e None is h = ih h
         inside false e own is h = ih h
 field_thing_of p t cs (Mark gv ∷ ls) back n f c s h = field_thing_of p t cs ls (Caught gv) n f c s.1 h
@@ -129,7 +130,8 @@ session_thing_of p t cs (Ending o left ∷ ls) back n c x s h =
 abbrev pub IsQueuedAt : Image → List Cell → ℕ → ℕ → Thing → Type 0
 IsQueuedAt p cs n m x = (o : Object) × (named cs n ≡ Some o) × (has_message (service_of cs n) m ≡ true) × (message_thing p (Some o) ≡ Some x)
 
-pub queued_thing_of : (p : Image) (cs : List Cell) (ls : List Layer) (n m : ℕ) (x : Thing) → HasThing (claim p (declared p cs) ls (Elsewhere (Queued n m))) x → IsQueuedAt p cs n m x
+pub queued_thing_of : (p : Image) (cs : List Cell) (ls : List Layer) (n m : ℕ) (x : Thing) →
+    HasThing (claim p (declared p cs) ls (Elsewhere (Queued n m))) x → IsQueuedAt p cs n m x
 queued_thing_of p cs [] n m x h = grind (arith, nat_tests, found, filled_where, some_given)
 queued_thing_of p cs (l ∷ ls) n m x h = queued_thing_of p cs ls n m x h
 
@@ -231,7 +233,8 @@ abbrev pub rank : (p : Image) → IsWired p → Thing → ℕ
 rank p wired (An_object_of c) = suc (wired.family.weight c)
 rank p wired Message = 0
 
-pub lower_rank : (p : Image) (wired : IsWired p) (x y z : Thing) (f : ℕ) → field_thing p (thing_holder x) f ≡ Some y → stands_for p z y ≡ true → rank p wired z < rank p wired x
+pub lower_rank : (p : Image) (wired : IsWired p) (x y z : Thing) (f : ℕ) → field_thing p (thing_holder x) f ≡ Some y → stands_for p z y ≡ true →
+    rank p wired z < rank p wired x
 lower_rank p wired x y z f e stands = grind arith
 
 -- only classes that are there declare fields
@@ -286,10 +289,12 @@ module _ (p : Image) (t : Typing) (wired : IsWired p) (s : State) (w : WellTyped
   lives : (q : Place) (o : Object) → IsInRange q → held s.cells q ≡ Some o → Lives p s q
   lives (Register f i) o fits e = (grind (arith, nat_tests, kind_at p t wired s w (Register f i) o e, registers_live p s.cells), fits)
   lives (Entry k) o fits e = objects_item s.items k (grind (arith, nat_tests, kind_at p t wired s w (Entry k) o e, items_live p s.cells))
-  lives (Field n f) o fits e = let y = kind_at p t wired s w (Field n f) o e in let x = field_thing_of p t s.cells w.layers Now n f y.0 w.good.stack y.1 in (x.0, x.1, ap is_some x.2)
+  lives (Field n f) o fits e = let y = kind_at p t wired s w (Field n f) o e in let x = field_thing_of p t s.cells w.layers Now n f y.0 w.good.stack y.1 in
+      (x.0, x.1, ap is_some x.2)
   lives (Elsewhere Root) o fits e = let y = kind_at p t wired s w (Elsewhere Root) o e in root_lives p s.cells y.0 w.layers y.1
   lives (Elsewhere (Session n c)) o fits e = let x = at_session p t wired s w n c o e in (x.0, x.1, x.2)
-  lives (Elsewhere In_service) o fits e = rw w.tasks (let y = kind_at p t wired s w (Elsewhere In_service) o e in service_lives p t s.cells w.layers Now y.0 w.good.stack y.1)
+  lives (Elsewhere In_service) o fits e =
+      rw w.tasks (let y = kind_at p t wired s w (Elsewhere In_service) o e in service_lives p t s.cells w.layers Now y.0 w.good.stack y.1)
   lives (Elsewhere (Queued n m)) o fits e = let x = in_queue p t wired s w n m o e in (x.0, x.1, x.2)
   lives (Going k) o fits e = absurd (unowned_going k o e)
 
@@ -308,13 +313,15 @@ module _ (p : Image) (t : Typing) (wired : IsWired p) (s : State) (w : WellTyped
       let lower = lower_rank p wired x.0.thing k.0 o.thing f x.2 k.2 in
       let y = named_held s.cells n x.0 w.good.tidy x.1 in
       by_cell x.0 y.0 x.1 y.1 (ends_by fuel y.0 x.0 y.1 (omega arith))
-  ends_by zero (Elsewhere (Session n c)) o e le = let x = at_session p t wired s w n c o e in let lower = session_lower p wired x.0 o.thing x.3 in absurd (omega (arith, le, lower.0, lower.1))
+  ends_by zero (Elsewhere (Session n c)) o e le = let x = at_session p t wired s w n c o e in let lower = session_lower p wired x.0 o.thing x.3 in
+      absurd (omega (arith, le, lower.0, lower.1))
   ends_by (suc fuel) (Elsewhere (Session n c)) o e le =
       let x = at_session p t wired s w n c o e in
       let lower = session_lower p wired x.0 o.thing x.3 in
       let y = named_held s.cells n x.0 w.good.tidy x.1 in
       by_server x.0 y.0 refl x.1 y.1 (ends_by fuel y.0 x.0 y.1 (omega (arith, le, lower.0)))
-  ends_by zero (Elsewhere (Queued n m)) o e le = let x = in_queue p t wired s w n m o e in let lower = (queued_lower p wired x.0 o.thing x.3).1 in absurd (omega (arith, le, lower.0, lower.1))
+  ends_by zero (Elsewhere (Queued n m)) o e le = let x = in_queue p t wired s w n m o e in let lower = (queued_lower p wired x.0 o.thing x.3).1 in
+      absurd (omega (arith, le, lower.0, lower.1))
   ends_by (suc fuel) (Elsewhere (Queued n m)) o e le =
       let x = in_queue p t wired s w n m o e in
       let lower = (queued_lower p wired x.0 o.thing x.3).1 in

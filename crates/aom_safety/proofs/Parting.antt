@@ -40,7 +40,8 @@ module _ (p : Image) (t : Typing) (s : State) (x : Seat) (client : ℕ) (seats :
   served_well u tasks items good = search (arith, nat_tests)
 
   -- the cells are as they were
-  plain_good : (stage : Stage) → claims_none stage ≡ true → Good p t s.cells (Dispatching (Of_server x client stage) seats ∷ []) → Good p t s.cells (Dispatching (Of_object x) seats ∷ [])
+  plain_good : (stage : Stage) → claims_none stage ≡ true → Good p t s.cells (Dispatching (Of_server x client stage) seats ∷ []) →
+      Good p t s.cells (Dispatching (Of_object x) seats ∷ [])
   plain_good stage plain good = search (arith, nat_tests)
 
   -- the message of a service that was left is completed
@@ -67,7 +68,8 @@ module _ (p : Image) (t : Typing) (s : State) (x : Seat) (client : ℕ) (seats :
           tidy = tidy_dropped goes s.cells good.tidy;
         }
       where
-        same : (r : Place) → same_place r (Elsewhere In_service) ≡ false → Fits p (seen s.cells) (held s.cells r) (declared p s.cells r) → Fits p (seen left) (held left r) (declared p left r)
+        same : (r : Place) → same_place r (Elsewhere In_service) ≡ false → Fits p (seen s.cells) (held s.cells r) (declared p s.cells r) →
+            Fits p (seen left) (held left r) (declared p left r)
         same r e f =
             rw (declared_dropped goes p s.cells good.tidy goes_message r) (fits_dropped goes p s.cells good.tidy goes_message r (declared p s.cells r) e f)
 

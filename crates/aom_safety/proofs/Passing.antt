@@ -88,7 +88,8 @@ module _ (p : Image) (t : Typing) (fr : Frame) (ls : List Layer) (depth : ℕ) (
 
   -- at first none is
   pub none_passed : (cs : List Cell) (sh : Shape) → Good p t cs (Method fr sh ∷ ls) → Passed cs sh [] []
-  none_passed cs sh g = record { fits = fits; suits = g.suits; tidy = g.tidy; words = g.stack.1.words; given = λ i. tt; housed = g.stack.2; stack = g.stack.4; even = refl }
+  none_passed cs sh g =
+      record { fits = fits; suits = g.suits; tidy = g.tidy; words = g.stack.1.words; given = λ i. tt; housed = g.stack.2; stack = g.stack.4; even = refl }
     where
       fits : (r : Place) → Fits p (seen cs) (held cs r) (filling (declared p cs) [] sh r)
       fits r = grind (arith, nat_tests, fits_unowning p, claim_register_above p cs (Method fr sh ∷ ls), eqb-true)
@@ -98,11 +99,13 @@ module _ (p : Image) (t : Typing) (fr : Frame) (ls : List Layer) (depth : ℕ) (
   next_free cs sh regs ws g = grind (arith, nat_tests, fits_unowning p, eq-eqb depth, at_end Unset regs)
 
   -- a register of the caller is claimed anew below the method called
-  pub under : (d : Place → Kind) (sh : Shape) (regs : List Kind) (a : ℕ) (v : Kind) (r : Place) → filling d regs (set_register sh a v) r ≡ changed (filling d regs sh) (lower a) v r
+  pub under : (d : Place → Kind) (sh : Shape) (regs : List Kind) (a : ℕ) (v : Kind) (r : Place) →
+      filling d regs (set_register sh a v) r ≡ changed (filling d regs sh) (lower a) v r
   under d sh regs a v r = grind (arith, nat_tests, ne_eqb, eqb-true, claim-set_register p d fr sh ls a v, claim-set_register p d fr sh ls a v r)
 
   -- one more register is filled
-  over : (d : Place → Kind) (sh : Shape) (regs : List Kind) (v : Kind) (r : Place) → filling d (regs ++ v ∷ []) sh r ≡ changed (filling d regs sh) (upper (length regs)) v r
+  over : (d : Place → Kind) (sh : Shape) (regs : List Kind) (v : Kind) (r : Place) →
+      filling d (regs ++ v ∷ []) sh r ≡ changed (filling d regs sh) (upper (length regs)) v r
   over d sh regs v r = grind (arith, nat_tests, put_at_end Unset regs v, at-put_at Unset regs)
 
   given_more : (regs : List Kind) (ws : List (Option ℤ)) (k : Kind) (w : Option ℤ) → length ws ≡ length regs →
@@ -114,7 +117,8 @@ module _ (p : Image) (t : Typing) (fr : Frame) (ls : List Layer) (depth : ℕ) (
   even_more regs ws k w even = length_more ws w ∙ ap suc even ∙ sym (length_more regs k)
 
   -- a word is copied
-  word_passed : (cs : List Cell) (sh : Shape) (regs : List Kind) (ws : List (Option ℤ)) (w : Option ℤ) → WordFits w Word → Passed cs sh regs ws → Passed cs sh (regs ++ Word ∷ []) (ws ++ w ∷ [])
+  word_passed : (cs : List Cell) (sh : Shape) (regs : List Kind) (ws : List (Option ℤ)) (w : Option ℤ) → WordFits w Word → Passed cs sh regs ws →
+      Passed cs sh (regs ++ Word ∷ []) (ws ++ w ∷ [])
   word_passed cs sh regs ws w new g = record {
     fits = λ r. subst (λ k. Fits p (seen cs) (held cs r) k) (sym (over (declared p cs) sh regs Word r)) (go r (same_place (upper (length regs)) r) refl);
     suits = g.suits;
@@ -197,9 +201,10 @@ module _ (p : Image) (t : Typing) (fr : Frame) (ls : List Layer) (depth : ℕ) (
   all_passed s [] first to cs sh regs ws e n g = rw (append-nil ws) (rw (append-nil regs) g)
   all_passed s (Takes_word ∷ xs) first to cs sh regs ws e n g =
       let new : WordFits (word fr first) Word = (word_is p s (word fr first) (register sh first) n.0 (g.words first)).1 in
-      let rest =
-      all_passed s xs (suc first) (suc to) cs sh (regs ++ Word ∷ []) (ws ++ word fr first ∷ []) (ap suc e ∙ sym (length_more regs Word)) n.1 (word_passed cs sh regs ws (word fr first) new g) in
-      rw (append_assoc ws (word fr first ∷ []) (passed_words p fr (tasks_of ls) s xs (suc first))) at (rw (append_assoc regs (Word ∷ []) (map argument_kind xs)) at rest)
+      let rest = all_passed s xs (suc first) (suc to) cs sh (regs ++ Word ∷ []) (ws ++ word fr first ∷ []) (ap suc e ∙ sym (length_more regs Word)) n.1
+      (word_passed cs sh regs ws (word fr first) new g) in
+      rw (append_assoc ws (word fr first ∷ [])
+      (passed_words p fr (tasks_of ls) s xs (suc first))) at (rw (append_assoc regs (Word ∷ []) (map argument_kind xs)) at rest)
   all_passed s (Takes_own x ∷ xs) first to cs sh regs ws e n g =
       let k = own_widens p x (register sh first) n.0 n.1.0 in
       let cs' = moved (lower first) (upper to) cs in
@@ -207,10 +212,10 @@ module _ (p : Image) (t : Typing) (fr : Frame) (ls : List Layer) (depth : ℕ) (
       let one : Passed cs' sh' (regs ++ Own x Ready ∷ []) (ws ++ None ∷ []) =
       rw e (wider_passed (moved (lower first) (upper (length regs)) cs) sh' regs ws
       (register sh first) (Own x Ready) k g.even g.given (object_passed cs sh regs ws first (register sh first) refl k.object g)) in
-      let rest =
-      all_passed s xs (suc first) (suc to) cs' sh' (regs ++ Own x Ready ∷ []) (ws ++ None ∷ []) (ap suc e ∙ sym (length_more regs (Own x Ready)))
+      let rest = all_passed s xs (suc first) (suc to) cs' sh' (regs ++ Own x Ready ∷ []) (ws ++ None ∷ []) (ap suc e ∙ sym (length_more regs (Own x Ready)))
       (each_kept xs sh first (suc first) (omega arith) n.1.1) one in
-      rw (append_assoc ws (None ∷ []) (passed_words p fr (tasks_of ls) s xs (suc first))) at (rw (append_assoc regs (Own x Ready ∷ []) (map argument_kind xs)) at rest)
+      rw (append_assoc ws (None ∷ [])
+      (passed_words p fr (tasks_of ls) s xs (suc first))) at (rw (append_assoc regs (Own x Ready ∷ []) (map argument_kind xs)) at rest)
 
 module _ (p : Image) (t : Typing) (c : Choice) (s : State) (fr : Frame) (sh : Shape) (ls : List Layer) (at_hand : At p t s fr sh ls) where
   -- each argument is as the machine needs it

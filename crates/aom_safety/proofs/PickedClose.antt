@@ -75,7 +75,8 @@ module _ (p : Image) (t : Typing) (wired : IsWired p)
 
   seats_moved : (xs : List Seat) → (SomeSits z.name xs → ⊥) → AllSit cs xs → AllSit (moved q g cs) xs
   seats_moved [] none h = tt
-  seats_moved (y ∷ ys) none h = ((place y.place h.0.2 refl ∙ h.0.0, named_moved cs q g y.object.name ∙ h.0.1, h.0.2, h.0.3), seats_moved ys (λ some. none (inr some)) h.1)
+  seats_moved (y ∷ ys) none h =
+      ((place y.place h.0.2 refl ∙ h.0.0, named_moved cs q g y.object.name ∙ h.0.1, h.0.2, h.0.3), seats_moved ys (λ some. none (inr some)) h.1)
     where
       place : (a : Place) → SitsIn a ys → y.place ≡ a → held (moved q g cs) a ≡ held cs a
       place z e at = grind (arith, nat_tests, held_moved, free, z_there, same_place-true)
@@ -87,8 +88,7 @@ module _ (p : Image) (t : Typing) (wired : IsWired p)
   parted_well =
       let items = no_items p t wired typed s w idle_now fit x r there lives asked server in
       goes_well p t cs z q [] below fits z_there (omega arith) claims wired typed (tidy_now p t wired typed s w idle_now fit x r there lives asked server)
-      (tt, refl, seats_moved seats not_seated seated, grind (arith, nat_tests, requested_moved, requested_now, above), (server, has_then))
-      (record {
+      (tt, refl, seats_moved seats not_seated seated, grind (arith, nat_tests, requested_moved, requested_now, above), (server, has_then)) (record {
         some = λ h. ⊎_elim not_seated (λ y. y) h;
         unclaimed = λ f. refl;
         none_in = (no_fields cs z.name seats not_seated seated, tt);

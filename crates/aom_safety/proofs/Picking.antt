@@ -59,18 +59,19 @@ pub fits_ready : (p : Image) (h h' : Sight) (o : Option Object) (k : Kind) → i
 fits_ready p h h' o k ready f = grind arith
 
 -- seats stay where places and names do
-pub sits_same : (cs cs' : List Cell) → ((q : Place) → held cs' q ≡ held cs q) → ((n : ℕ) → named cs' n ≡ named cs n) → (xs : List Seat) → AllSit cs xs → AllSit cs' xs
+pub sits_same : (cs cs' : List Cell) → ((q : Place) → held cs' q ≡ held cs q) → ((n : ℕ) → named cs' n ≡ named cs n) → (xs : List Seat) →
+    AllSit cs xs → AllSit cs' xs
 sits_same cs cs' places names [] s = tt
 sits_same cs cs' places names (x ∷ xs) s = ((places x.place ∙ s.0.0, names x.object.name ∙ s.0.1, s.0.2, s.0.3), sits_same cs cs' places names xs s.1)
 
 -- a server rests idle
-pub suits_serving : (k : Option ClassKind) (r : Request) → is_some (sessions_in k) ≡ true → Suits k (resting_in (states_of k)) (Some r) → Suits k (resting_in idle) (Some r)
+pub suits_serving : (k : Option ClassKind) (r : Request) → is_some (sessions_in k) ≡ true → Suits k (resting_in (states_of k)) (Some r) →
+    Suits k (resting_in idle) (Some r)
 unfolding sessions_in sessions_of states_of
 suits_serving k r e s = grind arith
 
 -- a session is not enlisted
-pub suits_session :
-    (p : Image) (c : ℕ) (n : ℕ) (known : Known) (r : Option Request) → is_session p c ≡ true → Suits (thing_kind p (An_object_of c)) known r →
+pub suits_session : (p : Image) (c : ℕ) (n : ℕ) (known : Known) (r : Option Request) → is_session p c ≡ true → Suits (thing_kind p (An_object_of c)) known r →
     Suits (thing_kind p (An_object_of c)) (resting_in n) r
 unfolding kind_of is_session_in is_session_kind
 suits_session p c n known r e s = grind (arith, nat_tests)
@@ -117,7 +118,8 @@ module _ (p : Image) (t : Typing) (wired : IsWired p) (typed : IsTyped p t) (s :
   pub sessions_now : (m c : ℕ) → has_session (service_of cs m) c ≡ has_session (service_of s.cells m) c
   sessions_now m c = by_server s.cells x.object lives taken_first (λ m v. has_session v c ≡ has_session (service_of s.cells m) c) refl (λ m other. refl) m
 
-  pub sits : (above : List Seat) × AllSit s.cells (x ∷ above) × ((y : Object) → named s.cells y.name ≡ Some y → rank p wired y.thing < rank p wired x.object.thing → SomeSits y.name (x ∷ above) → ⊥)
+  pub sits : (above : List Seat) × AllSit s.cells (x ∷ above)
+      × ((y : Object) → named s.cells y.name ≡ Some y → rank p wired y.thing < rank p wired x.object.thing → SomeSits y.name (x ∷ above) → ⊥)
   sits = chain p t wired s w idle_now x.place x.object there (subst (λ y. 0 < rank p wired y) (sym its_class.2) (omega arith))
 
   abbrev pub above : List Seat
@@ -143,7 +145,8 @@ module _ (p : Image) (t : Typing) (wired : IsWired p) (typed : IsTyped p t) (s :
     declared_now _ = refl
 
     pub fits_now : (q : Place) → Fits p (seen cs) (held cs q) (declared p cs q)
-    fits_now q = rw (held_now q) (rw (declared_now q) (fits_ready p (seen s.cells) (seen cs) (held s.cells q) (declared p s.cells q) (declared_ready p s.cells q) (good.fits q)))
+    fits_now q = rw (held_now q)
+        (rw (declared_now q) (fits_ready p (seen s.cells) (seen cs) (held s.cells q) (declared p s.cells q) (declared_ready p s.cells q) (good.fits q)))
 
   -- ---- a connect
 
@@ -159,7 +162,8 @@ module _ (p : Image) (t : Typing) (wired : IsWired p) (typed : IsTyped p t) (s :
     abbrev over : List Layer
     over = Mark (An_own (An_object_of its_class.1)) ∷ Dispatching (Of_server x client Accepts) (x ∷ above) ∷ []
 
-    claims : (d : Place → Kind) (q : Place) → claim p d (Mark (An_own (An_object_of its_class.1)) ∷ Dispatching (Of_server x client Accepts) (x ∷ above) ∷ []) q ≡ with_message false d q
+    claims : (d : Place → Kind) (q : Place) →
+        claim p d (Mark (An_own (An_object_of its_class.1)) ∷ Dispatching (Of_server x client Accepts) (x ∷ above) ∷ []) q ≡ with_message false d q
     claims d y = grind arith
 
     session : session_thing p (Some x.object) ≡ Some (An_object_of its_class.1)
@@ -187,7 +191,8 @@ module _ (p : Image) (t : Typing) (wired : IsWired p) (typed : IsTyped p t) (s :
       tidy = tidy_now;
       sits = sits_now;
       there = it.there;
-      holder = houses_same p _ _ (ap thing_holder its_class.2 ∙ sym (ap (λ z. holder_by z (method_class p its_method.0)) it.role ∙ ap (λ k. holder_by (Some Accepts_role) k) it.class));
+      holder = houses_same p _ _ (ap thing_holder its_class.2
+          ∙ sym (ap (λ z. holder_by z (method_class p its_method.0)) it.role ∙ ap (λ k. holder_by (Some Accepts_role) k) it.class));
       plain = ap is_cancel it.role;
       words = λ i. rw it.arguments tt;
       free = λ i. rw it.arguments tt;
@@ -226,7 +231,8 @@ module _ (p : Image) (t : Typing) (wired : IsWired p) (typed : IsTyped p t) (s :
     session_lower = grind (arith, nat_tests, rank p wired, rank p wired x.object.thing, session_is)
 
     -- it is there, and stands lower than its server
-    pub session_held : (z : Object) × (held s.cells (Elsewhere (Session n client)) ≡ Some z) × (named s.cells z.name ≡ Some z) × (rank p wired z.thing < rank p wired x.object.thing)
+    pub session_held : (z : Object) × (held s.cells (Elsewhere (Session n client)) ≡ Some z) × (named s.cells z.name ≡ Some z)
+        × (rank p wired z.thing < rank p wired x.object.thing)
     session_held = (its_session.0, its_session.1, session_lives, session_lower)
 
   -- ---- a message
@@ -303,8 +309,8 @@ module _ (p : Image) (t : Typing) (wired : IsWired p) (typed : IsTyped p t) (s :
         go : (b : Bool) → ((n == i) && (m == j)) ≡ b → Fits p (seen served) (held served (Elsewhere (Queued i j))) (declared p served (Elsewhere (Queued i j)))
         go true e =
             let parts = and_parts (n == i) (m == j) e in
-            let none : has_message (service_of cs i) j ≡ false =
-            ap (λ k. has_message (service_of cs k) j) (sym (eqb-true n i parts.0)) ∙ ap (λ k. has_message (service_of cs n) k) (sym (eqb-true m j parts.1)) ∙ none_twice in
+            let none : has_message (service_of cs i) j ≡ false = ap (λ k. has_message (service_of cs k) j) (sym (eqb-true n i parts.0))
+            ∙ ap (λ k. has_message (service_of cs n) k) (sym (eqb-true m j parts.1)) ∙ none_twice in
             subst (λ y. Fits p (seen served) y (declared p served (Elsewhere (Queued i j)))) (sym (now ∙ ap (λ b. cond b None (held cs (Elsewhere (Queued i j)))) e))
             (subst (λ k. Fits p (seen served) None k) (sym (kind ∙ ap (λ b. cond b (filled (message_thing p (named cs i)) Full) Null) none)) tt)
         go false e = there_still (Elsewhere (Queued i j)) (now ∙ ap (λ b. cond b None (held cs (Elsewhere (Queued i j)))) e)

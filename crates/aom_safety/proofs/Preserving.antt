@@ -38,16 +38,19 @@ pub record Acting (p : Image) (c : Choice) (l : TaskLaw) (s : State) (fr : Frame
 
 -- each kind of move keeps the law
 pub record Kept (p : Image) (c : Choice) (l : TaskLaw) (s : State) : Type 0 where
-  pub goes_on : (fr : Frame) (ts : List Task) (i : Instr) → Acting p c l s fr ts i → IsStraight i → (words : List (Option ℤ)) → l.Runs (next (with_words fr words)) ts
+  pub goes_on : (fr : Frame) (ts : List Task) (i : Instr) → Acting p c l s fr ts i → IsStraight i → (words : List (Option ℤ)) →
+      l.Runs (next (with_words fr words)) ts
   pub jumps : (fr : Frame) (ts : List Task) (i : Instr) → Acting p c l s fr ts i → (to : ℕ) → jump_of i ≡ Some to → l.Runs (to_place fr to) ts
   pub counts : (fr : Frame) (ts : List Task) (i : Instr) → Acting p c l s fr ts i → (d n : ℕ) → Sets i d n → l.Runs (next (set_counter fr d n)) ts
-  pub repeats : (fr : Frame) (ts : List Task) (d to k : ℕ) → Acting p c l s fr ts (Next d to) → counter fr d - 1 ≡ suc k → l.Runs (to_place (set_counter fr d (suc k)) to) ts
+  pub repeats : (fr : Frame) (ts : List Task) (d to k : ℕ) → Acting p c l s fr ts (Next d to) → counter fr d - 1 ≡ suc k →
+      l.Runs (to_place (set_counter fr d (suc k)) to) ts
   -- it waits below what it begins, and goes on once that is over
   pub waits : (fr : Frame) (ts : List Task) (i : Instr) → Acting p c l s fr ts i → IsStraight i → (words : List (Option ℤ)) → l.Waits (with_words fr words) ts
   pub resumes : (fr : Frame) (ts : List Task) → l.Waits fr ts → (words : List (Option ℤ)) → l.Runs (next (with_words fr words)) ts
   pub calls : (fr : Frame) (ts : List Task) (target : Target) (m first x : ℕ) → Acting p c l s fr ts (Call target m first x) →
       l.Runs (entered p fr ts (counted p s) target m first (length s.items)) (Run fr ∷ ts)
-  pub cancels : (fr : Frame) (ts : List Task) (m : ℕ) → Acting p c l s fr ts Cancel → cancel_method p fr ≡ Some m → l.Runs (frame_as m fr.home fr.view (length s.items)) (Run fr ∷ ts)
+  pub cancels : (fr : Frame) (ts : List Task) (m : ℕ) → Acting p c l s fr ts Cancel → cancel_method p fr ≡ Some m →
+      l.Runs (frame_as m fr.home fr.view (length s.items)) (Run fr ∷ ts)
   pub traps : (fr : Frame) (ts : List Task) (target : Target) (m first x : ℕ) → Acting p c l s fr ts (Trap target m first x) →
       l.Runs (entered p fr ts (counted p s) target m first (length (A_mark ∷ s.items))) (Trapped ∷ Run fr ∷ ts) × l.Stands (Run fr ∷ ts)
   pub destructs : (o : Object) (x m height : ℕ) (ts : List Task) → role_of p x Destruct ≡ Some m → l.Runs (destructor_frame p m o (length ts) height) (Destroy ∷ ts)

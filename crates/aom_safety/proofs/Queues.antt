@@ -48,7 +48,8 @@ none_stays test stays (e ∷ es) none = grind (arith, nat_tests, none_stays test
 pub entry_other : (c n : ℕ) (to : Client) (clients : List Client) (e : Asked) → is_of c e ≡ false → EntryFits clients n e → EntryFits (with_client c to clients) n e
 entry_other c n to clients x other fits = grind (arith, nat_tests, client_there c)
 
-pub queue_other : (c n : ℕ) (to : Client) (clients : List Client) (es : List Asked) → list_any (is_of c) es ≡ false → QueueFits clients n es → QueueFits (with_client c to clients) n es
+pub queue_other : (c n : ℕ) (to : Client) (clients : List Client) (es : List Asked) → list_any (is_of c) es ≡ false → QueueFits clients n es →
+    QueueFits (with_client c to clients) n es
 queue_other c n to clients [] none fits = tt
 queue_other c n to clients (e ∷ es) none fits = grind (arith, nat_tests, or_parts, entry_other c n to clients e, queue_other c n to clients es)
 

@@ -45,7 +45,8 @@ module _ (p : Image) (t : Typing) (wired : IsWired p) (typed : IsTyped p t) (c :
       (stands.0, subst (λ j. AllTrue (rule_needs p fr.method fr.place stands.0 j)) same x.needs)
 
   -- a quiet method calls quiet ones
-  calls_quiet : (fr : Frame) (ts : List Task) (target : Target) (m first x : ℕ) → Acting p c (calm p) s fr ts (Call target m first x) → is_clearing ts ≡ true → is_quiet p m ≡ true
+  calls_quiet : (fr : Frame) (ts : List Task) (target : Target) (m first x : ℕ) → Acting p c (calm p) s fr ts (Call target m first x) →
+      is_clearing ts ≡ true → is_quiet p m ≡ true
   calls_quiet fr ts target m first x a clearing = grind (arith, nat_tests, ruled fr ts (Call target m first x) a, all_parts, only_then)
 
   -- no quiet method sets a trap

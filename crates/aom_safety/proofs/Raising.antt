@@ -40,7 +40,8 @@ is_that_one m x e = grind (arith, nat_tests, eqb-true)
 
 module _ (p : Image) (t : Typing) (wired : IsWired p) (s : State) (fr : Frame) (sh : Shape) (ls : List Layer) (at_hand : At p t s fr sh ls) where
   -- what the parent of the method's class declares, the method's class declares
-  inherited : (y e f : ℕ) (x : Thing) → method_class p fr.method ≡ Some y → parent_of p y ≡ Some e → field_thing p (Member e) f ≡ Some x → field_thing p (holder_of p fr.method) f ≡ Some x
+  inherited : (y e f : ℕ) (x : Thing) → method_class p fr.method ≡ Some y → parent_of p y ≡ Some e → field_thing p (Member e) f ≡ Some x →
+      field_thing p (holder_of p fr.method) f ≡ Some x
   inherited y e f x class above there = let own : holder_of p fr.method ≡ Member y = ap (λ k. holder_by (method_role p fr.method) k) class
       ∙ holder_member (method_role p fr.method) y (λ r. let clash : Some y ≡ None = sym class ∙ wired.static_main fr.method r in cc) in
       ap (λ h. field_thing p h f) own ∙ wired.family.inherits y e f x (child p y e e above (itself p e)) there
@@ -63,29 +64,32 @@ module _ (p : Image) (t : Typing) (wired : IsWired p) (s : State) (fr : Frame) (
   none_there y e class above empty (suc n) le =
       let x = get_or (fields_of p e) n Message in
       let there = slice_get-get_or (fields_of p e) n Message (omega arith) in
-      let null = null_by s.cells sh n x (inherited y e n x class above there) (empty_at (fields_of p e) sh.fields n x empty there) (at_hand.good.fits (field_place fr.home n)) in
+      let null = null_by s.cells sh n x (inherited y e n x class above there) (empty_at (fields_of p e) sh.fields n x empty there)
+      (at_hand.good.fits (field_place fr.home n)) in
       and_from (is_none (held s.cells (field_place fr.home n))) (none_filled s.cells fr.home n) (ap is_none null) (none_there y e class above empty n (omega arith))
 
   parents_null : empty_by p (parent_above p fr.method) sh.fields ≡ true → none_filled s.cells fr.home (fields_above p (parent_above p fr.method)) ≡ true
   parents_null empty = of (method_class p fr.method) refl empty
     where
-      over : (y : ℕ) → method_class p fr.method ≡ Some y → (o : Option ℕ) → parent_of p y ≡ o → empty_by p o sh.fields ≡ true → none_filled s.cells fr.home (fields_above p o) ≡ true
+      over : (y : ℕ) → method_class p fr.method ≡ Some y → (o : Option ℕ) → parent_of p y ≡ o → empty_by p o sh.fields ≡ true →
+          none_filled s.cells fr.home (fields_above p o) ≡ true
       over y class None above empty = refl
       over y class (Some e) above empty = none_there y e class above empty (length (fields_of p e)) (omega arith)
 
-      of : (k : Option ℕ) → method_class p fr.method ≡ k → empty_by p (parent_by p k) sh.fields ≡ true → none_filled s.cells fr.home (fields_above p (parent_by p k)) ≡ true
+      of : (k : Option ℕ) → method_class p fr.method ≡ k → empty_by p (parent_by p k) sh.fields ≡ true →
+          none_filled s.cells fr.home (fields_above p (parent_by p k)) ≡ true
       of None class empty = refl
       of (Some y) class empty = over y class (parent_of p y) refl empty
 
-  pub parents_met : (m : ℕ) (b : Bool) → AllTrue (above_needs p fr.method m b sh.fields) → only_if b (none_filled s.cells fr.home (fields_above p (parent_above p fr.method))) ≡ true
+  pub parents_met : (m : ℕ) (b : Bool) → AllTrue (above_needs p fr.method m b sh.fields) →
+      only_if b (none_filled s.cells fr.home (fields_above p (parent_above p fr.method))) ≡ true
   parents_met m x n = grind (arith, nat_tests, parents_null)
 
   -- and what the called construct finds of the fields of its class, which are the parent's
   module _ (m : ℕ) (role : method_role p m ≡ Some Construct) (cs : List Cell) (sh' : Shape) (same : sh'.fields ≡ sh.fields)
       (fits : (f : ℕ) → Fits p (seen cs) (held cs (field_place fr.home f)) (claim p (declared p cs) (Method fr sh' ∷ ls) (field_place fr.home f))) where
-    of_parent :
-        (y e : ℕ) → method_class p fr.method ≡ Some y → parent_of p y ≡ Some e → role_of p e Construct ≡ Some m → all_empty (fields_of p e) sh.fields ≡ true →
-        (f : ℕ) (x : Thing) → field_thing p (holder_of p m) f ≡ Some x → held cs (field_place fr.home f) ≡ None
+    of_parent : (y e : ℕ) → method_class p fr.method ≡ Some y → parent_of p y ≡ Some e → role_of p e Construct ≡ Some m →
+        all_empty (fields_of p e) sh.fields ≡ true → (f : ℕ) (x : Thing) → field_thing p (holder_of p m) f ≡ Some x → held cs (field_place fr.home f) ≡ None
     of_parent y e class above is empty f x own =
         let its = wired.constructs e m is in
         let member : holder_of p m ≡ Member its.class = ap (λ r. holder_by r (method_class p m)) role ∙ ap (λ c. holder_by (Some Construct) c) its.of in
@@ -99,7 +103,8 @@ module _ (p : Image) (t : Typing) (wired : IsWired p) (s : State) (fr : Frame) (
     raised_null : constructs_class p m (parent_above p fr.method) ≡ true → empty_by p (parent_above p fr.method) sh.fields ≡ true → Null_there
     raised_null is empty = of (method_class p fr.method) refl is empty
       where
-        over : (y : ℕ) → method_class p fr.method ≡ Some y → (o : Option ℕ) → parent_of p y ≡ o → constructs_class p m o ≡ true → empty_by p o sh.fields ≡ true → Null_there
+        over : (y : ℕ) → method_class p fr.method ≡ Some y → (o : Option ℕ) → parent_of p y ≡ o → constructs_class p m o ≡ true →
+            empty_by p o sh.fields ≡ true → Null_there
         over y class None above is empty = cc
         over y class (Some e) above is empty = of_parent y e class above (is_that_one m (role_of p e Construct) is) empty
 
@@ -114,5 +119,6 @@ module _ (p : Image) (t : Typing) (wired : IsWired p) (s : State) (fr : Frame) (
   raised m role n cs sh' same o from home fits f x own =
       let asked = subst (λ r. AllTrue (above_needs p fr.method m (is_construct r) sh.fields)) role n in
       let is = (and_parts (is_construct (method_role p fr.method)) (constructs_class p m (parent_above p fr.method)) asked.0).1 in
-      let here = λ (g : ℕ). subst (λ h. Fits p (seen cs) (held cs (field_place h g)) (claim p (declared p cs) (Method fr sh' ∷ ls) (field_place h g))) (sym home) (fits g) in
+      let here = λ (g : ℕ). subst (λ h. Fits p (seen cs) (held cs (field_place h g)) (claim p (declared p cs) (Method fr sh' ∷ ls) (field_place h g)))
+      (sym home) (fits g) in
       subst (λ h. held cs (field_place h f) ≡ None) home (raised_null m role cs sh' same here is asked.1.0 f x own)

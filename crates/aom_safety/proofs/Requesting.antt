@@ -106,7 +106,8 @@ only_issued r h = grind arith
 only_cancelled : (r : Option Request) → IsTrue (has (bit_or cancel_open cancel_done) (state_of r)) → in_phase is_cancelling r ≡ true
 only_cancelled r h = grind arith
 
--- an object that is enlisted is idle, one with a request made is issued, one that waits is active, and what is aborted is answered; whether it is being cancelled stays as it was
+-- an object that is enlisted is idle, one with a request made is issued, one that waits is active, and what is aborted is answered; whether it is being
+-- cancelled stays as it was
 suits_enlisted : (k : Option ClassKind) (n : Known) (cs : List Cell) (priority : ℤ) →
     is_listed_kind k ≡ true → Suits k n None → Suits k (record { states = idle; cancelled = n.cancelled }) (Some (first_request cs priority))
 suits_enlisted k n cs priority l s = grind arith
@@ -139,7 +140,8 @@ not_empty_by : (n k : ℕ) → IsTrue (has n k) → has 0 k ≡ false → (n == 
 not_empty_by n k h none = grind (arith, nat_tests, eqb-true n 0)
 
 -- a way is there where the object is in one of its states
-narrowed_leads : (t : Typing) (m place x : ℕ) (sh : Shape) → (bit_and sh.states x == 0) ≡ false → AllLead t m (flow_narrowed sh place x) → Leads t m place (record sh { states = bit_and sh.states x })
+narrowed_leads : (t : Typing) (m place x : ℕ) (sh : Shape) → (bit_and sh.states x == 0) ≡ false → AllLead t m (flow_narrowed sh place x) →
+    Leads t m place (record sh { states = bit_and sh.states x })
 narrowed_leads t m place x sh some l = (subst (λ b. AllLead t m (cond b [] ((place, record sh { states = bit_and sh.states x }) ∷ []))) some l).0
 
 -- ---- the laws
@@ -179,8 +181,10 @@ module _ (p : Image) (t : Typing) (main_none : (m : ℕ) → method_role p m ≡
       let o = found.0 in
       let holds : IsHoused p s.cells ls (Inside o found.1) = subst (λ h. IsHoused p s.cells ls h) found.2 at_hand.good.stack.2 in
       let below : Known = states_claim p o ls in
-      let here = subst (λ h. Suits (thing_kind p o.thing) (cond (works_at o.name h) (known_at p fr sh.states below) below) (requested s.cells o.name)) found.2 (at_hand.good.suits o holds.lives) in
-      let known = subst (λ b. Suits (thing_kind p o.thing) (cond b (known_at p fr sh.states below) below) (requested s.cells o.name)) (eq-eqb o.name o.name refl) here in
+      let here = subst (λ h. Suits (thing_kind p o.thing) (cond (works_at o.name h) (known_at p fr sh.states below) below) (requested s.cells o.name)) found.2
+      (at_hand.good.suits o holds.lives) in
+      let known = subst (λ b. Suits (thing_kind p o.thing) (cond b (known_at p fr sh.states below) below) (requested s.cells o.name))
+      (eq-eqb o.name o.name refl) here in
       record {
         object = o;
         from = found.1;
@@ -204,7 +208,8 @@ module _ (p : Image) (t : Typing) (main_none : (m : ℕ) → method_role p m ≡
   home_is_own l = let it = of_object l in ap (λ h. home_kind p h) it.home ∙ it.kind
 
   -- no place claims the object to be fresh
-  nowhere_fresh : (it : OfObject) (q : Place) (x : Object) → held s.cells q ≡ Some x → is_ready_kind (claim p (declared p s.cells) (Method fr sh ∷ ls) q) ≡ false → (it.object.name == x.name) ≡ false
+  nowhere_fresh : (it : OfObject) (q : Place) (x : Object) → held s.cells q ≡ Some x →
+      is_ready_kind (claim p (declared p s.cells) (Method fr sh ∷ ls) q) ≡ false → (it.object.name == x.name) ≡ false
   nowhere_fresh it q x e fresh = grind (arith, nat_tests, this_is_ready p t c s fr sh ls at_hand (Inside it.object it.from) 0 it.home q x e fresh 0)
 
   -- it has that request, and is known to be in these states
@@ -222,12 +227,13 @@ module _ (p : Image) (t : Typing) (main_none : (m : ℕ) → method_role p m ≡
       (fitted p t s.cells fr sh ls at_hand.good)
 
   -- it is known to be in fewer states
-  pub learned : (listed : is_listed_kind (own_kind p fr.method) ≡ true) (states : ℕ) → IsTrue (has states (state_of own)) → Fitted p t s.cells fr (record sh { states = states }) ls
+  pub learned : (listed : is_listed_kind (own_kind p fr.method) ≡ true) (states : ℕ) → IsTrue (has states (state_of own)) →
+      Fitted p t s.cells fr (record sh { states = states }) ls
   learned listed states h =
       let it = of_object listed in
       let suit = suits_within (own_kind p fr.method) states (its listed sh.states) own listed h it.suits in
-      restated p t s.cells s.cells fr sh ls it.object it.from states it.home it.lives (alike_itself s.cells) (λ m some. some) (λ m other. refl) (nowhere_fresh it)
-      (subst (λ k. Suits k (its listed states) (requested s.cells it.object.name)) (sym it.kind) (grind (arith, nat_tests)))
+      restated p t s.cells s.cells fr sh ls it.object it.from states it.home it.lives (alike_itself s.cells) (λ m some. some) (λ m other. refl)
+      (nowhere_fresh it) (subst (λ k. Suits k (its listed states) (requested s.cells it.object.name)) (sym it.kind) (grind (arith, nat_tests)))
       (fitted p t s.cells fr sh ls at_hand.good)
 
   pub law_status : (a : ℕ) → Law p t c s fr sh ls at_hand (Status a)
@@ -243,8 +249,7 @@ module _ (p : Image) (t : Typing) (main_none : (m : ℕ) → method_role p m ≡
   -- a jump by the state of the request: what is learned of it is known at either place
   goes_by : (listed : is_listed_kind (own_kind p fr.method) ≡ true) (there here to : ℕ) (b : Bool) →
       (b ≡ true → IsTrue (has there (state_of own))) → (b ≡ false → IsTrue (has here (state_of own))) →
-      AllLead t fr.method (flow_narrowed sh (suc fr.place) here ++ flow_narrowed sh to there) →
-      WellTyped p t (applied p fr (tasks_of ls) s (jumps_if fr b to))
+      AllLead t fr.method (flow_narrowed sh (suc fr.place) here ++ flow_narrowed sh to there) → WellTyped p t (applied p fr (tasks_of ls) s (jumps_if fr b to))
   goes_by listed there here to b if_there if_here leads = go b refl
     where
       parts : AllLead t fr.method (flow_narrowed sh (suc fr.place) here) × AllLead t fr.method (flow_narrowed sh to there)
@@ -255,8 +260,8 @@ module _ (p : Image) (t : Typing) (main_none : (m : ℕ) → method_role p m ≡
       goes fr' place x eh em eg ew ep h l =
           let sh' : Shape = record sh { states = bit_and sh.states x } in
           let goes_on = narrowed_leads t fr.method place x sh (some_left listed x h) l in
-          well p t c s fr sh ls at_hand _ fr' sh' refl at_hand.items at_hand.undos
-          (settle p t s.cells fr' sh' ls (reframed p t s.cells fr fr' sh' ls eh em eg ew (learned listed (bit_and sh.states x) (within listed x h))) (rw em (rw ep goes_on)))
+          well p t c s fr sh ls at_hand _ fr' sh' refl at_hand.items at_hand.undos (settle p t s.cells fr' sh' ls
+          (reframed p t s.cells fr fr' sh' ls eh em eg ew (learned listed (bit_and sh.states x) (within listed x h))) (rw em (rw ep goes_on)))
 
       go : (x : Bool) → b ≡ x → WellTyped p t (applied p fr (tasks_of ls) s (jumps_if fr x to))
       go true e = goes (to_place fr to) to there refl refl refl refl refl (if_there e) parts.1
@@ -318,7 +323,8 @@ module _ (p : Image) (t : Typing) (main_none : (m : ℕ) → method_role p m ≡
       let it = of_object listed in
       let under = only_cancelled own (in_state listed (bit_or cancel_open cancel_done) n.1.0) in (
         (active_home n.0, (under, tt)),
-        asks listed cancel_done (on_request aborted own) (on_some aborted own) (suits_aborted (own_kind p fr.method) (its listed sh.states) own n.0 under it.suits) leads.0,
+        asks listed cancel_done (on_request aborted own) (on_some aborted own)
+            (suits_aborted (own_kind p fr.method) (its listed sh.states) own n.0 under it.suits) leads.0,
       )
 
   -- each instruction of this file by its law

@@ -70,7 +70,8 @@ module _ (p : Image) (t : Typing) (c : Choice) (s : State) (fr fr2 : Frame) (sh 
   }
 
   -- the object that is left is the caller's last entry
-  pub pushed : (x : ℕ) → below ≡ Method fr2 sh2 ∷ ls → leaves_one p x sh.entries ≡ true → none_owns sh.registers ≡ true → Fitted p t s.cells fr2 (with_entry (Pushed_object x Ready) sh2) ls
+  pub pushed : (x : ℕ) → below ≡ Method fr2 sh2 ∷ ls → leaves_one p x sh.entries ≡ true → none_owns sh.registers ≡ true →
+      Fitted p t s.cells fr2 (with_entry (Pushed_object x Ready) sh2) ls
   pushed x over e n = record {
     fits = λ r. rw (claim_push p (declared p s.cells) fr2 sh2 ls entry r) (go r (same_place spot r) refl);
     suits = suits;
@@ -94,12 +95,14 @@ module _ (p : Image) (t : Typing) (c : Choice) (s : State) (fr fr2 : Frame) (sh 
       bare : Shape
       bare = record sh { entries = [] }
 
-      without : (r : Place) → same_place spot r ≡ false → claim p (declared p s.cells) (Method fr sh ∷ below) r ≡ claim p (declared p s.cells) (Method fr bare ∷ below) r
+      without : (r : Place) → same_place spot r ≡ false →
+          claim p (declared p s.cells) (Method fr sh ∷ below) r ≡ claim p (declared p s.cells) (Method fr bare ∷ below) r
       without r f = ap (λ es. claim p (declared p s.cells) (Method fr (record sh { entries = es }) ∷ below) r) (left_alone p x sh.entries e).alone
           ∙ claim_push p (declared p s.cells) fr bare below itself r ∙ ap (λ b. cond b
           (entry_kind itself) (claim p (declared p s.cells) (Method fr bare ∷ below) r)) (ap (λ l. same_place (Entry (length (items_of l))) r) over ∙ f)
 
-      go : (r : Place) (b : Bool) → same_place spot r ≡ b → Fits p (seen s.cells) (held s.cells r) (cond b (entry_kind entry) (claim p (declared p s.cells) (Method fr2 sh2 ∷ ls) r))
+      go : (r : Place) (b : Bool) → same_place spot r ≡ b →
+          Fits p (seen s.cells) (held s.cells r) (cond b (entry_kind entry) (claim p (declared p s.cells) (Method fr2 sh2 ∷ ls) r))
       go r true f = rw (ap (λ l. Entry (length (items_of l))) over ∙ same_place-true spot r f) at (left_held p t c s fr sh below at_hand x e)
       go r false f = rw (same_claims (declared p s.cells) r) at (ended p s.cells fr bare below at_hand.good.stack.1.holder at_hand.good.stack.1.view
           at_hand.good.stack.2 at_hand.good.stack.3 at_top refl n (λ serving. absurd (unserving serving)) r (seen s.cells) (held s.cells r)
@@ -113,8 +116,8 @@ module _ (p : Image) (t : Typing) (c : Choice) (s : State) (fr fr2 : Frame) (sh 
       let g = at_hand.good in
       let free = fits_unowning p h _ (register sh2 x) u (grind (arith, nat_tests, d, top, ne_eqb, claim_register)) in
       record {
-        fits = λ r. subst (λ d. Fits p (seen cs') (held cs' r) (claim p d (Method (set_word fr2 x None) (set_register sh2 x k) ∷ ls) r)) (sym (declared_moved p cs q to))
-            (subst (λ k. Fits p (seen cs') (held cs' r) k) (sym (claim_frame p d fr2 (set_word fr2 x None) (set_register sh2 x k) ls r refl refl))
+        fits = λ r. subst (λ d. Fits p (seen cs') (held cs' r) (claim p d (Method (set_word fr2 x None) (set_register sh2 x k) ∷ ls) r)) (sym (declared_moved
+            p cs q to)) (subst (λ k. Fits p (seen cs') (held cs' r) k) (sym (claim_frame p d fr2 (set_word fr2 x None) (set_register sh2 x k) ls r refl refl))
             (keep_fits p h (seen cs') (changed (claim p d (Method fr2 sh2 ∷ ls)) q k) (claim p d (Method fr2 (set_register sh2 x k) ∷ ls)) q to
             (λ r. held_moved cs q to r free) (requested_moved cs q to) same (λ r x e k f. refl) fits_aside r));
         suits = all_moved p cs q to (Method fr2 sh2 ∷ ls) suits;
@@ -163,7 +166,8 @@ module _ (p : Image) (t : Typing) (c : Choice) (s : State) (fr fr2 : Frame) (sh 
           go : (b c : Bool) → same_place q r ≡ c → cond b k (claim p d (Method fr2 sh2 ∷ ls) r) ≡ cond b
               (cond (same_place q q) k (claim p d (Method fr2 sh2 ∷ ls) q)) (cond c Null (cond c k (claim p d (Method fr2 sh2 ∷ ls) r)))
           go true c f = ap (λ b. cond b k (claim p d (Method fr2 sh2 ∷ ls) q)) (sym (same_place_refl q))
-          go false true f = ap (λ y. claim p d (Method fr2 sh2 ∷ ls) y) (sym (same_place-true q r f)) ∙ claim_register_above p s.cells (Method fr2 sh2 ∷ ls) (length (tasks_of below)) a (omega arith)
+          go false true f = ap (λ y. claim p d (Method fr2 sh2 ∷ ls) y) (sym (same_place-true q r f))
+              ∙ claim_register_above p s.cells (Method fr2 sh2 ∷ ls) (length (tasks_of below)) a (omega arith)
           go false false f = refl
 
 -- what the rule says of the result, by its kind
@@ -180,7 +184,8 @@ module _ (p : Image) (s : State) where
   pub object_of : (x : Thing) (k : Kind) → may_be p x k ≡ true → is_object_or_null k ≡ true
   object_of x k e = may_be_object p x k e
 
-module _ (p : Image) (t : Typing) (wired : IsWired p) (c : Choice) (s : State) (fr fr2 : Frame) (sh sh2 : Shape) (ls : List Layer) (at_hand : At p t s fr sh (Method fr2 sh2 ∷ ls)) where
+module _ (p : Image) (t : Typing) (wired : IsWired p) (c : Choice) (s : State) (fr fr2 : Frame) (sh sh2 : Shape) (ls : List Layer)
+    (at_hand : At p t s fr sh (Method fr2 sh2 ∷ ls)) where
   abbrev pub below : List Layer
   below = Method fr2 sh2 ∷ ls
 
@@ -215,8 +220,7 @@ module _ (p : Image) (t : Typing) (wired : IsWired p) (c : Choice) (s : State) (
       Goal g = AllTrue (result_needs p fr (tasks_of below) s g a) × WellTyped p t (record s
           { cells = result_cells p fr (tasks_of below) s g a x (tasks_of ls); tasks = Run (next (received p fr (tasks_of below) s g a x fr2)) ∷ tasks_of ls })
 
-      go :
-          is_cancel (method_role p fr.method) ≡ false → (g : Gives) → AllTrue (rule_result p fr.method fr.place sh g a) → entries_done p g sh.entries ≡ true →
+      go : is_cancel (method_role p fr.method) ≡ false → (g : Gives) → AllTrue (rule_result p fr.method fr.place sh g a) → entries_done p g sh.entries ≡ true →
           none_owns (result_moved p fr.method fr.place sh g a).registers ≡ true → Awaits g x sh2 → Leads t fr2.method (suc fr2.place) (brought g x sh2) → Goal g
       go still Nothing r e n w leads =
           let f = plain p t c s fr fr2 sh sh2 ls below at_hand (Returns fr.method fr.home) at_hand.good.stack.4 (λ d r. refl) (omega arith) refl
@@ -252,7 +256,8 @@ module _ (p : Image) (t : Typing) (wired : IsWired p) (c : Choice) (s : State) (
           (tt, finish s.cells fr2 (with_entry (Pushed_object y Ready) sh2) refl refl same f leads)
 
       -- one that cancels gives nothing
-      cancel_keeps : is_cancel (method_role p fr.method) ≡ true → AllTrue (needs p c fr (tasks_of below) s (Return a)) × WellTyped p t (does p c fr (tasks_of below) s (Return a))
+      cancel_keeps : is_cancel (method_role p fr.method) ≡ true →
+          AllTrue (needs p c fr (tasks_of below) s (Return a)) × WellTyped p t (does p c fr (tasks_of below) s (Return a))
       cancel_keeps cancels =
           let nothing = (wired.cancels fr.method (role_cancels (method_role p fr.method) cancels)).1 in
           let entries = none_left p fr sh a nothing ended_so in
@@ -266,7 +271,8 @@ module _ (p : Image) (t : Typing) (wired : IsWired p) (c : Choice) (s : State) (
                 (sym cancels) (finish then fr2 sh2 refl refl (items entries) fitted leads)),
           )
 
-      by_role : (b : Bool) → is_cancel (method_role p fr.method) ≡ b → AllTrue (needs p c fr (tasks_of below) s (Return a)) × WellTyped p t (does p c fr (tasks_of below) s (Return a))
+      by_role : (b : Bool) → is_cancel (method_role p fr.method) ≡ b →
+          AllTrue (needs p c fr (tasks_of below) s (Return a)) × WellTyped p t (does p c fr (tasks_of below) s (Return a))
       by_role true cancels = cancel_keeps cancels
       by_role false still =
           let w = go still (gives_of p fr.method) ended_so.result ended_so.entries ended_so.free at_hand.good.stack.4.0.1 at_hand.good.stack.4.0.2 in
@@ -283,8 +289,7 @@ module _ (p : Image) (t : Typing) (wired : IsWired p) (c : Choice) (s : State) (
       let catches = at_hand.good.stack.4.0 in
       let e = catches.0 in
       let r = returnable p fr sh a n in
-      let w =
-      go (gives_of p fr.method) (rw e catches.1) r.result r.entries r.free caller.0.1 (rw e caller.0.2) (rw e caller.0.3) in
+      let w = go (gives_of p fr.method) (rw e catches.1) r.result r.entries r.free caller.0.1 (rw e caller.0.2) (rw e caller.0.3) in
       let mark = mark_on_top s.items _ (same_items p t c s fr sh marked at_hand (grind arith)) in
       (return_needs p t c s fr sh marked at_hand a r w.0 (mark, tt), ended_plainly p t c s fr sh marked at_hand a r catches.2 w.1)
     where
@@ -299,7 +304,8 @@ module _ (p : Image) (t : Typing) (wired : IsWired p) (c : Choice) (s : State) (
       suits = all_returned p s.cells s.cells fr sh marked at_hand.good.suits at_hand.good.stack.2 (λ n. refl) (λ n off. refl) (λ o from e h.
           let apart : IsApart p fr.view fr.method (Inside o from) marked = subst (λ h. IsApart p fr.view fr.method h marked) e at_hand.good.stack.3 in
           let none = known_loud p t wired s.cells o fr2 sh2 ls caller.0.4 (none_cancels p t wired s.cells o ls fr2.method fr2.home caller.0.4 caller.4) in
-          let known = known_plain p fr sh.states (states_claim p o marked) at_hand.good.stack.4.0.2 ∙ ap (λ (b : Bool). record { states = sh.states; cancelled = b }) none in
+          let known = known_plain p fr sh.states (states_claim p o marked) at_hand.good.stack.4.0.2
+          ∙ ap (λ (b : Bool). record { states = sh.states; cancelled = b }) none in
           rejoins_trap p o gv fr2 sh2 ls sh.states (requested s.cells o.name) apart.3 (returnable p fr sh a n).settled none (grind (arith, nat_tests)))
 
       items : no_entry sh.entries ≡ true → forms (below_top s.items) ≡ objects sh2.entries (items_of ls)
@@ -314,8 +320,7 @@ module _ (p : Image) (t : Typing) (wired : IsWired p) (c : Choice) (s : State) (
           let fr'' = set_word fr' (suc x) (Some (pos 0)) in
           let sh'' = set_register sh' (suc x) Word in
           let w = write p t cs fr' sh' ls (suc x) (Some (pos 0)) Word f u (λ h. tt) tt in
-          let g =
-          settle p t cs (next fr'') sh'' ls (stepped p t cs fr'' sh'' ls w) (grind (arith, nat_tests)) in
+          let g = settle p t cs (next fr'') sh'' ls (stepped p t cs fr'' sh'' ls w) (grind (arith, nat_tests)) in
           record {
             layers = Method (next fr'') g.0 ∷ ls;
             tasks = refl;
@@ -409,7 +414,8 @@ module _ (p : Image) (t : Typing) (c : Choice) (s : State) (fr : Frame) (sh : Sh
       let nothing : gives_of p fr.method ≡ Nothing = at_hand.good.stack.4.0.0 ∙ none in
       let entries : no_entry sh.entries ≡ true = none_left p fr sh a nothing r in
       let free : none_owns sh.registers ≡ true = ap (λ g. none_owns (result_moved p fr.method fr.place sh g a).registers) (sym nothing) ∙ r.free in (
-        return_needs p t c s fr sh dispatched at_hand a r (grind (arith, nat_tests)) (mark_on_top s.items _ (same_items p t c s fr sh dispatched at_hand entries), met),
+        return_needs p t c s fr sh dispatched at_hand a r (grind (arith, nat_tests))
+            (mark_on_top s.items _ (same_items p t c s fr sh dispatched at_hand entries), met),
         ended_plainly p t c s fr sh dispatched at_hand a r at_hand.good.stack.4.0.2 (so r (dispatch_after d a r entries ends first attended (fits r entries free))),
       )
 
@@ -478,7 +484,8 @@ module _ (p : Image) (t : Typing) (c : Choice) (s : State) (fr : Frame) (sh : Sh
   )
 
 -- over an unwinding an operation is over
-module _ (p : Image) (t : Typing) (c : Choice) (s : State) (fr : Frame) (sh : Shape) (code : ℤ) (es : List CleanupEntry) (ls : List Layer) (at_hand : At p t s fr sh (Unwinding code es ∷ ls)) where
+module _ (p : Image) (t : Typing) (c : Choice) (s : State) (fr : Frame) (sh : Shape) (code : ℤ) (es : List CleanupEntry) (ls : List Layer)
+    (at_hand : At p t s fr sh (Unwinding code es ∷ ls)) where
   pub law_return_unwound : (a : ℕ) → Law p t c s fr sh (Unwinding code es ∷ ls) at_hand (Return a)
   law_return_unwound a n leads =
       let below = Unwinding code es ∷ ls in
@@ -506,11 +513,13 @@ module _ (p : Image) (t : Typing) (c : Choice) (s : State) (fr : Frame) (sh : Sh
       )
 
 -- an `error` method answers the dispatch that asked it
-module _ (p : Image) (t : Typing) (c : Choice) (s : State) (fr : Frame) (sh : Shape) (x : Seat) (seats : List Seat) (ls : List Layer) (at_hand : At p t s fr sh (Dispatching (Asks x) seats ∷ ls)) where
+module _ (p : Image) (t : Typing) (c : Choice) (s : State) (fr : Frame) (sh : Shape) (x : Seat) (seats : List Seat) (ls : List Layer)
+    (at_hand : At p t s fr sh (Dispatching (Asks x) seats ∷ ls)) where
   abbrev pub asker : List Layer
   asker = Dispatching (Asks x) seats ∷ ls
 
-  same_claims : (answer : ℤ) (d : Place → Kind) (r : Place) → claim p d (Dispatching (Answered x answer) seats ∷ ls) r ≡ claim p d (Dispatching (Asks x) seats ∷ ls) r
+  same_claims : (answer : ℤ) (d : Place → Kind) (r : Place) →
+      claim p d (Dispatching (Answered x answer) seats ∷ ls) r ≡ claim p d (Dispatching (Asks x) seats ∷ ls) r
   same_claims answer d y = grind arith
 
   pub law_answer : (a : ℕ) → Law p t c s fr sh (Dispatching (Asks x) seats ∷ ls) at_hand (Return a)

@@ -77,10 +77,10 @@ module _ (p : Image) (t : Typing) (cs : List Cell) (good : Good p t cs []) (o : 
     where
       go : (b : Bool) → (name == n) ≡ b → has_message (cond b message.service (service_of rest n)) m ≡ has_message (service_of cs n) m
       go true e = grind (arith, nat_tests, eqb-true name n e, service_unnamed cs name free)
-      go false e = by_server cs o lives (asked_last (Message_of c name)) (λ n v. ((o.name == n) && (name == m)) ≡ false → has_message v m ≡ has_message (service_of cs n) m)
-          (λ other. list_any-append (λ x. is_message m x) (service_of cs o.name).queue (Message_of c name ∷ [])
-          ∙ ap (λ b. list_any (λ x. is_message m x) (service_of cs o.name).queue || (b || false)) (sym (ap (λ b. b && (name == m))
-          (eq-eqb o.name o.name refl)) ∙ other) ∙ or_false (list_any (λ x. is_message m x) (service_of cs o.name).queue)) (λ n apart same. refl) n other
+      go false e = by_server cs o lives (asked_last (Message_of c name)) (λ n v. ((o.name == n) && (name == m)) ≡ false → has_message v m ≡ has_message
+          (service_of cs n) m) (λ other. list_any-append (λ x. is_message m x) (service_of cs o.name).queue (Message_of c name ∷ [])
+          ∙ ap (λ b. list_any (λ x. is_message m x) (service_of cs o.name).queue || (b || false)) (sym (ap (λ b. b && (name == m)) (eq-eqb o.name o.name refl))
+          ∙ other) ∙ or_false (list_any (λ x. is_message m x) (service_of cs o.name).queue)) (λ n apart same. refl) n other
 
   -- it waits now
   there_still : (q : Place) → held then q ≡ held cs q → declared p then q ≡ declared p cs q → Fits p (seen then) (held then q) (declared p then q)

@@ -27,7 +27,8 @@ pub service_unnamed : (cs : List Cell) (n : ℕ) → named cs n ≡ None → ser
 service_unnamed = read_unnamed services
 
 -- of all but what goes they have what they had
-pub service_without : (cs : List Cell) (g : Place) (o : Object) (n : ℕ) → Tidy cs → held cs g ≡ Some o → (o.name == n) ≡ false → service_of (without g cs) n ≡ service_of cs n
+pub service_without : (cs : List Cell) (g : Place) (o : Object) (n : ℕ) → Tidy cs → held cs g ≡ Some o → (o.name == n) ≡ false →
+    service_of (without g cs) n ≡ service_of cs n
 service_without = read_without services
 
 -- ---- where they have something else at a cell
@@ -67,7 +68,8 @@ pub attended_at : (p : Image) (cs cs' : List Cell) (d : Dispatch) →
 attended_at p cs cs' d service = attended_alike p cs cs' d (λ y e. ap (λ v. v.sessions) (service y e))
 
 -- the object that is dispatched lives, and is at its place
-pub sits_there : (cs : List Cell) (seats : List Seat) (y : Seat) → AllSit cs seats → SitsFirst cs (Some y) seats → (held cs y.place ≡ Some y.object) × (named cs y.object.name ≡ Some y.object)
+pub sits_there : (cs : List Cell) (seats : List Seat) (y : Seat) → AllSit cs seats → SitsFirst cs (Some y) seats →
+    (held cs y.place ≡ Some y.object) × (named cs y.object.name ≡ Some y.object)
 sits_there cs seats y sits first = grind arith
 
 pub sits_lives : (cs : List Cell) (seats : List Seat) (y : Seat) → AllSit cs seats → SitsFirst cs (Some y) seats → named cs y.object.name ≡ Some y.object

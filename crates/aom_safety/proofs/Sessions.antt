@@ -19,9 +19,11 @@ session_asked cs n r = read_kept (asking n r) sessions (λ c. refl) cs
 pub session_unnamed : (cs : List Cell) (n : ℕ) → named cs n ≡ None → in_session cs n ≡ false
 session_unnamed = read_unnamed sessions
 
-pub session_new : (cs : List Cell) (name : ℕ) (thing : Thing) (words : List ℤ) (owner : Place) → named cs name ≡ None → (n : ℕ) → in_session (with_new name thing words owner cs) n ≡ in_session cs n
+pub session_new : (cs : List Cell) (name : ℕ) (thing : Thing) (words : List ℤ) (owner : Place) → named cs name ≡ None → (n : ℕ) →
+    in_session (with_new name thing words owner cs) n ≡ in_session cs n
 session_new cs name thing words owner new n = grind (arith, nat_tests, eqb-true name n, session_unnamed cs name new)
 
 -- a cell that goes takes its own along
-pub session_without : (cs : List Cell) (g : Place) (o : Object) (n : ℕ) → Tidy cs → held cs g ≡ Some o → (o.name == n) ≡ false → in_session (without g cs) n ≡ in_session cs n
+pub session_without : (cs : List Cell) (g : Place) (o : Object) (n : ℕ) → Tidy cs → held cs g ≡ Some o → (o.name == n) ≡ false →
+    in_session (without g cs) n ≡ in_session cs n
 session_without = read_without sessions

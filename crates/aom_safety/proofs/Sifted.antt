@@ -30,7 +30,8 @@ service_in None = unserved
 service_in (Some c) = c.service
 
 -- what is read at one of two cells is what is read of the first, or of the others
-either_in : {A : Type 0} (read : Option Cell → A) (b : Bool) (c : Cell) (rest : A) (others : Option Cell) → rest ≡ read others → cond b (read (Some c)) rest ≡ read (cond b (Some c) others)
+either_in : {A : Type 0} (read : Option Cell → A) (b : Bool) (c : Cell) (rest : A) (others : Option Cell) → rest ≡ read others →
+    cond b (read (Some c)) rest ≡ read (cond b (Some c) others)
 either_in read x c rest others e = grind arith
 
 pub held_cell : (cs : List Cell) (q : Place) → held cs q ≡ object_in (cell_in cs q)
@@ -62,16 +63,18 @@ abbrev pub cells_of : (n : ℕ) → Finds (λ cs. cell_of cs n)
 cells_of n = record { test = λ c. c.object.name == n; of = λ c. c; none = refl; some = λ c cs. refl }
 
 pub cell_owner : (cs : List Cell) (q : Place) (c : Cell) → cell_in cs q ≡ Some c → c.owner ≡ q
-cell_owner cs q c = found (cells_in q) c (λ cs. c.owner ≡ q) (λ x cs at is. subst (λ y. y.owner ≡ q) is (same_place-true x.owner q at)) (λ x cs other e rest. rest) cs
+cell_owner cs q c = found (cells_in q) c (λ cs. c.owner ≡ q) (λ x cs at is. subst (λ y. y.owner ≡ q) is (same_place-true x.owner q at))
+    (λ x cs other e rest. rest) cs
 
 pub cell_name : (cs : List Cell) (n : ℕ) (c : Cell) → cell_of cs n ≡ Some c → c.object.name ≡ n
-cell_name cs n c = found (cells_of n) c (λ cs. c.object.name ≡ n) (λ x cs at is. subst (λ y. y.object.name ≡ n) is (eqb-true x.object.name n at)) (λ x cs other e rest. rest) cs
+cell_name cs n c = found (cells_of n) c (λ cs. c.object.name ≡ n) (λ x cs at is. subst (λ y. y.object.name ≡ n) is (eqb-true x.object.name n at))
+    (λ x cs other e rest. rest) cs
 
 -- what stands in a place is of its name, and stands in its owner's place
 pub cell_lives : (cs : List Cell) (q : Place) (c : Cell) → Tidy cs → cell_in cs q ≡ Some c → cell_of cs c.object.name ≡ Some c
 cell_lives cs q c t e = found (cells_in q) c (λ cs. Tidy cs → cell_of cs c.object.name ≡ Some c)
-    (λ x cs at is t. ap (λ b. cond b (Some x) (cell_of cs c.object.name)) (eq-eqb x.object.name c.object.name (ap (λ y. y.object.name) is)) ∙ ap (λ y. Some y) is)
-    (λ x cs other e rest t. ap (λ b. cond b (Some x) (cell_of cs c.object.name)) (apart x cs t (rest t.2)) ∙ rest t.2) cs e t
+    (λ x cs at is t. ap (λ b. cond b (Some x) (cell_of cs c.object.name)) (eq-eqb x.object.name c.object.name (ap (λ y. y.object.name) is))
+    ∙ ap (λ y. Some y) is) (λ x cs other e rest t. ap (λ b. cond b (Some x) (cell_of cs c.object.name)) (apart x cs t (rest t.2)) ∙ rest t.2) cs e t
   where
     apart : (x : Cell) (cs : List Cell) → Tidy (x ∷ cs) → cell_of cs c.object.name ≡ Some c → (x.object.name == c.object.name) ≡ false
     apart x cs t there = ne_eqb x.object.name c.object.name (λ same.
@@ -79,11 +82,13 @@ cell_lives cs q c t e = found (cells_in q) c (λ cs. Tidy cs → cell_of cs c.ob
 
 pub cell_placed : (cs : List Cell) (n : ℕ) (c : Cell) → Tidy cs → cell_of cs n ≡ Some c → cell_in cs c.owner ≡ Some c
 cell_placed cs n c t e = found (cells_of n) c (λ cs. Tidy cs → cell_in cs c.owner ≡ Some c)
-    (λ x cs at is t. ap (λ b. cond b (Some x) (cell_in cs c.owner)) (ap (λ y. same_place x.owner y.owner) (sym is) ∙ same_place_refl x.owner) ∙ ap (λ y. Some y) is)
-    (λ x cs other e rest t. go x cs (same_place x.owner c.owner) refl t (rest t.2)) cs e t
+    (λ x cs at is t. ap (λ b. cond b (Some x) (cell_in cs c.owner)) (ap (λ y. same_place x.owner y.owner) (sym is) ∙ same_place_refl x.owner)
+    ∙ ap (λ y. Some y) is) (λ x cs other e rest t. go x cs (same_place x.owner c.owner) refl t (rest t.2)) cs e t
   where
-    go : (x : Cell) (cs : List Cell) (b : Bool) → same_place x.owner c.owner ≡ b → Tidy (x ∷ cs) → cell_in cs c.owner ≡ Some c → cond b (Some x) (cell_in cs c.owner) ≡ Some c
-    go x cs true same t there = absurd (none-some c (sym (no_cell (cell_in cs c.owner) (sym (held_cell cs c.owner) ∙ ap (λ q. held cs q) (sym (same_place-true x.owner c.owner same)) ∙ t.0)) ∙ there))
+    go : (x : Cell) (cs : List Cell) (b : Bool) → same_place x.owner c.owner ≡ b → Tidy (x ∷ cs) → cell_in cs c.owner ≡ Some c →
+        cond b (Some x) (cell_in cs c.owner) ≡ Some c
+    go x cs true same t there = absurd (none-some c
+        (sym (no_cell (cell_in cs c.owner) (sym (held_cell cs c.owner) ∙ ap (λ q. held cs q) (sym (same_place-true x.owner c.owner same)) ∙ t.0)) ∙ there))
     go x cs false other t there = there
 
 -- ---- some go
@@ -110,7 +115,8 @@ module _ (drops : Cell → Bool) (f : Cell → Service) where
   tidy_sifted (c ∷ cs) t = go (drops c) (tidy_sifted cs t.2)
     where
       unheld : held (sifted drops f cs) c.owner ≡ None
-      unheld = held_cell (sifted drops f cs) c.owner ∙ ap object_in (cell_in_sifted cs c.owner t.2 ∙ ap kept (no_cell (cell_in cs c.owner) (sym (held_cell cs c.owner) ∙ t.0)))
+      unheld = held_cell (sifted drops f cs) c.owner
+          ∙ ap object_in (cell_in_sifted cs c.owner t.2 ∙ ap kept (no_cell (cell_in cs c.owner) (sym (held_cell cs c.owner) ∙ t.0)))
 
       unnamed : named (sifted drops f cs) c.object.name ≡ None
       unnamed = named_cell (sifted drops f cs) c.object.name
@@ -135,10 +141,12 @@ module _ (drops : Cell → Bool) (f : Cell → Service) where
     service_sifted = service_cell (sifted drops f cs) n ∙ ap service_in is_there
 
   -- and what is named or stands in a place then was there, and stays
-  pub named_before : (cs : List Cell) (n : ℕ) (o : Object) → Tidy cs → named (sifted drops f cs) n ≡ Some o → (c : Cell) × (cell_of cs n ≡ Some c) × (c.object ≡ o) × (drops c ≡ false)
+  pub named_before : (cs : List Cell) (n : ℕ) (o : Object) → Tidy cs → named (sifted drops f cs) n ≡ Some o →
+      (c : Cell) × (cell_of cs n ≡ Some c) × (c.object ≡ o) × (drops c ≡ false)
   named_before cs n o t e = grind (arith, nat_tests, cell_of_sifted cs n t, named_cell)
 
-  pub placed_before : (cs : List Cell) (q : Place) (o : Object) → Tidy cs → held (sifted drops f cs) q ≡ Some o → (c : Cell) × (cell_in cs q ≡ Some c) × (c.object ≡ o) × (drops c ≡ false)
+  pub placed_before : (cs : List Cell) (q : Place) (o : Object) → Tidy cs → held (sifted drops f cs) q ≡ Some o →
+      (c : Cell) × (cell_in cs q ≡ Some c) × (c.object ≡ o) × (drops c ≡ false)
   placed_before cs q o t e = grind (arith, nat_tests, cell_in_sifted cs q t, held_cell)
 
   pub requested_before : (cs : List Cell) (n : ℕ) (o : Object) → Tidy cs → named (sifted drops f cs) n ≡ Some o → requested (sifted drops f cs) n ≡ requested cs n
@@ -149,7 +157,8 @@ module _ (drops : Cell → Bool) (f : Cell → Service) where
   service_gone cs n t c here goes = grind (arith, nat_tests, service_cell, cell_of_sifted cs n t)
 
 -- at each cell clients have what they had, where nobody is at one that goes
-module _ (drops : Cell → Bool) (cs : List Cell) (tidy : Tidy cs) (n : ℕ) (free : (x : Cell) → cell_of cs n ≡ Some x → drops x ≡ true → (x.service.queue ≡ []) × (x.service.sessions ≡ [])) where
+module _ (drops : Cell → Bool) (cs : List Cell) (tidy : Tidy cs) (n : ℕ)
+    (free : (x : Cell) → cell_of cs n ≡ Some x → drops x ≡ true → (x.service.queue ≡ []) × (x.service.sessions ≡ [])) where
   abbrev left : List Cell
   left = sifted drops (λ c. c.service) cs
 
@@ -166,20 +175,23 @@ module _ (drops : Cell → Bool) (cs : List Cell) (tidy : Tidy cs) (n : ℕ) (fr
   clients_sifted = go (cell_of cs n) refl
     where
       go : (x : Option Cell) → cell_of cs n ≡ x → SameClients
-      go None e =
-          as_before (service_cell left n ∙ ap service_in (cell_of_sifted drops (λ c. c.service) cs n tidy ∙ ap (λ y. kept drops (λ c. c.service) y) e) ∙ sym (service_cell cs n ∙ ap service_in e))
+      go None e = as_before (service_cell left n ∙ ap service_in (cell_of_sifted drops (λ c. c.service) cs n tidy ∙ ap (λ y. kept drops (λ c. c.service) y) e)
+          ∙ sym (service_cell cs n ∙ ap service_in e))
       go (Some x) e = at_cell x e (drops x) refl
 
 -- ---- the changes of servers and clients are such
 
-pub withdrawn_so : (client : ℕ) (cs : List Cell) → withdrawn client cs ≡ sifted (λ c. is_queue c.owner && is_from client c.service.sender) (λ c. left_by client c.service) cs
+pub withdrawn_so : (client : ℕ) (cs : List Cell) →
+    withdrawn client cs ≡ sifted (λ c. is_queue c.owner && is_from client c.service.sender) (λ c. left_by client c.service) cs
 withdrawn_so client [] = refl
-withdrawn_so client (c ∷ cs) = ap (λ l. cond (is_queue c.owner && is_from client c.service.sender) l (record c { service = left_by client c.service } ∷ l)) (withdrawn_so client cs)
+withdrawn_so client (c ∷ cs) =
+    ap (λ l. cond (is_queue c.owner && is_from client c.service.sender) l (record c { service = left_by client c.service } ∷ l)) (withdrawn_so client cs)
 
 pub unqueued_so : (n : ℕ) (cs : List Cell) → without_queue n cs ≡ sifted (λ c. is_queue_of n c.owner) (λ c. c.service) cs
 unqueued_so n [] = refl
 unqueued_so n (c ∷ cs) = ap (λ l. cond (is_queue_of n c.owner) l (c ∷ l)) (unqueued_so n cs)
 
-pub unslotted_so : (client : ℕ) (cs : List Cell) → all_unslotted client cs ≡ sifted (λ c. false) (λ c. record c.service { sender = unslotted client c.service.sender }) cs
+pub unslotted_so : (client : ℕ) (cs : List Cell) →
+    all_unslotted client cs ≡ sifted (λ c. false) (λ c. record c.service { sender = unslotted client c.service.sender }) cs
 unslotted_so client [] = refl
 unslotted_so client (c ∷ cs) = ap (λ l. record c { service = record c.service { sender = unslotted client c.service.sender } } ∷ l) (unslotted_so client cs)

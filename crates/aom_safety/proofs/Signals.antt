@@ -54,7 +54,8 @@ all_rest p cs suits tidy = search (arith, nat_tests, settled_cells cs, rests_set
 
 pub signals_are_ready : SignalsAreReady
 signals_are_ready p t s w = (
-  λ d e. dispatch_layer (λ ls. Good p t s.cells ls) d [] w.layers (sym w.tasks ∙ e) w.good (λ seats ls none good. all_rest p s.cells (ended seats ls d none good.suits) good.tidy),
+  λ d e. dispatch_layer (λ ls. Good p t s.cells ls) d [] w.layers (sym w.tasks ∙ e) w.good
+      (λ seats ls none good. all_rest p s.cells (ended seats ls d none good.suits) good.tidy),
   λ idle. all_rest p s.cells (subst (λ ls. AllSuit p s.cells ls) (at_rest p t s w idle) w.good.suits) w.good.tidy,
 )
   where

@@ -78,11 +78,13 @@ module _ (p : Image) (t : Typing) (outside : Environment) (wired : IsWired p) (t
     calm = calm_keeps.moves p t wired typed c s u h.well h.calm e;
     in_range = registers_keep.moves p wired c s u h.in_range e;
     kept = clients_keep.moves p t wired typed c s u h.well choice.name h.kept e;
-    goes_on = ⊎_elim (λ same. inl (same ∙ busy_open s busy h.goes_on)) (λ idle. inr idle) (move_holds p c s u (uprooted_so p t s h.well) (steps_are_moves p c s u e));
+    goes_on = ⊎_elim (λ same. inl (same ∙ busy_open s busy h.goes_on)) (λ idle. inr idle)
+        (move_holds p c s u (uprooted_so p t s h.well) (steps_are_moves p c s u e));
   }
 
   stays : (lines : List Line) (s : State) → Reaches p outside (boot_state p) lines s → Stays s
-  stays _ _ begins = record { well = boot_keeps p t wired typed; calm = calm_keeps.boot p; in_range = registers_keep.boot p; kept = clients_keep.boot p; goes_on = inl refl }
+  stays _ _ begins =
+      record { well = boot_keeps p t wired typed; calm = calm_keeps.boot p; in_range = registers_keep.boot p; kept = clients_keep.boot p; goes_on = inl refl }
   stays _ _ (moves {lines = lines} {s = s} {u = u} c before busy choice e) = moved_on s u c (stays lines s before) busy choice e
   stays _ _ (turns {lines = lines} {s = s} {u = u} heard before between well e) = let h = stays lines s before in record {
     well = subst (λ o. Keeps p t o) e (turn_goes_on p t outside wired typed heard s h.well between well h.kept.fit);

@@ -35,10 +35,12 @@ unslotted_one c x = grind arith
 -- ---- the same have a sender, or are a token
 
 module _ (cs cs' : List Cell) where
-  pub sources_as : ((n : ℕ) → sources_at cs' n ≡ sources_at cs n) → ((o : Object) → named cs' o.name ≡ Some o → named cs o.name ≡ Some o) → HasSources cs → HasSources cs'
+  pub sources_as : ((n : ℕ) → sources_at cs' n ≡ sources_at cs n) → ((o : Object) → named cs' o.name ≡ Some o → named cs o.name ≡ Some o) →
+      HasSources cs → HasSources cs'
   sources_as same before sources o there = same o.name ∙ sources o (before o there)
 
-  pub served_as : ((n : ℕ) → has_sender cs' n ≡ has_sender cs n) → ((o : Object) → held cs' (Elsewhere In_service) ≡ Some o → held cs (Elsewhere In_service) ≡ Some o) → ServesSent cs → ServesSent cs'
+  pub served_as : ((n : ℕ) → has_sender cs' n ≡ has_sender cs n) →
+      ((o : Object) → held cs' (Elsewhere In_service) ≡ Some o → held cs (Elsewhere In_service) ≡ Some o) → ServesSent cs → ServesSent cs'
   served_as same before served o there = same o.name ∙ served o (before o there)
 
 -- ---- some cells go, and those that stay keep that

@@ -64,20 +64,13 @@ module _ (p : Image) (t : Typing) (wired : IsWired p) (typed : IsTyped p t)
   first (Some law ∷ laws) = Some law
 
   -- what each file of laws tells of an instruction
-  abbrev laws : (i : Instr) → instr_at p fr.method fr.place ≡ Some i → ((a : ℕ) → Law p t c s fr sh ls at_hand (Return a)) → List (Option (Law p t c s fr sh ls at_hand i))
-  laws i here back = of_words p t c s fr sh ls at_hand i ∷ of_jumps p t c s fr sh ls at_hand i ∷ of_moves p t c s fr sh ls at_hand i
-      ∷ of_calls p t wired typed c s fr sh ls at_hand i here
-      ∷ of_entries p t c s fr sh ls at_hand wired typed unused i here
-      ∷ of_leaves p t wired c s fr sh ls at_hand i
-      ∷ of_requests p t (main_of_none p wired) c s fr sh ls at_hand i
-      ∷ of_natives p t (main_of_none p wired) c s fr sh ls at_hand i
-      ∷ of_messages p t c s fr sh ls at_hand i
-      ∷ of_tokens p t (main_of_none p wired) c s fr sh ls at_hand unused i
-      ∷ of_creation p t c s fr sh ls at_hand unused i
-      ∷ of_destruction p t c s fr sh ls at_hand wired typed i
-      ∷ of_cancel p t wired typed c s fr sh ls at_hand i
-      ∷ of_others i back
-      ∷ []
+  abbrev laws : (i : Instr) → instr_at p fr.method fr.place ≡ Some i → ((a : ℕ) → Law p t c s fr sh ls at_hand (Return a)) →
+      List (Option (Law p t c s fr sh ls at_hand i))
+  laws i here back = of_words p t c s fr sh ls at_hand i ∷ of_jumps p t c s fr sh ls at_hand i ∷ of_moves p t c s fr sh ls at_hand i ∷ of_calls p t wired typed
+      c s fr sh ls at_hand i here ∷ of_entries p t c s fr sh ls at_hand wired typed unused i here ∷ of_leaves p t wired c s fr sh ls at_hand i ∷ of_requests p t
+      (main_of_none p wired) c s fr sh ls at_hand i ∷ of_natives p t (main_of_none p wired) c s fr sh ls at_hand i ∷ of_messages p t c s fr sh ls at_hand
+      i ∷ of_tokens p t (main_of_none p wired) c s fr sh ls at_hand unused i ∷ of_creation p t c s fr sh ls at_hand unused i ∷ of_destruction p t c s fr sh ls
+      at_hand wired typed i ∷ of_cancel p t wired typed c s fr sh ls at_hand i ∷ of_others i back ∷ []
 
   -- some file has its law
   some : (i : Instr) (here : instr_at p fr.method fr.place ≡ Some i) (back : (a : ℕ) → Law p t c s fr sh ls at_hand (Return a)) → IsSome (first (laws i here back))
@@ -125,7 +118,8 @@ module _ (p : Image) (t : Typing) (c : Choice) (s : State) where
   abbrev Stacked : List Layer → Type 0
   Stacked ls = (s.tasks ≡ tasks_of ls) × (forms s.items ≡ items_of ls) × Good p t s.cells ls
 
-  of_method : IsWired p → IsTyped p t → named s.cells c.name ≡ None → (fr : Frame) (ts : List Task) → s.tasks ≡ Run fr ∷ ts → WellTyped p t s → Keeps p t (step_task p c s s.tasks)
+  of_method : IsWired p → IsTyped p t → named s.cells c.name ≡ None → (fr : Frame) (ts : List Task) → s.tasks ≡ Run fr ∷ ts → WellTyped p t s →
+      Keeps p t (step_task p c s s.tasks)
   of_method wired typed unused fr ts e w =
       method_layer Stacked fr ts w.layers (sym w.tasks ∙ e) (w.tasks, w.items, w.good) (λ sh ls rest h. subst (λ l. Keeps p t (step_task p c s l))
       (sym h.0) (instruction_keeps p t wired typed c s fr sh ls (record { tasks = h.0; items = h.1; undos = w.undos; good = h.2 }) unused))
@@ -163,11 +157,14 @@ move_keeps p t wired typed c s fr ts w e unused = of_method p t c (counted p s) 
 pub destruction_keeps : (p : Image) (t : Typing) (c : Choice) (s : State) (ts : List Task) → WellTyped p t s → s.tasks ≡ Destroy ∷ ts → Keeps p t (step p c s)
 destruction_keeps p t c s ts w e = of_going p t c (counted p s) ts e (counted_well p t s w)
 
-pub unwinding_keeps : (p : Image) (t : Typing) → IsWired p → IsTyped p t → (c : Choice) (s : State) (code : ℤ) (ts : List Task) → WellTyped p t s → s.tasks ≡ Unwind code ∷ ts → Keeps p t (step p c s)
+pub unwinding_keeps : (p : Image) (t : Typing) → IsWired p → IsTyped p t → (c : Choice) (s : State) (code : ℤ) (ts : List Task) → WellTyped p t s →
+    s.tasks ≡ Unwind code ∷ ts → Keeps p t (step p c s)
 unwinding_keeps p t wired typed c s code ts w e = of_unwinding p t c (counted p s) wired typed code ts e (counted_well p t s w)
 
-pub turn_keeps : (p : Image) (t : Typing) → IsWired p → IsTyped p t → (c : Choice) (s : State) (d : Dispatch) (ts : List Task) → WellTyped p t s → s.tasks ≡ Dispatched d ∷ ts → Keeps p t (step p c s)
+pub turn_keeps : (p : Image) (t : Typing) → IsWired p → IsTyped p t → (c : Choice) (s : State) (d : Dispatch) (ts : List Task) → WellTyped p t s →
+    s.tasks ≡ Dispatched d ∷ ts → Keeps p t (step p c s)
 turn_keeps p t wired typed c s d ts w e = of_dispatch p t c (counted p s) wired typed d ts e (counted_well p t s w)
 
-pub step_keeps : (p : Image) (t : Typing) → IsWired p → IsTyped p t → (c : Choice) (s : State) → WellTyped p t s → named s.cells c.name ≡ None → Keeps p t (step p c s)
+pub step_keeps : (p : Image) (t : Typing) → IsWired p → IsTyped p t → (c : Choice) (s : State) → WellTyped p t s →
+    named s.cells c.name ≡ None → Keeps p t (step p c s)
 step_keeps p t wired typed c s w unused = of_any p t c (counted p s) wired typed unused s.tasks refl (counted_well p t s w)

@@ -72,12 +72,12 @@ pub on_some : (f : Request → Request) (r : Option Request) → is_some r ≡ t
 on_some f r e = grind arith
 
 -- what is enlisted stays so where another request is put in the place of one that there is
-asked_some : (cs : List Cell) (n m : ℕ) (r : Option Request) → ((n == m) ≡ true → is_some r ≡ true) → is_some (requested cs m) ≡ true → is_some (requested (set_request n r cs) m) ≡ true
+asked_some : (cs : List Cell) (n m : ℕ) (r : Option Request) → ((n == m) ≡ true → is_some r ≡ true) → is_some (requested cs m) ≡ true →
+    is_some (requested (set_request n r cs) m) ≡ true
 asked_some cs n m r h some = grind (arith, nat_tests, requested_there cs n m r, some_given, requested_unnamed cs m, eqb-true n m, requested_here cs m r)
 
-pub set_listed :
-    (cs : List Cell) (n : ℕ) (r : Option Request) → (is_some (requested cs n) ≡ true → is_some r ≡ true) → (m : ℕ) → is_some (requested cs m) ≡ true →
-    is_some (requested (set_request n r cs) m) ≡ true
+pub set_listed : (cs : List Cell) (n : ℕ) (r : Option Request) → (is_some (requested cs n) ≡ true → is_some r ≡ true) → (m : ℕ) →
+    is_some (requested cs m) ≡ true → is_some (requested (set_request n r cs) m) ≡ true
 set_listed cs n r h m some = asked_some cs n m r (λ e. h (ap (λ k. is_some (requested cs k)) (eqb-true n m e) ∙ some)) some
 
 pub listed_still : (cs : List Cell) (home : Home) (r : Option Request) →
@@ -140,16 +140,15 @@ resessioned_requests cs _ b n = refl
 -- other cells in the same places, with the same requests
 pub alike_fitted : (p : Image) (t : Typing) (cs cs' : List Cell) →
     Alike cs cs' → ((n : ℕ) → requested cs' n ≡ requested cs n) → (fr : Frame) (sh : Shape) (ls : List Layer) → Fitted p t cs fr sh ls → Fitted p t cs' fr sh ls
-alike_fitted p t cs cs' alike requests fr sh ls g =
-    record {
-      fits = λ r. fits_alike p t cs cs' alike (Method fr sh ∷ ls) r (λ x e fresh. requests x.name) (g.fits r);
-      suits = grind (arith, nat_tests, requests);
-      tidy = alike.tidy g.tidy;
-      frames = g.frames;
-      housed = housed_alike p t cs cs' alike ls fr.home g.housed;
-      apart = g.apart;
-      stack = stack_alike p t cs cs' alike (λ n some. ap is_some (requests n) ∙ some) ls _ g.stack;
-    }
+alike_fitted p t cs cs' alike requests fr sh ls g = record {
+  fits = λ r. fits_alike p t cs cs' alike (Method fr sh ∷ ls) r (λ x e fresh. requests x.name) (g.fits r);
+  suits = grind (arith, nat_tests, requests);
+  tidy = alike.tidy g.tidy;
+  frames = g.frames;
+  housed = housed_alike p t cs cs' alike ls fr.home g.housed;
+  apart = g.apart;
+  stack = stack_alike p t cs cs' alike (λ n some. ap is_some (requests n) ∙ some) ls _ g.stack;
+}
 
 -- a session is open or not
 pub sessioned_fitted : (p : Image) (t : Typing) (cs : List Cell) (home : Home) (b : Bool) (fr : Frame) (sh : Shape) (ls : List Layer) →

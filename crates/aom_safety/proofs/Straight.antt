@@ -68,17 +68,15 @@ pub record Fitted (p : Image) (t : Typing) (cs : List Cell) (fr : Frame) (sh : S
   pub stack : Stack p t cs (Returns fr.method fr.home) ls
 
 -- other words, another place and other registers leave a frame its own
-pub frames_reworded :
-    {p : Image} {ls : List Layer} {fr : Frame} {sh sh' : Shape} {place : ℕ} {words : List (Option ℤ)} {counters : List ℕ} → Frames p ls fr sh →
-    ((i : ℕ) → WordFits (at None words i) (register sh' i)) → Frames p ls (record fr { place = place; words = words; counters = counters }) sh'
+pub frames_reworded : {p : Image} {ls : List Layer} {fr : Frame} {sh sh' : Shape} {place : ℕ} {words : List (Option ℤ)} {counters : List ℕ} → Frames p ls fr
+    sh → ((i : ℕ) → WordFits (at None words i) (register sh' i)) → Frames p ls (record fr { place = place; words = words; counters = counters }) sh'
 frames_reworded g w = record { words = w; holder = g.holder; view = g.view; height = g.height; alone = g.alone; message = g.message }
 
 pub fitted : (p : Image) (t : Typing) (cs : List Cell) (fr : Frame) (sh : Shape) (ls : List Layer) → Good p t cs (Method fr sh ∷ ls) → Fitted p t cs fr sh ls
 fitted p t cs fr sh ls g = record { fits = g.fits; suits = g.suits; tidy = g.tidy; frames = g.stack.1; housed = g.stack.2; apart = g.stack.3; stack = g.stack.4 }
 
 -- the state that the typing has at the next place takes the flow's place
-pub settle :
-    (p : Image) (t : Typing) (cs : List Cell) (fr : Frame) (sh : Shape) (ls : List Layer) → Fitted p t cs fr sh ls → Leads t fr.method fr.place sh →
+pub settle : (p : Image) (t : Typing) (cs : List Cell) (fr : Frame) (sh : Shape) (ls : List Layer) → Fitted p t cs fr sh ls → Leads t fr.method fr.place sh →
     (after : Shape) × Good p t cs (Method fr after ∷ ls) × (after.entries ≡ sh.entries)
 settle p t cs fr sh ls g leads =
     let w = leads.2 in (
@@ -123,9 +121,8 @@ message_too : (p : Image) (fr fr' : Frame) (ls : List Layer) → fr'.method ≡ 
 message_too p fr fr' ls em message = (λ e. message.0 (ap (λ m. serves p m) (sym em) ∙ e), λ served. ap (λ m. serves p m) em ∙ message.1 served)
 
 -- the home, the method and the states alone count for requests
-pub same_suits :
-    (p : Image) (cs : List Cell) (fr fr' : Frame) (sh sh' : Shape) (ls : List Layer) → fr'.home ≡ fr.home → fr'.method ≡ fr.method → sh'.states ≡ sh.states →
-    AllSuit p cs (Method fr sh ∷ ls) → AllSuit p cs (Method fr' sh' ∷ ls)
+pub same_suits : (p : Image) (cs : List Cell) (fr fr' : Frame) (sh sh' : Shape) (ls : List Layer) → fr'.home ≡ fr.home → fr'.method ≡ fr.method →
+    sh'.states ≡ sh.states → AllSuit p cs (Method fr sh ∷ ls) → AllSuit p cs (Method fr' sh' ∷ ls)
 same_suits p cs fr fr' sh sh' ls eh em es s o lives = grind (arith, nat_tests)
 
 -- the same method of the same object, with other words
@@ -165,8 +162,8 @@ pub relocate : (p : Image) (t : Typing) (cs : List Cell) (fr fr' : Frame) (sh sh
 relocate p t cs fr fr' sh sh' ls a b g eh em eg es free oa ob nf fresh claims words =
     let cs' = moved a b cs in
     let d = declared p cs in
-    let fits : (r : Place) → Fits p (seen cs') (held cs' r) (claim p d (Method fr sh' ∷ ls) r) =
-    keep_fits p (seen cs) (seen cs') (claim p d (Method fr sh ∷ ls)) (claim p d (Method fr sh' ∷ ls)) a b (λ r. held_moved cs a b r free) (requested_moved cs a b) claims fresh g.fits in
+    let fits : (r : Place) → Fits p (seen cs') (held cs' r) (claim p d (Method fr sh' ∷ ls) r) = keep_fits p (seen cs) (seen cs')
+    (claim p d (Method fr sh ∷ ls)) (claim p d (Method fr sh' ∷ ls)) a b (λ r. held_moved cs a b r free) (requested_moved cs a b) claims fresh g.fits in
     record {
       fits = λ r. subst (λ k. Fits p (seen cs') (held cs' r) k)
           (ap (λ e. claim p e (Method fr sh' ∷ ls) r) (sym (declared_moved p cs a b)) ∙ sym (claim_frame p (declared p cs') fr fr' sh' ls r eh em)) (fits r);
@@ -180,12 +177,9 @@ relocate p t cs fr fr' sh sh' ls a b g eh em eg es free oa ob nf fresh claims wo
 
 -- one place is claimed anew
 pub relabel : (p : Image) (t : Typing) (cs : List Cell) (fr fr' : Frame) (sh sh' : Shape) (ls : List Layer) (a : Place) (v : Kind) →
-    Fitted p t cs fr sh ls →
-    fr'.home ≡ fr.home → fr'.method ≡ fr.method → began fr' ≡ began fr → sh'.states ≡ sh.states →
-    Fits p (seen cs) (held cs a) v →
+    Fitted p t cs fr sh ls → fr'.home ≡ fr.home → fr'.method ≡ fr.method → began fr' ≡ began fr → sh'.states ≡ sh.states → Fits p (seen cs) (held cs a) v →
     ((r : Place) → claim p (declared p cs) (Method fr sh' ∷ ls) r ≡ changed (claim p (declared p cs) (Method fr sh ∷ ls)) a v r) →
-    ((i : ℕ) → WordFits (word fr' i) (register sh' i)) →
-    Fitted p t cs fr' sh' ls
+    ((i : ℕ) → WordFits (word fr' i) (register sh' i)) → Fitted p t cs fr' sh' ls
 relabel p t cs fr fr' sh sh' ls a v g eh em eg es new claims words =
     same_cells p t cs fr fr' sh sh' ls g eh em eg es (λ r. subst (λ k. Fits p (seen cs) (held cs r) k) (sym (claims r)) (go r (same_place a r) refl)) words
   where
@@ -193,13 +187,13 @@ relabel p t cs fr fr' sh sh' ls a v g eh em eg es new claims words =
     go r true e = subst (λ q. Fits p (seen cs) (held cs q) v) (same_place-true a r e) new
     go r false e = g.fits r
 
-pub claim_register : (p : Image) (d : Place → Kind) (fr : Frame) (sh : Shape) (ls : List Layer) (i : ℕ) → claim p d (Method fr sh ∷ ls) (Register (length (tasks_of ls)) i) ≡ register sh i
+pub claim_register : (p : Image) (d : Place → Kind) (fr : Frame) (sh : Shape) (ls : List Layer) (i : ℕ) →
+    claim p d (Method fr sh ∷ ls) (Register (length (tasks_of ls)) i) ≡ register sh i
 claim_register p d fr sh ls i = ap (λ b. cond b (register sh i) (claim p d ls (Register (length (tasks_of ls)) i))) (eq-eqb (length (tasks_of ls)) _ refl)
 
 -- a register is written
-pub words_set :
-    (words : List (Option ℤ)) (sh : Shape) (a : ℕ) (w : Option ℤ) (k : Kind) → ((i : ℕ) → WordFits (at None words i) (register sh i)) → WordFits w k → (i : ℕ) →
-    WordFits (at None (put_at None words a w) i) (register (set_register sh a k) i)
+pub words_set : (words : List (Option ℤ)) (sh : Shape) (a : ℕ) (w : Option ℤ) (k : Kind) → ((i : ℕ) → WordFits (at None words i) (register sh i)) →
+    WordFits w k → (i : ℕ) → WordFits (at None (put_at None words a w) i) (register (set_register sh a k) i)
 words_set words sh a w k h g i = grind (arith, nat_tests, at-put_at None words a i w, at-put_at Unset sh.registers a i k)
 
 -- a register that owns nothing is as it was where the one before it is written
@@ -207,8 +201,7 @@ pub next_unowning : (ks : List Kind) (c : ℕ) (k : Kind) → is_unowning (at Un
 next_unowning ks c k u = grind (arith, nat_tests, at-put_at Unset ks c, ne_eqb c)
 
 -- a register without a word becomes null
-pub words_null :
-    (words : List (Option ℤ)) (sh : Shape) (a : ℕ) → ((i : ℕ) → WordFits (at None words i) (register sh i)) → at None words a ≡ None → (i : ℕ) →
+pub words_null : (words : List (Option ℤ)) (sh : Shape) (a : ℕ) → ((i : ℕ) → WordFits (at None words i) (register sh i)) → at None words a ≡ None → (i : ℕ) →
     WordFits (at None words i) (register (set_register sh a Null) i)
 words_null words sh a h e i = grind (arith, nat_tests, at-put_at Unset sh.registers a i Null, eqb-true a i)
 
@@ -238,13 +231,12 @@ stepped p t cs fr sh ls g = record {
 }
 
 -- a register that owns nothing is written
-pub write : (p : Image) (t : Typing) (cs : List Cell) (fr : Frame) (sh : Shape) (ls : List Layer) (a : ℕ) (w : Option ℤ) (k : Kind) →
-    Fitted p t cs fr sh ls → is_unowning (register sh a) ≡ true → ((h : Sight) → Fits p h None k) → WordFits w k →
-    Fitted p t cs (set_word fr a w) (set_register sh a k) ls
+pub write : (p : Image) (t : Typing) (cs : List Cell) (fr : Frame) (sh : Shape) (ls : List Layer) (a : ℕ) (w : Option ℤ) (k : Kind) → Fitted p t cs fr sh ls →
+    is_unowning (register sh a) ≡ true → ((h : Sight) → Fits p h None k) → WordFits w k → Fitted p t cs (set_word fr a w) (set_register sh a k) ls
 write p t cs fr sh ls a w k g u new word =
     let free = fits_unowning p (seen cs) _ (register sh a) u (register_fits p cs fr sh ls g.fits a) in
-    relabel p t cs fr (set_word fr a w) sh (set_register sh a k) ls (top ls a) k g refl refl refl refl
-    (subst (λ o. Fits p (seen cs) o k) (sym free) (new (seen cs))) (λ r. claim-set_register p (declared p cs) fr sh ls a k r) (words_set fr.words sh a w k g.frames.words word)
+    relabel p t cs fr (set_word fr a w) sh (set_register sh a k) ls (top ls a) k g refl refl refl refl (subst (λ o. Fits p (seen cs) o k) (sym free)
+    (new (seen cs))) (λ r. claim-set_register p (declared p cs) fr sh ls a k r) (words_set fr.words sh a w k g.frames.words word)
 
 -- a field of what the frame works on
 pub claim_field : (p : Image) (d : Place → Kind) (fr : Frame) (sh : Shape) (ls : List Layer) (home : Home) (f : ℕ) → fr.home ≡ home →
@@ -264,9 +256,8 @@ module _ (p : Image) (t : Typing) (c : Choice) (s : State) (fr : Frame) (sh : Sh
       AllLead t fr.method (flows p fr.method fr.place sh i) → AllTrue (needs p c fr (tasks_of ls) s i) × WellTyped p t (does p c fr (tasks_of ls) s i)
 
   -- a well-typed state from its parts
-  pub well :
-      (s' : State) (fr' : Frame) (sh' : Shape) → s'.tasks ≡ Run fr' ∷ tasks_of ls → forms s'.items ≡ objects sh'.entries (items_of ls) → AllUndo p s'.items →
-      (after : Shape) × Good p t s'.cells (Method fr' after ∷ ls) × (after.entries ≡ sh'.entries) → WellTyped p t s'
+  pub well : (s' : State) (fr' : Frame) (sh' : Shape) → s'.tasks ≡ Run fr' ∷ tasks_of ls → forms s'.items ≡ objects sh'.entries (items_of ls) →
+      AllUndo p s'.items → (after : Shape) × Good p t s'.cells (Method fr' after ∷ ls) × (after.entries ≡ sh'.entries) → WellTyped p t s'
   well s' fr' sh' tasks items undos g = record {
     layers = Method fr' g.0 ∷ ls;
     tasks = tasks;
@@ -298,7 +289,8 @@ module _ (p : Image) (t : Typing) (c : Choice) (s : State) (fr : Frame) (sh : Sh
   declared_object x k e = grind arith
 
   -- a thing may be taken for one of what is declared
-  pub refills : (h : Sight) (x : Option Thing) (o : Option Object) (k : Kind) → may_be_declared p x k ≡ true → is_ready_kind k ≡ true → Fits p h o k → Fits p h o (filled x (filling_of k))
+  pub refills : (h : Sight) (x : Option Thing) (o : Option Object) (k : Kind) → may_be_declared p x k ≡ true → is_ready_kind k ≡ true → Fits p h o k →
+      Fits p h o (filled x (filling_of k))
   refills h x o k e r f = grind (arith, nat_tests, stands_along)
 
   pub filled_word : (x : Option Thing) (k : Kind) → may_be_declared p x k ≡ true → WordFits None (filled x (filling_of k))

@@ -29,7 +29,8 @@ pub suits_less : (k : Option ClassKind) (a b : ℕ) (c : Bool) (r : Option Reque
 suits_less x a b' c r h s = grind (arith, nat_tests, has_along a b')
 
 -- what is not issued, nor being cancelled, may rest
-pub suits_rests : (k : Option ClassKind) (states : ℕ) (r : Option Request) → unissued states ≡ true → Suits k (resting_in states) r → Suits k (resting_in (states_of k)) r
+pub suits_rests : (k : Option ClassKind) (states : ℕ) (r : Option Request) → unissued states ≡ true → Suits k (resting_in states) r →
+    Suits k (resting_in (states_of k)) r
 unfolding states_of
 suits_rests x states r u s = grind arith
 
@@ -70,9 +71,8 @@ pub same_object : (cs : List Cell) (o x : Object) → named cs o.name ≡ Some o
 same_object cs o x a b e = let same : Some o ≡ Some x = sym a ∙ ap (λ n. named cs n) (eqb-true o.name x.name e) ∙ b in cc
 
 -- what rests suits where no layer works on it
-pub rests_there :
-    (p : Image) (o : Object) (ls : List Layer) (r : Option Request) → Unworked o.name ls → Suits (thing_kind p o.thing) (resting_in (rests_in p o)) r →
-    Suits (thing_kind p o.thing) (states_claim p o ls) r
+pub rests_there : (p : Image) (o : Object) (ls : List Layer) (r : Option Request) → Unworked o.name ls →
+    Suits (thing_kind p o.thing) (resting_in (rests_in p o)) r → Suits (thing_kind p o.thing) (states_claim p o ls) r
 rests_there p o ls r u s = subst (λ k. Suits (thing_kind p o.thing) k r) (sym (unworked_rests p o ls u)) s
 
 -- a method that does not cancel leaves what is known below it
@@ -81,8 +81,7 @@ pub known_plain : (p : Image) (fr : Frame) (states : ℕ) (below : Known) →
 known_plain p fr states below e = ap (λ (b : Bool). record { states = states; cancelled = b || below.cancelled }) e
 
 -- nor is an object being cancelled on which none works below it
-pub known_resting :
-    (p : Image) (o : Object) (fr : Frame) (states : ℕ) (ls : List Layer) → is_cancel (method_role p fr.method) ≡ false → Unworked o.name ls →
+pub known_resting : (p : Image) (o : Object) (fr : Frame) (states : ℕ) (ls : List Layer) → is_cancel (method_role p fr.method) ≡ false → Unworked o.name ls →
     known_at p fr states (states_claim p o ls) ≡ resting_in states
 known_resting p o fr states ls e u = search (arith, nat_tests, known_plain p fr states, unworked_rests p o ls u)
 
@@ -100,7 +99,8 @@ completed (Some (A_server m x)) n r h s = go r s.1 (has_along cancel_done n.stat
 completed _ n r h s = ap (λ r. int_eq (status_of r) pending) s
 
 -- and leaves its object idle
-pub cancel_ends : (k : Option ClassKind) (n : Known) (r : Option Request) → IsTrue (has cancel_done n.states) → Suits k n r → Suits k (resting_in idle) (on_request cancelled r)
+pub cancel_ends : (k : Option ClassKind) (n : Known) (r : Option Request) → IsTrue (has cancel_done n.states) → Suits k n r →
+    Suits k (resting_in idle) (on_request cancelled r)
 cancel_ends (Some (An_active v)) n r h s = go r (has_along cancel_done n.states (state_of r) h s.0) s.2 s.3 s.4
   where
     go : (r : Option Request) → IsTrue (has cancel_done (state_of r)) →
@@ -113,9 +113,8 @@ cancel_ends (Some (A_server m x)) n r h s = go r (has_along cancel_done n.states
 cancel_ends _ n r h s = ap (λ r. on_request cancelled r) s
 
 -- the object that a method worked on, by what stands below it; one that cancelled has left it idle
-pub rejoins_caller :
-    (p : Image) (o : Object) (fr : Frame) (sh : Shape) (states : ℕ) (ls : List Layer) (ends : ℕ) (r : Option Request) → Joins p o (Method fr sh ∷ ls) →
-    (works_at o.name fr.home ≡ true → IsTrue (has sh.states ends)) → IsTrue (has ends states) → unissued states ≡ true →
+pub rejoins_caller : (p : Image) (o : Object) (fr : Frame) (sh : Shape) (states : ℕ) (ls : List Layer) (ends : ℕ) (r : Option Request) →
+    Joins p o (Method fr sh ∷ ls) → (works_at o.name fr.home ≡ true → IsTrue (has sh.states ends)) → IsTrue (has ends states) → unissued states ≡ true →
     Suits (thing_kind p o.thing) (record { states = states; cancelled = (states_claim p o (Method fr sh ∷ ls)).cancelled }) r →
     Suits (thing_kind p o.thing) (states_claim p o (Method fr sh ∷ ls)) r
 rejoins_caller p o fr sh states ls ends r x well within u s = grind (arith, nat_tests, suits_less, has_along, rests_there, suits_rests, unworked_rests)

@@ -61,7 +61,8 @@ module _ (p : Image) (fr : Frame) (ts : List Task) (s : State) (tidy : Tidy s.ce
   apart_replied a code =
       let order = token_of s.cells (held s.cells (here fr ts s a)) in
       let cs = redeemed_by order code s.cells in
-      apart_still cs (without (here fr ts s a) cs) (comes_without cs ((redeemed_by_alike order code s.cells).tidy tidy) (here fr ts s a)) (redeemed_by_apart order code s.cells apart)
+      apart_still cs (without (here fr ts s a) cs) (comes_without cs ((redeemed_by_alike order code s.cells).tidy tidy) (here fr ts s a))
+      (redeemed_by_apart order code s.cells apart)
 
 -- ---- an effect
 
@@ -132,7 +133,8 @@ comes_dispatched p (Of_server x client (Service_left code)) s tidy = comes_witho
 comes_dispatched p (Of_server x client Parts) s tidy = comes_served s.cells x.object.name (parted client (service_of s.cells x.object.name)) refl
 comes_dispatched p _ s tidy = comes_itself s.cells
 
-pub moved_apart : (p : Image) (c : Choice) (s u : State) → named s.cells c.name ≡ None → Tidy s.cells → TokensApart s.cells → step p c s ≡ Goes u → TokensApart u.cells
+pub moved_apart : (p : Image) (c : Choice) (s u : State) → named s.cells c.name ≡ None → Tidy s.cells → TokensApart s.cells →
+    step p c s ≡ Goes u → TokensApart u.cells
 moved_apart p c s u free tidy apart e = of (steps_are_moves p c s u e)
   where
     v : State
@@ -158,7 +160,8 @@ moved_apart p c s u free tidy apart e = of (steps_are_moves p c s u e)
 
 -- ---- turns
 
-comes_completed : (cs : List Cell) (o : Object) (f : Request → Request) → ((r : Request) (k : ℕ) → (f r).token ≡ Some k → r.token ≡ Some k) → NoneComes cs (with_request f o cs)
+comes_completed : (cs : List Cell) (o : Object) (f : Request → Request) → ((r : Request) (k : ℕ) → (f r).token ≡ Some k → r.token ≡ Some k) →
+    NoneComes cs (with_request f o cs)
 comes_completed cs o f fewer = comes_asked cs o.name (on_request f (requested cs o.name)) (fewer_on f fewer (requested cs o.name))
 
 module _ (p : Image) (client : ℕ) (s : State) (tidy : Tidy s.cells) where
@@ -201,7 +204,8 @@ comes_turned p outside heard s u tidy e = elim (turns_so p outside heard s u e) 
   ]
 ]
 
-pub turned_apart : (p : Image) (outside : Environment) (heard : Heard) (s u : State) → Tidy s.cells → TokensApart s.cells → turn p outside heard s ≡ Goes u → TokensApart u.cells
+pub turned_apart : (p : Image) (outside : Environment) (heard : Heard) (s u : State) → Tidy s.cells → TokensApart s.cells →
+    turn p outside heard s ≡ Goes u → TokensApart u.cells
 turned_apart p outside heard s u tidy apart e = apart_still s.cells u.cells (comes_turned p outside heard s u tidy e) apart
 
 -- ---- as it boots

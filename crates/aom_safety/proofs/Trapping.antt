@@ -159,9 +159,11 @@ begins_there p o height below ts e = go (is_server p o.thing)
     go false = destructs_there p o height below ts e
 
 -- a server that goes has a session go first, or its destructor begins
-empties_there : (p : Image) (o : Object) (x : Option Seat) (below ts : List Task) (s : State) → Ends below ts → Ends below (parting p o x ts s).tasks × Near s.items (parting p o x ts s).items
+empties_there : (p : Image) (o : Object) (x : Option Seat) (below ts : List Task) (s : State) → Ends below ts →
+    Ends below (parting p o x ts s).tasks × Near s.items (parting p o x ts s).items
 empties_there p o None below ts s e = (destructs_there p o (length s.items) below ts e, inl refl)
-empties_there p o (Some x) below ts s e = (begins_there p x.object (length s.items) below (Closing ∷ Destroy ∷ ts) (with_task below (Destroy ∷ ts) Closing (with_task below ts Destroy e)), inl refl)
+empties_there p o (Some x) below ts s e =
+    (begins_there p x.object (length s.items) below (Closing ∷ Destroy ∷ ts) (with_task below (Destroy ∷ ts) Closing (with_task below ts Destroy e)), inl refl)
 
 -- a method returns
 module _ (p : Image) (c : Choice) (fr : Frame) (ts : List Task) (s : State) (at_hand : s.tasks ≡ Run fr ∷ ts) (below : List Task) (e : Ends below ts) where
@@ -169,7 +171,8 @@ module _ (p : Image) (c : Choice) (fr : Frame) (ts : List Task) (s : State) (at_
   given = inl (subst (λ l. Ends below l) (sym at_hand) (with_task below ts (Run fr) e), inl refl)
 
   -- the word 0 is told
-  through_trap : (g : Gives) (a : ℕ) (under : List Task) → ts ≡ Trapped ∷ under → (under ≡ below) ⊎ Ends below under → Moved p below s (returned p fr ts s g a (Trapped ∷ under))
+  through_trap : (g : Gives) (a : ℕ) (under : List Task) → ts ≡ Trapped ∷ under → (under ≡ below) ⊎ Ends below under →
+      Moved p below s (returned p fr ts s g a (Trapped ∷ under))
   through_trap g a (Run caller ∷ under) at (inl same) = grind (arith, nat_tests, own_word)
   through_trap g a (Run caller ∷ under) at (inr o) = inl (with_task below under _ (under_frame below under caller o), near_top s.items)
   through_trap g a (Dispatched d ∷ under) at (inl same) = grind (arith, nat_tests)
@@ -193,7 +196,8 @@ module _ (p : Image) (c : Choice) (s : State) (below : List Task) where
   acts fr ts i (Goes_on ch) at o = inl (with_task below ts _ o, near ch.update s.items)
   acts fr ts i (Calls target m first) at o = inl (with_task below (Run fr ∷ ts) _ (with_task below ts (Run fr) o), inl refl)
   acts fr ts i (Cancels m) at o = inl (with_task below (Run fr ∷ ts) _ (with_task below ts (Run fr) o), inl refl)
-  acts fr ts i (Sets_trap target m first) at o = inl (with_task below (Trapped ∷ Run fr ∷ ts) _ (with_task below (Run fr ∷ ts) Trapped (with_task below ts (Run fr) o)), inr (inl (A_mark, refl)))
+  acts fr ts i (Sets_trap target m first) at o =
+      inl (with_task below (Trapped ∷ Run fr ∷ ts) _ (with_task below (Run fr ∷ ts) Trapped (with_task below ts (Run fr) o)), inr (inl (A_mark, refl)))
   acts fr ts i (Returns g a) at o = return_there p c fr ts (record (counted p s) { cells = ended_cells p fr s.cells }) at below o g a ts refl o
   acts fr ts i (Leaves code u) at o = inl (with_task below (to_trap ts) (Unwind code) (lands below ts o), near u s.items)
   acts fr ts i (Destroys x a words) at o = inl (begins_there p x (length s.items) below (Run (with_words fr words) ∷ ts) (with_task below ts _ o), inl refl)
@@ -202,12 +206,13 @@ module _ (p : Image) (c : Choice) (s : State) (below : List Task) where
   acts fr ts i _ at o = inl (with_task below ts _ o, inl refl)
 
   -- the code arrives at the trap, or at another over it
-  arrives : (code : ℤ) (fr : Frame) (ts : List Task) (items : List Item) → s.tasks ≡ Unwind code ∷ Trapped ∷ Run fr ∷ ts → s.items ≡ A_mark ∷ items → (Run fr ∷ ts ≡ below) ⊎ Ends below (Run fr ∷ ts) →
-      let i = instr_at p fr.method fr.place in Moved p below s (record (counted p s) { tasks = Run (next (code_told (called p i) (result_register i) code fr)) ∷ ts; items = items })
+  arrives : (code : ℤ) (fr : Frame) (ts : List Task) (items : List Item) → s.tasks ≡ Unwind code ∷ Trapped ∷ Run fr ∷ ts → s.items ≡ A_mark ∷ items →
+      (Run fr ∷ ts ≡ below) ⊎ Ends below (Run fr ∷ ts) →
+      let i = instr_at p fr.method fr.place in
+      Moved p below s (record (counted p s) { tasks = Run (next (code_told (called p i) (result_register i) code fr)) ∷ ts; items = items })
   arrives code fr ts items at top x = grind (arith, nat_tests, told_frame, with_task below ts, under_frame below ts fr)
 
-  comes_out :
-      (code : ℤ) (d : Dispatch) (ts : List Task) (items : List Item) → s.tasks ≡ Unwind code ∷ Trapped ∷ Dispatched d ∷ ts → s.items ≡ A_mark ∷ items →
+  comes_out : (code : ℤ) (d : Dispatch) (ts : List Task) (items : List Item) → s.tasks ≡ Unwind code ∷ Trapped ∷ Dispatched d ∷ ts → s.items ≡ A_mark ∷ items →
       (Dispatched d ∷ ts ≡ below) ⊎ Ends below (Dispatched d ∷ ts) →
       Moved p below s (record (counted p s) { tasks = Dispatched (ended_by code d) ∷ ts; items = items })
   comes_out code d ts items at top x = grind (arith, nat_tests, with_task below ts, under_dispatch below ts d)
@@ -221,15 +226,15 @@ module _ (p : Image) (c : Choice) (s : State) (below : List Task) where
   moved t u w o (Clears code ts items x at top there same) =
       subst (λ v. Moved p below s v) (sym same) (inl (grind (arith, nat_tests, begins_there), inr (inr (An_object, top))))
   moved t u w o (Undoes code ts items m x at top same) = rw same (inl (with_task below (Unwind code ∷ ts) _ (rw at at o), inr (inr (An_operation m x, top))))
-  moved t u w o (Arrives code fr ts items at top same) =
-      rw same (arrives code fr ts items at top (under_trap below _ (under_leave below _ code (rw at at o))))
+  moved t u w o (Arrives code fr ts items at top same) = rw same (arrives code fr ts items at top (under_trap below _ (under_leave below _ code (rw at at o))))
   moved t u w o (Comes_out code d ts items at top same) =
       rw same (comes_out code d ts items at top (under_trap below _ (under_leave below _ code (rw at at o))))
   moved t u w o (A_dispatch_ends d ts at same) = grind (arith, nat_tests, none_below below, nothing_under p t s d ts w at, under_dispatch below ts d)
 
 -- ---- so the mark of the trap and what lies below it stay
 
-module _ (p : Image) (t : Typing) (s u : State) (before : WellTyped p t s) (after : WellTyped p t u) (below : List Task) (items : List Item) (h : IsTrapping below items s) where
+module _ (p : Image) (t : Typing) (s u : State) (before : WellTyped p t s) (after : WellTyped p t u) (below : List Task) (items : List Item)
+    (h : IsTrapping below items s) where
   -- the marks below are those of the traps below
   lower : marks items ≡ traps below
   lower = grind (arith, nat_tests, all_matched p t s before, marks_join h.entries (A_mark ∷ items), traps_join h.over (Trapped ∷ below))
@@ -277,7 +282,8 @@ keeps_trap : (p : Image) (t : Typing) → IsWired p → IsTyped p t → (c : Cho
 keeps_trap p t wired typed c s u w unused below items h e =
     by_moved p t s u w (grind (arith, nat_tests, step_keeps)) below items h (moved p c s below t u w (h.over, h.tasks) (steps_are_moves p c s u e))
 
-module _ (p : Image) (t : Typing) (outside : Environment) (wired : IsWired p) (typed : IsTyped p t) (from : State) (well : WellKept p t from) (below : List Task) (items : List Item) where
+module _ (p : Image) (t : Typing) (outside : Environment) (wired : IsWired p) (typed : IsTyped p t) (from : State) (well : WellKept p t from)
+    (below : List Task) (items : List Item) where
   abbrev Lasts : State → Type 0
   Lasts s = IsTrapping below items s ⊎ WasPast p outside below items from s
 
@@ -285,12 +291,14 @@ module _ (p : Image) (t : Typing) (outside : Environment) (wired : IsWired p) (t
   past_on : (s u : State) (h : WasPast p outside below items from s) (lines : List Line) → Reaches p outside h.after lines u → WasPast p outside below items from u
   past_on s u h lines reaches = search (arith, nat_tests)
 
-  moved_on : (lines : List Line) (s u : State) (c : Choice) → WellTyped p t s → Reaches p outside from lines s → IsBusy s → IsOpen p outside.refused c s → step p c s ≡ Goes u → Lasts s → Lasts u
+  moved_on : (lines : List Line) (s u : State) (c : Choice) → WellTyped p t s → Reaches p outside from lines s → IsBusy s → IsOpen p outside.refused c s →
+      step p c s ≡ Goes u → Lasts s → Lasts u
   moved_on lines s u c w before busy choice e (inl h) = go (keeps_trap p t wired typed c s u w choice.name below items h e)
     where
       go : IsTrapping below items u ⊎ IsPast p below items s u → Lasts u
       go (inl on) = inl on
-      go (inr off) = inr (record { earlier = lines; last = s; until = before; trapping = h; choice = c; after = u; move = e; past = off; lines = []; reaches = begins })
+      go (inr off) =
+          inr (record { earlier = lines; last = s; until = before; trapping = h; choice = c; after = u; move = e; past = off; lines = []; reaches = begins })
   moved_on lines s u c w before busy choice e (inr h) = inr (past_on s u h _ (moves c h.reaches busy choice e))
 
   turned : (heard : Heard) (s u : State) → IsBetween s → HearsWell p outside heard s → turn p outside heard s ≡ Goes u → Lasts s → Lasts u

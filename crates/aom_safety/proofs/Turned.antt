@@ -20,13 +20,12 @@ use Rattle.aom_semantics.specs.Destruction.{begun}
 use Rattle.aom_transcript.specs.declared.event.ClientCommand.{ClientCommand}
 
 abbrev pub picked : ℕ → Seat → State → State
-picked m x s =
-    record s {
-      cells = with_request taken_up x.object s.cells;
-      tasks = run_tasks m x (length (A_mark ∷ s.items));
-      items = A_mark ∷ s.items;
-      rest = record s.rest { steps = 0; polled = 0 };
-    }
+picked m x s = record s {
+  cells = with_request taken_up x.object s.cells;
+  tasks = run_tasks m x (length (A_mark ∷ s.items));
+  items = A_mark ∷ s.items;
+  rest = record s.rest { steps = 0; polled = 0 };
+}
 
 -- what the dispatch of an object or a server begins with
 pub data Picked (p : Image) (s : State) (x : Seat) : State → Type 0 where
@@ -34,23 +33,24 @@ pub data Picked (p : Image) (s : State) (x : Seat) : State → Type 0 where
   accepts : (client m : ℕ) → part_of p Accepts_role x.object.thing ≡ Some m →
       Picked p s x (serving x client Accepts (frame_of m (Inside x.object x.place) (length (A_mark ∷ s.items))) (taken_from x.object.name s))
   attends : (client message m : ℕ) (o : Object) → held s.cells (Elsewhere (Session x.object.name client)) ≡ Some o → part_of p Attends o.thing ≡ Some m →
-      Picked p s x (serving x client (Serves o)
-      (record (frame_of m (Inside o (Elsewhere (Session x.object.name client))) (length (A_mark ∷ s.items))) { words = message_words (taken_from x.object.name s).cells message })
+      Picked p s x (serving x client (Serves o) (record (frame_of m (Inside o (Elsewhere (Session x.object.name client))) (length (A_mark ∷ s.items)))
+      { words = message_words (taken_from x.object.name s).cells message })
       (record (taken_from x.object.name s) { cells = moved (Elsewhere (Queued x.object.name message)) (Elsewhere In_service) (taken_from x.object.name s).cells }))
-  parts : (client : ℕ) (o : Object) → held s.cells (Elsewhere (Session x.object.name client)) ≡ Some o →
-      Picked p s x (record (taken_from x.object.name s) {
-        cells = moved (Elsewhere (Session x.object.name client)) (Going 1) (taken_from x.object.name s).cells;
-        tasks = begun p o (length s.items) (Dispatched (Of_server x client Parts) ∷ []);
-      })
+  parts : (client : ℕ) (o : Object) → held s.cells (Elsewhere (Session x.object.name client)) ≡ Some o → Picked p s x (record (taken_from x.object.name s) {
+    cells = moved (Elsewhere (Session x.object.name client)) (Going 1) (taken_from x.object.name s).cells;
+    tasks = begun p o (length s.items) (Dispatched (Of_server x client Parts) ∷ []);
+  })
 
 pub data Turned (p : Image) (s : State) : State → Type 0 where
   keeps_all : (r : Counters) → Turned p s (record s { rest = r })
-  completes : (code : ℤ) (o : Object) (r : Counters) → int_eq code pending ≡ false → Turned p s (record s { cells = with_request (completed_with code) o s.cells; rest = r })
+  completes : (code : ℤ) (o : Object) (r : Counters) → int_eq code pending ≡ false →
+      Turned p s (record s { cells = with_request (completed_with code) o s.cells; rest = r })
   kills : (n : ℕ) (r : Counters) (killed : List ℕ) → Turned p s (record s { cells = all_bereaved p n s.cells; rest = r; killed = killed })
   obeys : (client : ℕ) (command : ClientCommand) (name : ℕ) → Turned p s (commanded p client (heard_one s) command name)
   picks : (x : Seat) (u : State) → Picked p s x u → Turned p s u
 
-pub dispatched_so : (p : Image) (s u : State) (x : Seat) → dispatched (part_of p Handles x.object.thing) x s ≡ Goes u → (m : ℕ) × (part_of p Handles x.object.thing ≡ Some m) × (u ≡ picked m x s)
+pub dispatched_so : (p : Image) (s u : State) (x : Seat) → dispatched (part_of p Handles x.object.thing) x s ≡ Goes u →
+    (m : ℕ) × (part_of p Handles x.object.thing ≡ Some m) × (u ≡ picked m x s)
 dispatched_so p s u x e = grind (arith, nat_tests)
 
 -- the first of a server's queue is served

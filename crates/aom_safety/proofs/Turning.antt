@@ -88,7 +88,8 @@ module _ (c : Cell) (cs : List Cell) (y : Candidate) (tidy : Tidy (c ∷ cs)) (r
     ready = ap (λ b. is_ready r || has_more (cond b c.service (service_of cs c.object.name)).queue) (eq-eqb c.object.name c.object.name refl) ∙ ready;
   }
 
-  first : (r : Request) → c.request ≡ Some r → (others : Option Candidate) → first_ready cs ≡ others → goes_now c r ≡ true → Some (before_others (me r) others) ≡ Some y → Found (c ∷ cs) y
+  first : (r : Request) → c.request ≡ Some r → (others : Option Candidate) → first_ready cs ≡ others → goes_now c r ≡ true →
+      Some (before_others (me r) others) ≡ Some y → Found (c ∷ cs) y
   first r here None same ready e = let equal : me r ≡ y = cc in subst (λ z. Found (c ∷ cs) z) equal (found_here r here ready)
   first r here (Some b) same ready e = go (goes_before b.request r) e
     where
@@ -96,7 +97,8 @@ module _ (c : Cell) (cs : List Cell) (y : Candidate) (tidy : Tidy (c ∷ cs)) (r
       go true e = among (Some b) same e
       go false e = let equal : me r ≡ y = cc in subst (λ z. Found (c ∷ cs) z) equal (found_here r here ready)
 
-  of_ready : (r : Request) → c.request ≡ Some r → (b : Bool) → goes_now c r ≡ b → cond b (Some (before_others (me r) (first_ready cs))) (first_ready cs) ≡ Some y → Found (c ∷ cs) y
+  of_ready : (r : Request) → c.request ≡ Some r → (b : Bool) → goes_now c r ≡ b →
+      cond b (Some (before_others (me r) (first_ready cs))) (first_ready cs) ≡ Some y → Found (c ∷ cs) y
   of_ready r here x ready e = grind (arith, nat_tests, first, ready, among)
 
   of_request : (r : Option Request) → c.request ≡ r → among_ready c r (first_ready cs) ≡ Some y → Found (c ∷ cs) y
@@ -160,7 +162,8 @@ module _ (p : Image) (t : Typing) (s : State) (w : WellTyped p t s) (idle_now : 
     fits_then : (r : Place) → Fits p (seen then) (held then r) (declared p then r)
     fits_then r = fits_alike p t s.cells then alike [] r (λ y e fresh. absurd (true≢false (sym (declared_ready p s.cells r) ∙ fresh))) (good.fits r)
 
-    others_then : (y : Object) → named then y.name ≡ Some y → (o.name == y.name) ≡ false → Suits (thing_kind p y.thing) (resting_in (rests_in p y)) (requested then y.name)
+    others_then : (y : Object) → named then y.name ≡ Some y → (o.name == y.name) ≡ false →
+        Suits (thing_kind p y.thing) (resting_in (rests_in p y)) (requested then y.name)
     others_then y lives other =
         rw (requested_there s.cells o.name y.name (on_request f (requested s.cells o.name)) other) (good.suits y (sym (alike.named_so y.name) ∙ lives))
 
@@ -172,7 +175,8 @@ module _ (p : Image) (t : Typing) (s : State) (w : WellTyped p t s) (idle_now : 
         was : named s.cells y.name ≡ Some y
         was = sym ((alike (completed_with code) o).named_so y.name) ∙ lives
 
-        go : (b : Bool) → (o.name == y.name) ≡ b → Suits (thing_kind p y.thing) (resting_in (rests_in p y)) (requested (with_request (completed_with code) o s.cells) y.name)
+        go : (b : Bool) → (o.name == y.name) ≡ b →
+            Suits (thing_kind p y.thing) (resting_in (rests_in p y)) (requested (with_request (completed_with code) o s.cells) y.name)
         go false other = others_then (completed_with code) o y lives other
         go true same =
             let equal : o.name ≡ y.name = eqb-true o.name y.name same in
@@ -188,7 +192,8 @@ module _ (p : Image) (t : Typing) (s : State) (w : WellTyped p t s) (idle_now : 
   suits_without : (n : ℕ) → AllSuit p (all_bereaved p n s.cells) []
   suits_without n y lives =
       let was : named s.cells y.name ≡ Some y = sym ((bereaved_alike p n s.cells).named_so y.name) ∙ lives in
-      rw (requested_bereaved p n s.cells y was) (suits_bereaved (is_served_by p n y.thing) (thing_kind p y.thing) (resting_in (rests_in p y)) (requested s.cells y.name) (good.suits y was))
+      rw (requested_bereaved p n s.cells y was)
+      (suits_bereaved (is_served_by p n y.thing) (thing_kind p y.thing) (resting_in (rests_in p y)) (requested s.cells y.name) (good.suits y was))
 
   pub bereaved_well : (n : ℕ) (r : Counters) (killed : List ℕ) → WellTyped p t (record s { cells = all_bereaved p n s.cells; rest = r; killed = killed })
   bereaved_well n r killed = alike_well (all_bereaved p n s.cells) (bereaved_alike p n s.cells) r killed (suits_without n)
@@ -227,7 +232,8 @@ module _ (p : Image) (t : Typing) (s : State) (w : WellTyped p t s) (idle_now : 
         sits = let c = chain p t wired s w idle_now y.seat.place y.seat.object it_is.there (subst (λ z. 0 < rank p wired z) (sym it.3) (omega arith)) in (c.0, c.1)
 
         now : requested cs y.seat.object.name ≡ Some (taken_up y.request)
-        now = requested_here s.cells y.seat.object.name (on_request taken_up (requested s.cells y.seat.object.name)) y.seat.object it_is.lives ∙ ap (on_request taken_up) it_is.asked
+        now = requested_here s.cells y.seat.object.name (on_request taken_up (requested s.cells y.seat.object.name)) y.seat.object it_is.lives
+            ∙ ap (on_request taken_up) it_is.asked
 
         sits_now : AllSit cs (y.seat ∷ sits.0)
         sits_now = sits_alike p t s.cells cs (alike taken_up y.seat.object) (y.seat ∷ sits.0) sits.1
@@ -274,9 +280,12 @@ module _ (p : Image) (t : Typing) (s : State) (w : WellTyped p t s) (idle_now : 
         (queue : List Asked) → (service_of s.cells y.seat.object.name).queue ≡ queue → Keeps p t (serves_first p y.seat queue s)
     server_well y it_is server [] e = absurd (true≢false (sym it_is.ready ∙ ap (λ q. is_ready y.request || has_more q) e
         ∙ or_false (is_ready y.request) ∙ idles (thing_kind p y.seat.object.thing) y.request server (rw it_is.asked at (good.suits y.seat.object it_is.lives))))
-    server_well y it_is server (Connect_of client ∷ es) e = accepts_well p t wired typed s w idle_now fit y.seat y.request it_is.there it_is.lives it_is.asked server client es e
-    server_well y it_is server (Message_of client m ∷ es) e = attends_well p t wired typed s w idle_now fit y.seat y.request it_is.there it_is.lives it_is.asked server client m es e
-    server_well y it_is server (Close_of client ∷ es) e = parts_well p t wired typed s w idle_now fit y.seat y.request it_is.there it_is.lives it_is.asked server client es e
+    server_well y it_is server (Connect_of client ∷ es) e =
+        accepts_well p t wired typed s w idle_now fit y.seat y.request it_is.there it_is.lives it_is.asked server client es e
+    server_well y it_is server (Message_of client m ∷ es) e =
+        attends_well p t wired typed s w idle_now fit y.seat y.request it_is.there it_is.lives it_is.asked server client m es e
+    server_well y it_is server (Close_of client ∷ es) e =
+        parts_well p t wired typed s w idle_now fit y.seat y.request it_is.there it_is.lives it_is.asked server client es e
 
     pub picked_well : (y : Candidate) → first_ready s.cells ≡ Some y → Keeps p t (any_picked p y.seat s)
     picked_well y e = go (is_server p y.seat.object.thing) refl
@@ -287,7 +296,8 @@ module _ (p : Image) (t : Typing) (s : State) (w : WellTyped p t s) (idle_now : 
         go : (b : Bool) → is_server p y.seat.object.thing ≡ b → Keeps p t
             (cond b (serves_first p y.seat (service_of s.cells y.seat.object.name).queue s) (dispatched (part_of p Handles y.seat.object.thing) y.seat s))
         go true server = server_well y it_is server (service_of s.cells y.seat.object.name).queue refl
-        go false plain = object_well y it_is (sym (or_false (is_ready y.request)) ∙ ap (λ q. is_ready y.request || has_more q) (sym (fit.servers y.seat.object it_is.lives plain).0) ∙ it_is.ready)
+        go false plain = object_well y it_is (sym (or_false (is_ready y.request))
+            ∙ ap (λ q. is_ready y.request || has_more q) (sym (fit.servers y.seat.object it_is.lives plain).0) ∙ it_is.ready)
 
     signal_well : (next : Option ℕ) → Keeps p t (turned p s (picks (has_signal s.cells) (first_ready s.cells) next))
     signal_well next = grind (arith, nat_tests, signals_are_ready p t s w, picked_well, same_well)
@@ -304,8 +314,7 @@ module _ (p : Image) (t : Typing) (s : State) (w : WellTyped p t s) (idle_now : 
         outside name s next after) → (AnswersWell p s after → Keeps p t (turned p s after)) → Keeps p t (turned p s (by_event outside name s next after))
     event_well outside name x after free owed then = grind (arith, nat_tests, deliver_well outside name)
 
-    timer_well :
-        (next : Option Timed) (after : Turning) → AnswersWell p s (by_timer s next after) → (AnswersWell p s after → Keeps p t (turned p s after)) →
+    timer_well : (next : Option Timed) (after : Turning) → AnswersWell p s (by_timer s next after) → (AnswersWell p s after → Keeps p t (turned p s after)) →
         Keeps p t (turned p s (by_timer s next after))
     timer_well None after owed then = then owed
     timer_well (Some x) after owed then = go (nat_le x.timer.due s.rest.clock) owed

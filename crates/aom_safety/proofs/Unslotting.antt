@@ -6,7 +6,8 @@ use Rattle.aom_semantics.specs.Clients.{each_unslotted}
 use Rattle.aom_semantics.specs.Places.{Cell, Service, requested, service_of}
 use Rattle.aom_semantics.specs.Servers.{unslotted, all_unslotted}
 
-pub service_unslotted : (c : ℕ) (cs : List Cell) (n : ℕ) → service_of (all_unslotted c cs) n ≡ record (service_of cs n) { sender = unslotted c (service_of cs n).sender }
+pub service_unslotted : (c : ℕ) (cs : List Cell) (n : ℕ) →
+    service_of (all_unslotted c cs) n ≡ record (service_of cs n) { sender = unslotted c (service_of cs n).sender }
 service_unslotted c cs n = read_so (unslotting c) services n (λ v. record v { sender = unslotted c v.sender }) cs (λ x is here. refl) (λ none. refl)
 
 pub each_unslotted_alike : (clients : List ℕ) (cs : List Cell) → Alike cs (each_unslotted clients cs)

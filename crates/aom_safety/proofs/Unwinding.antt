@@ -43,14 +43,14 @@ module _ (p : Image) (t : Typing) (wired : IsWired p) (typed : IsTyped p t) (s :
       go e (A_mark ∷ items) same whole w = absurd (no_mark e cc)
 
   -- none is left: under an unwinding stands its trap
-  of_none : (ls : List Layer) → forms s.items ≡ items_of ls → AllUndo p s.items → Good p t s.cells (Unwinding code [] ∷ ls) → Keeps p t (unwound p code (tasks_of ls) s s.items)
+  of_none : (ls : List Layer) → forms s.items ≡ items_of ls → AllUndo p s.items → Good p t s.cells (Unwinding code [] ∷ ls) →
+      Keeps p t (unwound p code (tasks_of ls) s s.items)
   of_none [] same undos good = let clash : Stack p t s.cells Leaves [] = good.stack.1 in cc
   of_none (Mark gv ∷ ls) same undos good = grind (arith, nat_tests, arrives)
   of_none (Dispatching d seats ∷ ls) same undos good = grind (arith, nat_tests)
   of_none _ same undos good = absurd (assumption tt)
 
-  pub unwinds :
-      (es : List CleanupEntry) (ls : List Layer) → forms s.items ≡ objects es (items_of ls) → AllUndo p s.items → Good p t s.cells (Unwinding code es ∷ ls) →
-      Keeps p t (unwound p code (tasks_of ls) s s.items)
+  pub unwinds : (es : List CleanupEntry) (ls : List Layer) → forms s.items ≡ objects es (items_of ls) → AllUndo p s.items →
+      Good p t s.cells (Unwinding code es ∷ ls) → Keeps p t (unwound p code (tasks_of ls) s s.items)
   unwinds [] ls same undos good = of_none ls same undos good
   unwinds (e ∷ es) ls same undos good = of_entry e es ls same undos good

@@ -1,4 +1,5 @@
--- The tasks of a well-typed state as a stack on which only what can stand on a layer is written: for proofs that split what stands under a method, a going cell or a leave.
+-- The tasks of a well-typed state as a stack on which only what can stand on a layer is written: for proofs that split what stands under a method, a going cell
+-- or a leave.
 use Rattle.std.proofs.lemmas.Bool.Decides.{nat_tests}
 use Rattle.std.proofs.Common.{ℕ, arith, List, [], ap, refl, ◌∙◌, ◌∷◌, ◌≡◌, ℤ}
 use Rattle.aom_image.specs.Image.{Image}

@@ -1,4 +1,5 @@
--- What a linked image gives the laws: main and the destructors are as they must be, what is called does or constructs, and its families are as the laws want them.
+-- What a linked image gives the laws: main and the destructors are as they must be, what is called does or constructs, and its families are as the laws want
+-- them.
 use Rattle.std.proofs.lemmas.Bool.Decides.{nat_tests}
 use Rattle.std.proofs.lemmas.List.{nil_from_length}
 use Rattle.std.proofs.lemmas.Bool.{cases_Bool, true≢false}
@@ -101,7 +102,8 @@ module _ (p : Image) (formed : WellFormed p) (linked : IsLinked p) where
   of_role m d r e same = subst (λ x. HasShape x (kind_of p d.class) d) same (shaped m d e).role
 
   -- a method that plays a role for a class, of the class or of one that it descends from, and its shape
-  its_role : (c m : ℕ) (r : Role) → role_of p c r ≡ Some m → (d : Method_declared) × (method_at p m ≡ Some d) × IsOfFamily p c m × (d.role ≡ r) × HasShape r (kind_of p d.class) d
+  its_role : (c m : ℕ) (r : Role) → role_of p c r ≡ Some m → (d : Method_declared) × (method_at p m ≡ Some d) × IsOfFamily p c m × (d.role ≡ r)
+      × HasShape r (kind_of p d.class) d
   unfolding class_in
   its_role c m r e = search (arith, nat_tests, role_inherits p c m r e, of_role m)
 
@@ -202,10 +204,11 @@ module _ (p : Image) (formed : WellFormed p) (linked : IsLinked p) where
   -- what may leave is not quiet
   loud : (m : ℕ) → leaves p m ≡ true → is_quiet p m ≡ false
   unfolding leaves_in quiet_in
-  loud m e = some_given (λ o. leaves_in o ≡ true) (method_at p m) e (λ none. cc) (λ d f e. ap quiet_in f ∙ (elim (cases_Bool (quiet_in (Some d))) as (λ x. quiet_in (Some d) ≡ false) [
-    | inl q ↦ absurd (true≢false (sym e ∙ (shaped m d f).flags.quiet q))
-    | inr q ↦ q
-  ]))
+  loud m e = some_given (λ o. leaves_in o ≡ true) (method_at p m) e (λ none. cc)
+      (λ d f e. ap quiet_in f ∙ (elim (cases_Bool (quiet_in (Some d))) as (λ x. quiet_in (Some d) ≡ false) [
+        | inl q ↦ absurd (true≢false (sym e ∙ (shaped m d f).flags.quiet q))
+        | inr q ↦ q
+      ]))
 
   operands_fit : (m place : ℕ) (i : Instr) → instr_at p m place ≡ Some i → (l : Limits) × InstrFits l i
   unfolding method_at
@@ -228,7 +231,8 @@ module _ (p : Image) (formed : WellFormed p) (linked : IsLinked p) where
   unfolding states_of
   construct_ends k d s = grind (arith, nat_tests, unissued_part)
 
-  ends_unissued : (m : ℕ) (d : Method_declared) → method_at p m ≡ Some d → IsTrue (same_role d.role Do || same_role d.role Construct) → unissued (after_of p m) ≡ true
+  ends_unissued : (m : ℕ) (d : Method_declared) → method_at p m ≡ Some d → IsTrue (same_role d.role Do || same_role d.role Construct) →
+      unissued (after_of p m) ≡ true
   unfolding after_in
   ends_unissued m d e names =
       grind (arith, nat_tests, one_of, do_ends, of_role m d Do e, same_roles d.role Do, construct_ends, of_role m d Construct e, same_roles d.role Construct)

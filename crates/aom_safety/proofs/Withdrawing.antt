@@ -45,8 +45,7 @@ none_left c m (Message_of d k ∷ es) own = go (stays c (Message_of d k)) refl (
         absurd (true≢false (sym s ∙ ap not (eq-eqb d c same)))
 
 -- it stays, where none of that name is of the client
-stays_there :
-    (c m : ℕ) (es : List Asked) → ((d : ℕ) → list_any (is_message_of d m) es ≡ true → (d == c) ≡ false) → list_any (λ e. is_message m e) es ≡ true →
+stays_there : (c m : ℕ) (es : List Asked) → ((d : ℕ) → list_any (is_message_of d m) es ≡ true → (d == c) ≡ false) → list_any (λ e. is_message m e) es ≡ true →
     list_any (λ e. is_message m e) (filter (stays c) es) ≡ true
 stays_there c m [] other h = h
 stays_there c m (Connect_of d ∷ es) other h = grind (arith, nat_tests, stays_there c m es other h)
@@ -84,7 +83,8 @@ module _ (p : Image) (t : Typing) (clients : List Client) (cs : List Cell) (good
 
   -- a name is of what it was, or was of a message that is gone
   abbrev IsNamed : ℕ → Type 0
-  IsNamed n = ((named left n ≡ named cs n) × (requested left n ≡ requested cs n)) ⊎ ((named left n ≡ None) × ((o : Object) × (named cs n ≡ Some o) × (o.thing ≡ Message)))
+  IsNamed n = ((named left n ≡ named cs n) × (requested left n ≡ requested cs n))
+      ⊎ ((named left n ≡ None) × ((o : Object) × (named cs n ≡ Some o) × (o.thing ≡ Message)))
 
   goes_message : (n : ℕ) (x : Cell) → cell_of cs n ≡ Some x → drops x ≡ true → x.object.thing ≡ Message
   goes_message n x e goes = go x.owner refl goes

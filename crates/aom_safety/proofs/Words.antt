@@ -37,7 +37,8 @@ module _ (p : Image) (t : Typing) (c : Choice) (s : State) (fr : Frame) (sh : Sh
   unowned a e = ap is_none (free_register p t c s fr sh ls at_hand a e)
 
   -- a word is written
-  pub writes_word : (a : ℕ) (w : ℤ) → is_unowning (register sh a) ≡ true → AllLead t fr.method (flow_word fr.place sh a) → WellTyped p t (applied p fr (tasks_of ls) s (writes fr a w))
+  pub writes_word : (a : ℕ) (w : ℤ) → is_unowning (register sh a) ≡ true → AllLead t fr.method (flow_word fr.place sh a) →
+      WellTyped p t (applied p fr (tasks_of ls) s (writes fr a w))
   writes_word a w u leads =
       let fr' = set_word fr a (Some w) in
       let sh' = set_register sh a Word in
@@ -61,7 +62,8 @@ module _ (p : Image) (t : Typing) (c : Choice) (s : State) (fr : Frame) (sh : Sh
   law_compare test a b to n leads = search (arith, nat_tests, has_word a n.0, has_word b n.1.0, goes_either p t c s fr sh ls at_hand to leads)
 
   pub law_print : (a : ℕ) → Law p t c s fr sh ls at_hand (Print a)
-  law_print a n leads = ((has_word a n.0, tt), well p t c s fr sh ls at_hand _ (next fr) sh refl at_hand.items at_hand.undos (grind (arith, nat_tests, settle, stepped, fitted)))
+  law_print a n leads =
+      ((has_word a n.0, tt), well p t c s fr sh ls at_hand _ (next fr) sh refl at_hand.items at_hand.undos (grind (arith, nat_tests, settle, stepped, fitted)))
 
   pub law_load : (a w : ℕ) → Law p t c s fr sh ls at_hand (Load a w)
   law_load a w n leads = ((n.0, (unowned a n.1.0, tt)), writes_word a (loaded s.cells fr.home w) n.1.0 leads)

@@ -40,13 +40,12 @@ module _ {A : Type 0} (before : A → A → Bool) where
   -- pairs are related as before if the item is related to all others, whichever comes first
   pub pairs-placed : (R : A → A → Type 0) (x : A) (xs : List A) → All (R x) xs → All (λ y. R y x) xs → AllPairs R xs → AllPairs R (placed before x xs)
   pairs-placed R x [] left right pairs = AllPairs-cons R x [] left pairs
-  pairs-placed R x (y ∷ ys) left right pairs =
-      elim (cases_Bool (before y x)) [
-        | inl e ↦ subst (AllPairs R) (sym (cond-true _ _ _ e))
-            (AllPairs-cons R y (placed before x ys) (All-placed (R y) x ys (All-head (λ z. R z x) y ys right) (pairs-head R y ys pairs))
-            (pairs-placed R x ys (All-tail (R x) y ys left) (All-tail (λ z. R z x) y ys right) (pairs-tail R y ys pairs)))
-        | inr e ↦ subst (AllPairs R) (sym (cond-false _ _ _ e)) (AllPairs-cons R x (y ∷ ys) left pairs)
-      ]
+  pairs-placed R x (y ∷ ys) left right pairs = elim (cases_Bool (before y x)) [
+    | inl e ↦ subst (AllPairs R) (sym (cond-true _ _ _ e))
+        (AllPairs-cons R y (placed before x ys) (All-placed (R y) x ys (All-head (λ z. R z x) y ys right) (pairs-head R y ys pairs))
+        (pairs-placed R x ys (All-tail (R x) y ys left) (All-tail (λ z. R z x) y ys right) (pairs-tail R y ys pairs)))
+    | inr e ↦ subst (AllPairs R) (sym (cond-false _ _ _ e)) (AllPairs-cons R x (y ∷ ys) left pairs)
+  ]
 
   -- of two items one may stand before the other, and so down a chain
   pub record IsRanking : Type 0 where
@@ -121,11 +120,10 @@ module _ {A : Type 0} (number : A → ℕ) where
 
   pub find_it : (id : ℕ) (xs : List A) → Found id xs (place_of number id xs)
   find_it id [] = nowhere (All-nil (λ x. number x ≢ id))
-  find_it id (x ∷ xs) =
-      elim (cases_Bool (number x == id)) [
-        | inl e ↦ subst (Found id (x ∷ xs)) (sym (cond-true _ _ _ e)) (there 0 (at_head x xs (eqb-true _ _ e)))
-        | inr e ↦ subst (Found id (x ∷ xs)) (sym (cond-false _ _ _ e)) (later id x xs (eqb-false _ _ e) (place_of number id xs) (find_it id xs))
-      ]
+  find_it id (x ∷ xs) = elim (cases_Bool (number x == id)) [
+    | inl e ↦ subst (Found id (x ∷ xs)) (sym (cond-true _ _ _ e)) (there 0 (at_head x xs (eqb-true _ _ e)))
+    | inr e ↦ subst (Found id (x ∷ xs)) (sym (cond-false _ _ _ e)) (later id x xs (eqb-false _ _ e) (place_of number id xs) (find_it id xs))
+  ]
     where
       later : (id : ℕ) (x : A) (xs : List A) → number x ≢ id → (o : Option ℕ) → Found id xs o → Found id (x ∷ xs) (option_map suc o)
       later id x xs other _ (there i at) = there (suc i) (in_tail x xs other at)
@@ -211,12 +209,11 @@ module _ {A : Type 0} (number : A → ℕ) where
   pub few : (limit : ℕ) (xs : List A) → All (λ x. number x < limit) xs → AreDistinct number xs → length xs ≤ limit
   few zero [] below distinct = omega arith
   few zero (x ∷ xs) below distinct = absurd (omega (arith, below 0 x (omega arith)))
-  few (suc limit) xs below distinct =
-      omega (
-        arith,
-        length-without limit xs distinct,
-        few limit (without number limit xs) less (AllPairs-filter (λ x y. number x ≢ number y) (λ x. not (number x == limit)) xs distinct),
-      )
+  few (suc limit) xs below distinct = omega (
+    arith,
+    length-without limit xs distinct,
+    few limit (without number limit xs) less (AllPairs-filter (λ x y. number x ≢ number y) (λ x. not (number x == limit)) xs distinct),
+  )
     where
       less : All (λ x. number x < limit) (without number limit xs)
       less = λ k d within.
@@ -238,13 +235,12 @@ module _ {A : Type 0} (before : A → A → Bool) where
   -- what holds of all once the item is placed holds of all others
   pub All-from_placed : (P : A → Type 0) (x : A) (xs : List A) → All P (placed before x xs) → All P xs
   All-from_placed P x [] all = All-nil P
-  All-from_placed P x (y ∷ ys) all =
-      elim (cases_Bool (before y x)) [
-        | inl e ↦
-            let whole : All P (y ∷ placed before x ys) = subst (All P) (cond-true (before y x) (y ∷ placed before x ys) (x ∷ y ∷ ys) e) all in
-            All-cons P y ys (All-head P y (placed before x ys) whole) (All-from_placed P x ys (All-tail P y (placed before x ys) whole))
-        | inr e ↦ All-tail P x (y ∷ ys) (subst (All P) (cond-false (before y x) (y ∷ placed before x ys) (x ∷ y ∷ ys) e) all)
-      ]
+  All-from_placed P x (y ∷ ys) all = elim (cases_Bool (before y x)) [
+    | inl e ↦
+        let whole : All P (y ∷ placed before x ys) = subst (All P) (cond-true (before y x) (y ∷ placed before x ys) (x ∷ y ∷ ys) e) all in
+        All-cons P y ys (All-head P y (placed before x ys) whole) (All-from_placed P x ys (All-tail P y (placed before x ys) whole))
+    | inr e ↦ All-tail P x (y ∷ ys) (subst (All P) (cond-false (before y x) (y ∷ placed before x ys) (x ∷ y ∷ ys) e) all)
+  ]
 
 module _ {A : Type 0} where
   pub take-insert : (xs : List A) (i : ℕ) (x : A) → i ≤ length xs → take i (insert xs i x) ≡ take i xs
@@ -257,12 +253,11 @@ module _ {A : Type 0} (number : A → ℕ) (before : A → A → Bool) where
   -- an order stays one with an item of a new number, and without any
   pub ordered-placed : IsRanking before → (limit : ℕ) (x : A) (xs : List A) → number x < limit → IsAbsent number (number x) xs
       → IsOrdered number before limit xs → IsOrdered number before limit (placed before x xs)
-  ordered-placed r limit x xs small absent o =
-      record {
-        below = All-placed before (λ y. number y < limit) x xs small o.below;
-        distinct = pairs-placed before (λ y z. number y ≢ number z) x xs (λ k d within same. absent k d within (sym same)) absent o.distinct;
-        sorted = sorted-placed before r x xs o.sorted;
-      }
+  ordered-placed r limit x xs small absent o = record {
+    below = All-placed before (λ y. number y < limit) x xs small o.below;
+    distinct = pairs-placed before (λ y z. number y ≢ number z) x xs (λ k d within same. absent k d within (sym same)) absent o.distinct;
+    sorted = sorted-placed before r x xs o.sorted;
+  }
 
   pub ordered-without : (limit id : ℕ) (xs : List A) → IsOrdered number before limit xs → IsOrdered number before limit (without number id xs)
   ordered-without limit id xs o =
@@ -276,13 +271,12 @@ module _ {A : Type 0} (number : A → ℕ) (before : A → A → Bool) where
   -- so with items that keep their numbers and their standing
   pub ordered-map : (f : A → A) → ((x : A) → number (f x) ≡ number x) → ((x y : A) → before (f x) (f y) ≡ before x y) → (limit : ℕ) (xs : List A)
       → IsOrdered number before limit xs → IsOrdered number before limit (map f xs)
-  ordered-map f same_number same_standing limit xs o =
-      record {
-        below = All-map (λ x. number x < limit) f xs (All-weaker (λ x. number x < limit) (λ x. number (f x) < limit)
-            (λ x h. subst (λ n. n < limit) (sym (same_number x)) h) xs o.below);
-        distinct = pairs-map (λ x y. number x ≢ number y) (λ x y differs same. differs (sym (same_number x) ∙ same ∙ same_number y)) o.distinct;
-        sorted = pairs-map (λ x y. before x y ≡ true) (λ x y h. same_standing x y ∙ h) o.sorted;
-      }
+  ordered-map f same_number same_standing limit xs o = record {
+    below = All-map (λ x. number x < limit) f xs (All-weaker (λ x. number x < limit) (λ x. number (f x) < limit)
+        (λ x h. subst (λ n. n < limit) (sym (same_number x)) h) xs o.below);
+    distinct = pairs-map (λ x y. number x ≢ number y) (λ x y differs same. differs (sym (same_number x) ∙ same ∙ same_number y)) o.distinct;
+    sorted = pairs-map (λ x y. before x y ≡ true) (λ x y h. same_standing x y ∙ h) o.sorted;
+  }
     where
       pairs-map : (R : A → A → Type 0) → ((x y : A) → R x y → R (f x) (f y)) → AllPairs R xs → AllPairs R (map f xs)
       pairs-map R keeps pairs = λ i j d less within.

@@ -24,23 +24,19 @@ behind-first x xs sorted (suc k) e is differs ready =
 
 -- an entry in front that waits changes no pick
 later-pick : (x : ScheduleEntry) (xs : List ScheduleEntry) (id : ℕ) → x.is_ready ≡ false → IsPick xs id → IsPick (x ∷ xs) id
-later-pick x xs id waits p =
-    record { at = suc p.at; entry = p.entry; there = p.there; same = p.same; ready = p.ready; others = others }
+later-pick x xs id waits p = record { at = suc p.at; entry = p.entry; there = p.there; same = p.same; ready = p.ready; others = others }
   where
     others : IsBehind (x ∷ xs) (suc p.at) p.entry
     others y e is differs ready = grind (arith, nat_tests, same_Some)
 
 pub pick-first : (xs : List ScheduleEntry) → AllPairs (λ e f. before e f ≡ true) xs → IfSome (first_ready xs) (IsPick xs)
 pick-first [] sorted = tt
-pick-first (x ∷ xs) sorted =
-    elim (cases_Bool x.is_ready) [
-      | inl is_so ↦
-          subst (λ o. IfSome o (IsPick (x ∷ xs))) (sym (cond-true x.is_ready (Some x.id) (first_ready xs) is_so))
-          (record { at = 0; entry = x; there = refl; same = refl; ready = is_so; others = behind-first x xs sorted })
-      | inr is_not ↦
-          subst (λ o. IfSome o (IsPick (x ∷ xs))) (sym (cond-false x.is_ready (Some x.id) (first_ready xs) is_not))
-          (IfSome_then (first_ready xs) (pick-first xs (pairs-tail (λ e f. before e f ≡ true) x xs sorted)) (λ id p. later-pick x xs id is_not p))
-    ]
+pick-first (x ∷ xs) sorted = elim (cases_Bool x.is_ready) [
+  | inl is_so ↦ subst (λ o. IfSome o (IsPick (x ∷ xs))) (sym (cond-true x.is_ready (Some x.id) (first_ready xs) is_so))
+      (record { at = 0; entry = x; there = refl; same = refl; ready = is_so; others = behind-first x xs sorted })
+  | inr is_not ↦ subst (λ o. IfSome o (IsPick (x ∷ xs))) (sym (cond-false x.is_ready (Some x.id) (first_ready xs) is_not))
+      (IfSome_then (first_ready xs) (pick-first xs (pairs-tail (λ e f. before e f ≡ true) x xs sorted)) (λ id p. later-pick x xs id is_not p))
+]
 
 -- what `front` answers, as a look at the first place
 pub front-is : {B : Type 0} (now : B → ℕ) (ids : List ℕ) (n : ℕ) (o : Option B) → n ≡ length ids → IsSome o ↔ (0 < n)

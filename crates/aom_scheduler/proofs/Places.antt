@@ -29,38 +29,35 @@ pub by_priority : IsRanking before
 by_priority = search (arith, nat_tests, ints)
 
 -- one entry more is numbered
-pub numbered-more : (entries : List ScheduleEntry) (places start : List (Option ℕ)) (at : ℕ) (e : ScheduleEntry)
-    → AreDistinct id_of entries → at < length entries → e ≡ get_or entries at e → e.id < length places
-    → ((id : ℕ) → get_or places id None ≡ numbered id (take at entries) start)
-    → (id : ℕ) → get_or (set places e.id (Some at)) id None ≡ numbered id (take (suc at) entries) start
-numbered-more entries places start at e distinct within is small before_it id =
-    elim (cases_eq id e.id) [
-      | inl same ↦
-          let here : place_of id_of e.id (take (suc at) entries) ≡ Some at = subst (λ x. place_of id_of (id_of x) (take (suc at) entries) ≡ Some at)
-          (sym is) (place-take_same id_of entries at e distinct within) in
-          subst (λ n. get_or (set places e.id (Some at)) n None ≡ numbered n (take (suc at) entries) start) (sym same)
-          (get_or-set_same places e.id (Some at) None small ∙ sym (ap (λ o. or_else o (get_or start e.id None)) here))
-      | inr other ↦
-          let apart : id_of (get_or entries at e) ≢ id = λ same. other (sym same ∙ ap id_of (sym is)) in
-          get_or-set_other places e.id id (Some at) None other ∙ before_it id
-          ∙ sym (ap (λ o. or_else o (get_or start id None)) (place-take_other id_of id entries at e apart))
-    ]
+pub numbered-more : (entries : List ScheduleEntry) (places start : List (Option ℕ)) (at : ℕ) (e : ScheduleEntry) → AreDistinct id_of entries → at < length
+    entries → e ≡ get_or entries at e → e.id < length places → ((id : ℕ) → get_or places id None ≡ numbered id (take at entries) start) → (id : ℕ) →
+    get_or (set places e.id (Some at)) id None ≡ numbered id (take (suc at) entries) start
+numbered-more entries places start at e distinct within is small before_it id = elim (cases_eq id e.id) [
+  | inl same ↦
+      let here : place_of id_of e.id (take (suc at) entries) ≡ Some at = subst (λ x. place_of id_of (id_of x) (take (suc at) entries) ≡ Some at)
+      (sym is) (place-take_same id_of entries at e distinct within) in
+      subst (λ n. get_or (set places e.id (Some at)) n None ≡ numbered n (take (suc at) entries) start) (sym same)
+      (get_or-set_same places e.id (Some at) None small ∙ sym (ap (λ o. or_else o (get_or start e.id None)) here))
+  | inr other ↦
+      let apart : id_of (get_or entries at e) ≢ id = λ same. other (sym same ∙ ap id_of (sym is)) in
+      get_or-set_other places e.id id (Some at) None other ∙ before_it id
+      ∙ sym (ap (λ o. or_else o (get_or start id None)) (place-take_other id_of id entries at e apart))
+]
 
 -- what is absent beside an item that goes is absent, but for that item
 absent-without : (gone id : ℕ) (xs : List ScheduleEntry) → id ≢ gone → IsAbsent id_of id (without id_of gone xs) → IsAbsent id_of id xs
 absent-without gone id [] other absent = absent
-absent-without gone id (x ∷ xs) other absent =
-    elim (cases_Bool (id_of x == gone)) [
-      | inl e ↦
-          All-cons (λ y. id_of y ≢ id) x xs (λ same. other (sym same ∙ eqb-true (id_of x) gone e))
-          (absent-without gone id xs other (subst (λ b. IsAbsent id_of id (cond b (without id_of gone xs) (x ∷ without id_of gone xs))) e
-          (swapped (id_of x == gone) absent)))
-      | inr e ↦
-          let whole : IsAbsent id_of id (x ∷ without id_of gone xs) = subst
-          (λ b. IsAbsent id_of id (cond b (without id_of gone xs) (x ∷ without id_of gone xs))) e (swapped (id_of x == gone) absent) in
-          All-cons (λ y. id_of y ≢ id) x xs (absent-head id_of id x (without id_of gone xs) whole)
-          (absent-without gone id xs other (absent-tail id_of id x (without id_of gone xs) whole))
-    ]
+absent-without gone id (x ∷ xs) other absent = elim (cases_Bool (id_of x == gone)) [
+  | inl e ↦
+      All-cons (λ y. id_of y ≢ id) x xs (λ same. other (sym same ∙ eqb-true (id_of x) gone e))
+      (absent-without gone id xs other (subst (λ b. IsAbsent id_of id (cond b (without id_of gone xs) (x ∷ without id_of gone xs))) e
+      (swapped (id_of x == gone) absent)))
+  | inr e ↦
+      let whole : IsAbsent id_of id (x ∷ without id_of gone xs) = subst
+      (λ b. IsAbsent id_of id (cond b (without id_of gone xs) (x ∷ without id_of gone xs))) e (swapped (id_of x == gone) absent) in
+      All-cons (λ y. id_of y ≢ id) x xs (absent-head id_of id x (without id_of gone xs) whole)
+      (absent-without gone id xs other (absent-tail id_of id x (without id_of gone xs) whole))
+]
   where
     swapped : (b : Bool) → IsAbsent id_of id (cond (not b) (x ∷ without id_of gone xs) (without id_of gone xs))
         → IsAbsent id_of id (cond b (without id_of gone xs) (x ∷ without id_of gone xs))
@@ -90,12 +87,11 @@ known-remove entries places at gone indexed here id i is =
 pub indexed-insert : (entries after : List ScheduleEntry) (places now : List (Option ℕ)) (e : ScheduleEntry) → IsIndexed entries places → e.id < length places
     → place_of id_of e.id entries ≡ None
     → after ≡ placed before e entries → length now ≡ length places → ((id : ℕ) → get_or now id None ≡ numbered id after places) → IsIndexed after now
-indexed-insert entries after places now e indexed small new is same says =
-    record {
-      ordered = subst (λ n. IsOrdered id_of before n after) (sym same) (subst (IsOrdered id_of before (length places)) (sym is)
-          (ordered-placed id_of before by_priority (length places) e entries small (place-absent id_of e.id entries new) indexed.ordered));
-      stands = λ id. says id ∙ settled id (place_of id_of id after) (find_it id_of id after);
-    }
+indexed-insert entries after places now e indexed small new is same says = record {
+  ordered = subst (λ n. IsOrdered id_of before n after) (sym same) (subst (IsOrdered id_of before (length places)) (sym is)
+      (ordered-placed id_of before by_priority (length places) e entries small (place-absent id_of e.id entries new) indexed.ordered));
+  stands = λ id. says id ∙ settled id (place_of id_of id after) (find_it id_of id after);
+}
   where
     settled : (id : ℕ) (o : Option ℕ) → Found id_of id after o → or_else o (get_or places id None) ≡ o
     settled id _ (there i at) = refl
@@ -104,24 +100,21 @@ indexed-insert entries after places now e indexed small new is same says =
         indexed.stands id ∙ absent-place id_of id entries was
 
 -- after a removal
-pub indexed-remove : (entries after : List ScheduleEntry) (places now : List (Option ℕ)) (gone : ℕ) → IsIndexed entries places → gone < length places
-    → after ≡ without id_of gone entries → length now ≡ length places → ((id : ℕ) → get_or now id None ≡ numbered id after (set places gone None))
-    → IsIndexed after now
-indexed-remove entries after places now gone indexed small is same says =
-    record {
-      ordered = subst (λ n. IsOrdered id_of before n after) (sym same) (subst (IsOrdered id_of before (length places)) (sym is)
-          (ordered-without id_of before (length places) gone entries indexed.ordered));
-      stands = λ id. says id ∙ settled id (place_of id_of id after) (find_it id_of id after);
-    }
+pub indexed-remove : (entries after : List ScheduleEntry) (places now : List (Option ℕ)) (gone : ℕ) → IsIndexed entries places → gone < length places → after
+    ≡ without id_of gone entries → length now ≡ length places → ((id : ℕ) → get_or now id None ≡ numbered id after (set places gone None)) → IsIndexed after now
+indexed-remove entries after places now gone indexed small is same says = record {
+  ordered = subst (λ n. IsOrdered id_of before n after) (sym same) (subst (IsOrdered id_of before (length places)) (sym is)
+      (ordered-without id_of before (length places) gone entries indexed.ordered));
+  stands = λ id. says id ∙ settled id (place_of id_of id after) (find_it id_of id after);
+}
   where
     settled : (id : ℕ) (o : Option ℕ) → Found id_of id after o → or_else o (get_or (set places gone None) id None) ≡ o
     settled id _ (there i at) = refl
-    settled id _ (nowhere absent) =
-        elim (cases_eq id gone) [
-          | inl e ↦ subst (λ n. get_or (set places gone None) n None ≡ None) (sym e) (get_or-set_same places gone None None small)
-          | inr other ↦ get_or-set_other places gone id None None other ∙ indexed.stands id ∙ absent-place id_of id entries
-              (absent-without gone id entries other (subst (IsAbsent id_of id) is absent))
-        ]
+    settled id _ (nowhere absent) = elim (cases_eq id gone) [
+      | inl e ↦ subst (λ n. get_or (set places gone None) n None ≡ None) (sym e) (get_or-set_same places gone None None small)
+      | inr other ↦ get_or-set_other places gone id None None other ∙ indexed.stands id ∙ absent-place id_of id entries
+          (absent-without gone id entries other (subst (IsAbsent id_of id) is absent))
+    ]
 
 -- a mark keeps the object and its priority
 marked-id : (id : ℕ) (ready : Bool) (e : ScheduleEntry) → id_of (marked_entry id ready e) ≡ id_of e
@@ -152,11 +145,10 @@ marked-at id ready _ _ d distinct (in_tail x xs other at) = ap (λ ys. x ∷ ys)
 -- after a mark all stand where they stood
 pub indexed-mark : (entries : List ScheduleEntry) (places : List (Option ℕ)) (id : ℕ) (ready : Bool) → IsIndexed entries places
     → IsIndexed (marked id ready entries) places
-indexed-mark entries places id ready indexed =
-    record {
-      ordered = ordered-map id_of before (marked_entry id ready) (marked-id id ready) standing (length places) entries indexed.ordered;
-      stands = λ other. indexed.stands other ∙ sym (marked-place id ready other entries);
-    }
+indexed-mark entries places id ready indexed = record {
+  ordered = ordered-map id_of before (marked_entry id ready) (marked-id id ready) standing (length places) entries indexed.ordered;
+  stands = λ other. indexed.stands other ∙ sym (marked-place id ready other entries);
+}
   where
     standing : (x y : ScheduleEntry) → before (marked_entry id ready x) (marked_entry id ready y) ≡ before x y
     standing x y = grind (arith, nat_tests, marked-priority id ready y, marked-priority id ready x)
@@ -197,10 +189,9 @@ pub written : {X : Type 0} (n : ℕ) (old new : List X) → n ≡ length new →
 written n old new is = ap (λ k. take k (new ++ drop (length new) old)) is ∙ take-append_seam new (drop (length new) old)
 
 -- the same from what the fields and a search among them say
-pub insertion-from : {roster : Roster} {entries shown : List ScheduleEntry} {places : List (Option ℕ)} (at : ℕ) (e : ScheduleEntry)
-    → record { entries = entries; limit = length places } ≡ roster → shown ≡ entries
-    → IsIndexed entries places → e.id < roster.limit → IsNone (place e.id roster) → at ≤ length shown
-    → IsPartitionPoint (λ f. before f e ≡ true) (λ f. before f e ≡ false) shown at → Insertion entries places at e
+pub insertion-from : {roster : Roster} {entries shown : List ScheduleEntry} {places : List (Option ℕ)} (at : ℕ) (e : ScheduleEntry) →
+    record { entries = entries; limit = length places } ≡ roster → shown ≡ entries → IsIndexed entries places → e.id < roster.limit → IsNone
+    (place e.id roster) → at ≤ length shown → IsPartitionPoint (λ f. before f e ≡ true) (λ f. before f e ≡ false) shown at → Insertion entries places at e
 insertion-from {entries = entries} {places = places} at e view same indexed small new within point = grind (arith, insertion entries places at e indexed)
 
 -- what a fallible insertion leaves where it succeeds
@@ -215,7 +206,8 @@ indexed-by_insertion entries shown places lent now at e made is same long says =
     grind (arith, indexed-insert entries shown places now e made.indexed made.small made.new (is ∙ made.is))
 
 -- rosters of the same entries and limit
-pub same_roster : (xs ys : List ScheduleEntry) (m n : ℕ) → xs ≡ ys → m ≡ n → ◌≡◌ {A = Roster} (record { entries = xs; limit = m }) (record { entries = ys; limit = n })
+pub same_roster : (xs ys : List ScheduleEntry) (m n : ℕ) → xs ≡ ys → m ≡ n →
+    ◌≡◌ {A = Roster} (record { entries = xs; limit = m }) (record { entries = ys; limit = n })
 same_roster xs ys m n p q = cc
 
 -- an object that has an entry has it where its place says, in the fields too

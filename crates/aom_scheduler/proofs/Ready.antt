@@ -48,9 +48,8 @@ marked-other id ready x other = cond-false (x.id == id) (record x { is_ready = r
 -- the list of a marked object and the rest
 marked-first : (id : ℕ) (ready : Bool) (x : ScheduleEntry) (xs : List ScheduleEntry) → AreDistinct id_of (x ∷ xs) → id_of x ≡ id
     → marked id ready (x ∷ xs) ≡ record x { is_ready = ready } ∷ xs
-marked-first id ready x xs distinct same = ap (λ y. y ∷ marked id ready xs) (marked-here id ready x same)
-    ∙ ap (λ ys. record x { is_ready = ready } ∷ ys) (marked-absent id ready xs
-    (subst (λ n. (k : ℕ) (d : ScheduleEntry) → k < length xs → id_of (get_or xs k d) ≢ n) same (distinct-head id_of x xs distinct)))
+marked-first id ready x xs distinct same = ap (λ y. y ∷ marked id ready xs) (marked-here id ready x same) ∙ ap (λ ys. record x { is_ready = ready } ∷ ys)
+    (marked-absent id ready xs (subst (λ n. (k : ℕ) (d : ScheduleEntry) → k < length xs → id_of (get_or xs k d) ≢ n) same (distinct-head id_of x xs distinct)))
 
 marked-later : (id : ℕ) (ready : Bool) (x : ScheduleEntry) (xs : List ScheduleEntry) → id_of x ≢ id → marked id ready (x ∷ xs) ≡ x ∷ marked id ready xs
 marked-later id ready x xs other = ap (λ y. y ∷ marked id ready xs) (marked-other id ready x other)
@@ -93,19 +92,18 @@ module _ {A : Type 0} (p : A → Bool) (us vs : List A) where
 
   pub point-split : (i : ℕ) (d : A) → All (λ x. p x ≡ true) us → All (λ x. p x ≡ false) vs → i ≤ length (us ++ vs)
       → IsPartitionPoint (λ x. p x ≡ true) (λ x. p x ≡ false) (us ++ vs) i → i ≡ length us
-  point-split i d front behind within point =
-      elim (cases_lt i (length us)) [
-        | inl inside ↦
-            let is_so = ap p (get_or_append_left us vs d i inside) ∙ front i d inside in
-            absurd (false≢true (sym (point.1 i d (omega arith) (omega (arith, length-append us vs))) ∙ is_so))
-        | inr past ↦ elim (cases_eq i (length us)) [
-          | inl same ↦ same
-          | inr other ↦
-              let is_not = ap p (get_or-append_right us vs (length us) (length us) d refl (omega arith)) ∙ behind (length us - length us) d
-              (omega (arith, within, length-append us vs)) in
-              absurd (false≢true (sym is_not ∙ point.0 (length us) d (omega arith) (omega arith)))
-        ]
-      ]
+  point-split i d front behind within point = elim (cases_lt i (length us)) [
+    | inl inside ↦
+        let is_so = ap p (get_or_append_left us vs d i inside) ∙ front i d inside in
+        absurd (false≢true (sym (point.1 i d (omega arith) (omega (arith, length-append us vs))) ∙ is_so))
+    | inr past ↦ elim (cases_eq i (length us)) [
+      | inl same ↦ same
+      | inr other ↦
+          let is_not = ap p (get_or-append_right us vs (length us) (length us) d refl (omega arith)) ∙ behind (length us - length us) d
+          (omega (arith, within, length-append us vs)) in
+          absurd (false≢true (sym is_not ∙ point.0 (length us) d (omega arith) (omega arith)))
+    ]
+  ]
 
 -- the test that a search among the ready makes
 abbrev pub is_in_front : List ScheduleEntry → ℕ → ℕ → Bool

@@ -48,7 +48,8 @@ due-each [] pairs = All-nil (λ t. due_of t.id [] ≡ Some t.due)
 due-each (x ∷ xs) pairs = All-cons (λ t. due_of t.id (x ∷ xs) ≡ Some t.due) x xs (due-here x.id x xs refl) (λ k d within. due-later (get_or xs k d).id x xs
     (pairs-head (λ y z. id_of y ≢ id_of z) x xs pairs k d within) ∙ due-each xs (pairs-tail (λ y z. id_of y ≢ id_of z) x xs pairs) k d within)
 
-pub due-of_place : (ts : List Timer) → AllPairs (λ x y. id_of x ≢ id_of y) ts → (place : ℕ) (o : Option Timer) → o ≡ slice_get ts place → IfSome o (λ t. due_of t.id ts ≡ Some t.due)
+pub due-of_place : (ts : List Timer) → AllPairs (λ x y. id_of x ≢ id_of y) ts → (place : ℕ) (o : Option Timer) → o ≡ slice_get ts place →
+    IfSome o (λ t. due_of t.id ts ≡ Some t.due)
 due-of_place ts pairs place None is = tt
 due-of_place ts pairs place (Some t) is = grind (arith, get_or_from_slice_get ts place t t, due-each ts pairs place t, slice_get_within ts place t)
 
@@ -70,8 +71,7 @@ stands-if_set id ts some = sym (set-stands id ts) ∙ some
 due-placed_same : (t : Timer) (ts : List Timer) → IsAbsent id_of t.id ts → due_of t.id (placed no_later t ts) ≡ Some t.due
 due-placed_same t [] absent = due-here t.id t [] refl
 due-placed_same t (u ∷ us) absent = elim (cases_Bool (no_later u t)) [
-  | inl is_so ↦
-      ap (due_of t.id) (cond-true (no_later u t) (u ∷ placed no_later t us) (t ∷ u ∷ us) is_so)
+  | inl is_so ↦ ap (due_of t.id) (cond-true (no_later u t) (u ∷ placed no_later t us) (t ∷ u ∷ us) is_so)
       ∙ due-later t.id u (placed no_later t us) (absent-head id_of t.id u us absent) ∙ due-placed_same t us (absent-tail id_of t.id u us absent)
   | inr is_not ↦ ap (due_of t.id) (cond-false (no_later u t) (u ∷ placed no_later t us) (t ∷ u ∷ us) is_not) ∙ due-here t.id t (u ∷ us) refl
 ]
@@ -142,9 +142,8 @@ ending timers dues at gone timed found =
     }
 
 -- the same from what the fields say
-pub ending-from : {pending : Pending} {timers : List Timer} {dues : List (Option ℕ)} {at : ℕ} (gone : ℕ)
-    → record { timers = timers; limit = length dues } ≡ pending → IsTimed timers dues → place_of id_of gone pending.timers ≡ Some at
-    → Ending timers dues at gone
+pub ending-from : {pending : Pending} {timers : List Timer} {dues : List (Option ℕ)} {at : ℕ} (gone : ℕ) →
+    record { timers = timers; limit = length dues } ≡ pending → IsTimed timers dues → place_of id_of gone pending.timers ≡ Some at → Ending timers dues at gone
 ending-from {timers = timers} {dues = dues} {at = at} gone view timed stands = grind (arith, ending timers dues at gone timed, place-at)
 
 -- lists of timers and limits that are the same
@@ -162,16 +161,14 @@ front-at (u ∷ us) t some is = at_head u us (ap id_of (sym is))
 
 -- a search for those that are due earlier is one in an order, and ends no later than at the object's
 pub searchable-early : (due : ℕ) (ts : List Timer) → AllPairs (λ t u. no_later t u ≡ true) ts → IsPartitionedBy (λ t. nat_lt t.due due) ts
-searchable-early due ts sorted = λ i j d le within h.
-    elim (cases_eq i j) [
-      | inl same ↦ subst (λ n. nat_lt (get_or ts n d).due due ≡ true) (sym same) h
-      | inr other ↦
-          lt-ltb (get_or ts i d).due due (omega (
-            arith,
-            ltb-true (get_or ts j d).due due h,
-            leb-true (get_or ts i d).due (get_or ts j d).due (sorted i j d (omega arith) within),
-          ))
-    ]
+searchable-early due ts sorted = λ i j d le within h. elim (cases_eq i j) [
+  | inl same ↦ subst (λ n. nat_lt (get_or ts n d).due due ≡ true) (sym same) h
+  | inr other ↦ lt-ltb (get_or ts i d).due due (omega (
+    arith,
+    ltb-true (get_or ts j d).due due h,
+    leb-true (get_or ts i d).due (get_or ts j d).due (sorted i j d (omega arith) within),
+  ))
+]
 
 pub early-ends : (id due start : ℕ) (ts : List Timer) → IsPartitionPoint (λ t. nat_lt t.due due ≡ true) (λ t. nat_lt t.due due ≡ false) ts start
     → due_of id ts ≡ Some due → (at : ℕ) → place_of id_of id ts ≡ Some at → start ≤ at

@@ -129,7 +129,8 @@ clients kind ws =
 timed : (kind : List ℕ) (ws : List (List ℕ)) → Fails_so (timed_says kind ws)
 timed kind ws =
     let not_event = either Fails_so (bytes_eq kind (codes "kill")) (kill_says ws) (client_says kind ws) (ends ws) (clients kind ws) in
-    either Fails_so (bytes_eq kind (codes "event")) (event_says ws) (if bytes_eq kind (codes "kill") then kill_says ws else client_says kind ws) (events ws) not_event
+    either Fails_so (bytes_eq kind (codes "event")) (event_says ws)
+    (if bytes_eq kind (codes "kill") then kill_says ws else client_says kind ws) (events ws) not_event
 
 of_words : (ws : List (List ℕ)) → Fails_so (words_say ws)
 of_words [] = tt
@@ -166,7 +167,8 @@ of_line before line =
 
 of_lines : (before lines : List (List ℕ)) → All_so (faults_after before lines)
 of_lines before [] = tt
-of_lines before (line ∷ lines) = added (length before + 1) (fault_of before line) (faults_after (before ++ line ∷ []) lines) (of_line before line) (of_lines (before ++ line ∷ []) lines)
+of_lines before (line ∷ lines) =
+    added (length before + 1) (fault_of before line) (faults_after (before ++ line ∷ []) lines) (of_line before line) (of_lines (before ++ line ∷ []) lines)
 
 first_so : (faults : List ScriptFault) (script : Script) → All_so faults → Denotes_so (unless faults script)
 first_so [] script h = tt
@@ -176,7 +178,8 @@ of_text : (text : List ℕ) → Denotes_so (denoted text)
 of_text text =
     let lines = lines_of text in
     let script : Script = record { refused = refused_in lines; timed = timed_in lines } in
-    either Denotes_so (nat_le (length text) (2 ^ 20)) (denoted_by lines) (Err (record { line = 1; kind = LimitPassed })) (first_so (faults_after [] lines) script (of_lines [] lines)) tt
+    either Denotes_so (nat_le (length text) (2 ^ 20)) (denoted_by lines) (Err (record { line = 1; kind = LimitPassed }))
+    (first_so (faults_after [] lines) script (of_lines [] lines)) tt
 
 -- the fault that a text denotes
 pub is_of_text : (text : List ℕ) (fault : ScriptFault) → denoted text ≡ Err fault → IsOfText fault.kind

@@ -15,9 +15,11 @@ comes_later : (a b : ℕ) → nat_le a b ≡ false → b ≤ a
 comes_later a b is = grind (arith, nat_tests)
 
 -- the times rise as before
-rises_too : (before : ℕ) (event : TimedEvent) (timed : List TimedEvent) → before ≤ event.time → Rises before timed → Rises before (insert timed (place_after event.time timed) event)
+rises_too : (before : ℕ) (event : TimedEvent) (timed : List TimedEvent) → before ≤ event.time → Rises before timed →
+    Rises before (insert timed (place_after event.time timed) event)
 rises_too before event [] later rises = (later, tt)
-rises_too before event (x ∷ xs) later rises = go (nat_le x.time event.time) refl (1 + place_after event.time xs) (omega arith) (λ by. rises_too x.time event xs by rises.1)
+rises_too before event (x ∷ xs) later rises =
+    go (nat_le x.time event.time) refl (1 + place_after event.time xs) (omega arith) (λ by. rises_too x.time event xs by rises.1)
   where
     go : (b : Bool) → nat_le x.time event.time ≡ b → (k : ℕ) → k ≡ suc (place_after event.time xs) →
         (x.time ≤ event.time → Rises x.time (insert xs (place_after event.time xs) event)) → Rises before (insert (x ∷ xs) (cond b k 0) event)
@@ -29,8 +31,10 @@ all_too : (event : TimedEvent) (timed : List TimedEvent) → All InRange timed �
 all_too event [] all is = All-cons InRange event [] is all
 all_too event (x ∷ xs) all is = go (nat_le x.time event.time) (1 + place_after event.time xs) (omega arith) (all_too event xs (All-tail InRange x xs all) is)
   where
-    go : (b : Bool) (k : ℕ) → k ≡ suc (place_after event.time xs) → All InRange (insert xs (place_after event.time xs) event) → All InRange (insert (x ∷ xs) (cond b k 0) event)
-    go true k more rest = subst (λ k. All InRange (insert (x ∷ xs) k event)) (sym more) (All-cons InRange x (insert xs (place_after event.time xs) event) (All-head InRange x xs all) rest)
+    go : (b : Bool) (k : ℕ) → k ≡ suc (place_after event.time xs) → All InRange (insert xs (place_after event.time xs) event) →
+        All InRange (insert (x ∷ xs) (cond b k 0) event)
+    go true k more rest = subst (λ k. All InRange (insert (x ∷ xs) k event)) (sym more)
+        (All-cons InRange x (insert xs (place_after event.time xs) event) (All-head InRange x xs all) rest)
     go false k more rest = All-cons InRange event (x ∷ xs) is all
 
 pub timely_too : (event : TimedEvent) (timed : List TimedEvent) → InRange event → IsTimely timed → IsTimely (insert timed (place_after event.time timed) event)

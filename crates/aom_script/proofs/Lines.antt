@@ -22,7 +22,8 @@ pub record Said (number last : ℕ) (reading : Result Reading ScriptFaultKind) (
 is_counted : (number : ℕ) (o : Option ScriptLine) (said : ScriptLine) → counted number o ≡ Ok said → (o ≡ Some said) × (number ≤ 65536)
 is_counted number o said e = grind arith
 
-pub is_said : (number last : ℕ) (reading : Result Reading ScriptFaultKind) (said : ScriptLine) → in_place number last reading ≡ Ok said → Said number last reading said
+pub is_said : (number last : ℕ) (reading : Result Reading ScriptFaultKind) (said : ScriptLine) → in_place number last reading ≡ Ok said →
+    Said number last reading said
 is_said number last reading said e = grind arith
 
 pub in_said : (number last : ℕ) (line : List ℕ) (said : ScriptLine) → line_says number last line ≡ Ok said → said_in (reading_of line) ≡ Some said
@@ -35,8 +36,8 @@ faults_append : (before xs ys : List (List ℕ)) → faults_after before (xs ++ 
 faults_append before [] ys = ap (λ ls. faults_after ls ys) (sym (append-nil before))
 faults_append before (x ∷ xs) ys =
     let fault = in_line (length before + 1) (fault_of before x) in
-    ap (λ fs. fault ++ fs) (faults_append (before ++ x ∷ []) xs ys ∙ ap (λ ls. faults_after (before ++ x ∷ []) xs ++ faults_after ls ys) (append_assoc before (x ∷ []) xs))
-    ∙ sym (append_assoc fault (faults_after (before ++ x ∷ []) xs) (faults_after (before ++ x ∷ xs) ys))
+    ap (λ fs. fault ++ fs) (faults_append (before ++ x ∷ []) xs ys ∙ ap (λ ls. faults_after (before ++ x ∷ []) xs ++ faults_after ls ys)
+    (append_assoc before (x ∷ []) xs)) ∙ sym (append_assoc fault (faults_after (before ++ x ∷ []) xs) (faults_after (before ++ x ∷ xs) ys))
 
 -- some lines are read, and none of them is faulty
 pub record SoFar (lines rest : List (List ℕ)) (count : ℕ) (script : Script) : Type 0 where
@@ -53,15 +54,16 @@ starts lines script none nothing = record { before = []; parts = refl; counted =
 -- what the line at hand says, by the lines before it
 at_hand : (lines rest : List (List ℕ)) (line : List ℕ) (count : ℕ) (script : Script) (s : SoFar lines rest count script) →
     line_says (length s.before + 1) (last_time (timed_in s.before)) line ≡ line_says (count + 1) (last_time script.timed) line
-at_hand lines rest line count script s = ap (λ k. line_says (k + 1) (last_time (timed_in s.before)) line) s.counted ∙ ap (λ es. line_says (count + 1) (last_time es) line) (sym s.timed)
+at_hand lines rest line count script s = ap (λ k. line_says (k + 1) (last_time (timed_in s.before)) line) s.counted
+    ∙ ap (λ es. line_says (count + 1) (last_time es) line) (sym s.timed)
 
 -- the faults of the lines before and of the line at hand
-one_more : (lines rest : List (List ℕ)) (line : List ℕ) (count : ℕ) (script : Script) (s : SoFar lines rest count script) → (later : List (List ℕ)) (fault : Option ScriptFaultKind)
-    → fault_in (line_says (count + 1) (last_time script.timed) line) ≡ fault → faults_after [] (s.before ++ line ∷ later) ≡ in_line (count + 1) fault ++ faults_after (s.before ++ line ∷ []) later
-one_more lines rest line count script s later fault is =
-    faults_append [] s.before (line ∷ later) ∙ ap (λ fs. fs ++ faults_after s.before (line ∷ later)) s.faultless
-    ∙ ap (λ f. in_line (length s.before + 1) f ++ faults_after (s.before ++ line ∷ []) later) (ap fault_in (at_hand lines rest line count script s) ∙ is)
-    ∙ ap (λ k. in_line (k + 1) fault ++ faults_after (s.before ++ line ∷ []) later) s.counted
+one_more : (lines rest : List (List ℕ)) (line : List ℕ) (count : ℕ) (script : Script) (s : SoFar lines rest count script) →
+    (later : List (List ℕ)) (fault : Option ScriptFaultKind) → fault_in (line_says (count + 1) (last_time script.timed) line) ≡ fault →
+    faults_after [] (s.before ++ line ∷ later) ≡ in_line (count + 1) fault ++ faults_after (s.before ++ line ∷ []) later
+one_more lines rest line count script s later fault is = faults_append [] s.before (line ∷ later) ∙ ap (λ fs. fs ++ faults_after s.before (line ∷ later))
+    s.faultless ∙ ap (λ f. in_line (length s.before + 1) f ++ faults_after (s.before ++ line ∷ []) later)
+    (ap fault_in (at_hand lines rest line count script s) ∙ is) ∙ ap (λ k. in_line (k + 1) fault ++ faults_after (s.before ++ line ∷ []) later) s.counted
 
 -- there is one line more
 goes : (lines later : List (List ℕ)) (line : List ℕ) (count : ℕ) (script new : Script) (said : ScriptLine) → SoFar lines (line ∷ later) count script →
@@ -100,19 +102,18 @@ stops lines later line count script new kind s (inr faulty) =
     let same : faulty.0 ≡ kind = let is = faulty.1 in cc in
     inl (ap (λ fs. unless fs (record { refused = refused_in lines; timed = timed_in lines }))
     (ap (faults_after []) s.parts ∙ one_more lines (line ∷ later) line count script s later (Some kind) (ap fault_in faulty.2 ∙ ap (λ k. Some k) same)))
-stops lines later line count script new kind s (inl wants) =
-    inr (record {
-      kind = wants.2.0;
-      before = s.before;
-      line = line;
-      later = later;
-      parts = s.parts;
-      at = ap (λ k. k + 1) (sym s.counted);
-      faultless = s.faultless;
-      said = wants.0;
-      says = ap (λ es. line_says (count + 1) (last_time es) line) (sym s.timed) ∙ wants.1;
-      kept = wants.2.1;
-    })
+stops lines later line count script new kind s (inl wants) = inr (record {
+  kind = wants.2.0;
+  before = s.before;
+  line = line;
+  later = later;
+  parts = s.parts;
+  at = ap (λ k. k + 1) (sym s.counted);
+  faultless = s.faultless;
+  said = wants.0;
+  says = ap (λ es. line_says (count + 1) (last_time es) line) (sym s.timed) ∙ wants.1;
+  kept = wants.2.1;
+})
 
 -- no line has a number above the limit
 pub few : (number : ℕ) (line : List ℕ) (old new : Script) → Adds number line old new (Ok tt) → number ≤ 65536

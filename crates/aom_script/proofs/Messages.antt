@@ -29,7 +29,8 @@ short time client (a ∷ b ∷ c ∷ []) none = refl
 short time client (a ∷ b ∷ c ∷ d ∷ []) none = refl
 short time client (a ∷ b ∷ c ∷ d ∷ e ∷ ws) none = cc
 
-long : (time client : List ℕ) (ws : List (List ℕ)) → is_none_left (others_of (others_of (others_of (others_of (others_of ws))))) ≡ false → Err BadLine ≡ message_says time client ws
+long : (time client : List ℕ) (ws : List (List ℕ)) → is_none_left (others_of (others_of (others_of (others_of (others_of ws))))) ≡ false →
+    Err BadLine ≡ message_says time client ws
 long time client [] some = cc
 long time client (a ∷ []) some = cc
 long time client (a ∷ b ∷ []) some = cc
@@ -40,7 +41,8 @@ long time client (a ∷ b ∷ c ∷ d ∷ e ∷ f ∷ ws) some = refl
 
 -- what a message of these words says
 abbrev pub says_of : (time client f a b d e : List ℕ) → Result Reading ScriptFaultKind
-says_of time client f a b d e = command_numbers (number_of time) (number_of client) (message_numbers (number_of f) (number_of a) (number_of b) (number_of d) (number_of e))
+says_of time client f a b d e =
+    command_numbers (number_of time) (number_of client) (message_numbers (number_of f) (number_of a) (number_of b) (number_of d) (number_of e))
 
 five : (time client f a b d e : List ℕ) (ws : List (List ℕ)) → Some f ≡ first_of ws → Some a ≡ first_of (others_of ws) → Some b ≡ first_of (others_of
     (others_of ws)) → Some d ≡ first_of (others_of (others_of (others_of ws))) → Some e ≡ first_of (others_of (others_of (others_of (others_of ws)))) →
@@ -53,7 +55,8 @@ five time client f a b d e (v ∷ w ∷ x ∷ y ∷ []) f_is a_is b_is d_is e_is
 five time client f a b d e (v ∷ w ∷ x ∷ y ∷ z ∷ []) f_is a_is b_is d_is e_is none = cc
 five time client f a b d e (v ∷ w ∷ x ∷ y ∷ z ∷ more ∷ ws) f_is a_is b_is d_is e_is none = cc
 
-module _ (time client : List ℕ) (ws ws₁ ws₂ ws₃ ws₄ : List (List ℕ)) (one : ws₁ ≡ others_of ws) (two : ws₂ ≡ others_of ws₁) (three : ws₃ ≡ others_of ws₂) (four : ws₄ ≡ others_of ws₃) where
+module _ (time client : List ℕ) (ws ws₁ ws₂ ws₃ ws₄ : List (List ℕ)) (one : ws₁ ≡ others_of ws) (two : ws₂ ≡ others_of ws₁) (three : ws₃ ≡ others_of ws₂)
+    (four : ws₄ ≡ others_of ws₃) where
   four_on : ws₄ ≡ others_of (others_of (others_of (others_of ws)))
   four_on = four ∙ ap others_of (three ∙ ap others_of (two ∙ ap others_of one))
 

@@ -37,7 +37,8 @@ not_below : (last : ℕ) (n : Number) → number_below last n ≡ false → last
 not_below last n c = search (rules, tests, c)
 
 -- what both make, of two numbers in their ranges
-made : {A B C : Type 0} (P : C → Type 0) (make : A → B → C) (a : Option A) (b : Option B) (e : C) → ((x : A) (y : B) → a ≡ Some x → b ≡ Some y → P (make x y)) → both make a b ≡ Some e → P e
+made : {A B C : Type 0} (P : C → Type 0) (make : A → B → C) (a : Option A) (b : Option B) (e : C) → ((x : A) (y : B) → a ≡ Some x → b ≡ Some y → P (make x y)) →
+    both make a b ≡ Some e → P e
 made x make y b e holds is = grind arith
 
 mapped : {A C : Type 0} (P : C → Type 0) (make : A → C) (a : Option A) (e : C) → ((x : A) → a ≡ Some x → P (make x)) → option_map make a ≡ Some e → P e
@@ -50,7 +51,8 @@ send_fits : (a b c d e : Option ℤ) (command : ClientCommand) → send_of a b c
 send_fits a b c d e command is = grind arith
 
 slots_fit : (numbers : CommandNumbers) (command : ClientCommand) → command_within numbers ≡ Some command → SlotsFit command
-slots_fit (ToConnect class slots) command is = made SlotsFit Connect (number_within 0 255 class) (number_within 0 64 slots) command (λ k n at few. (in_range 0 64 slots n few).1) is
+slots_fit (ToConnect class slots) command is =
+    made SlotsFit Connect (number_within 0 255 class) (number_within 0 64 slots) command (λ k n at few. (in_range 0 64 slots n few).1) is
 slots_fit (ToSend a b c d e) command is = send_fits (number_signed a) (number_signed b) (number_signed c) (number_signed d) (number_signed e) command is
 slots_fit ToClose command is = let same : Close ≡ command = cc in subst SlotsFit same tt
 slots_fit ToDie command is = let same : Die ≡ command = cc in subst SlotsFit same tt
@@ -98,10 +100,10 @@ fits last (At time event) said on_time is = timed_fits last time event said on_t
 -- ---- all lines
 
 -- the last time, with one line more
-time_on : (before : List (List ℕ)) (line : List ℕ) → last_time (timed_in (before ++ line ∷ [])) ≡ time_after (last_time (timed_in before)) (timed_by (said_in (reading_of line)))
-time_on before line =
-    ap last_time (flat_map-append (λ l. timed_by (said_in (reading_of l))) before (line ∷ []) ∙ ap (λ es. timed_in before ++ es) (append-nil (timed_by (said_in (reading_of line)))))
-    ∙ fold-append (λ earlier event. event.time) 0 (timed_in before) (timed_by (said_in (reading_of line)))
+time_on : (before : List (List ℕ)) (line : List ℕ) →
+    last_time (timed_in (before ++ line ∷ [])) ≡ time_after (last_time (timed_in before)) (timed_by (said_in (reading_of line)))
+time_on before line = ap last_time (flat_map-append (λ l. timed_by (said_in (reading_of l))) before (line ∷ []) ∙ ap (λ es. timed_in before ++ es)
+    (append-nil (timed_by (said_in (reading_of line))))) ∙ fold-append (λ earlier event. event.time) 0 (timed_in before) (timed_by (said_in (reading_of line)))
 
 -- some events rise from that time on, and are in their ranges
 pub record Are (time : ℕ) (events : List TimedEvent) : Type 0 where
@@ -124,7 +126,8 @@ timely_after before (line ∷ lines) e = go (line_says (length before + 1) (last
       in_line (length before + 1) (fault_in said) ++ faults_after (before ++ line ∷ []) lines ≡ [] → Are (last_time (timed_in before)) (timed_in (line ∷ lines))
   go (Ok said) rest says e =
       let later = subst (λ t. Are t (timed_in lines)) (time_on before line) (rest e) in
-      added (last_time (timed_in before)) (reading_of line) said (length before + 1) (timed_in lines) (is_said (length before + 1) (last_time (timed_in before)) (reading_of line) said says) later
+      added (last_time (timed_in before)) (reading_of line) said (length before + 1) (timed_in lines)
+      (is_said (length before + 1) (last_time (timed_in before)) (reading_of line) said says) later
   go (Err kind) rest says e = absurd cc
 
 -- where a script is denoted no line is faulty

@@ -62,9 +62,8 @@ services = record { of = λ c. c.service; first = λ c cs n. refl }
 module _ {change : List Cell → List Cell} (a : Alters change) where
   module _ {A : Type 0} {read : List Cell → ℕ → A} (r : Reads read) where
     -- what the change makes of the first cell of that name, or of what is read where none has it
-    pub read_so :
-        (n : ℕ) (becomes : A → A) (cs : List Cell) → ((c : Cell) → (c.object.name == n) ≡ true → named cs n ≡ Some c.object → r.of (a.each c) ≡ becomes (r.of c)) →
-        (named cs n ≡ None → read [] n ≡ becomes (read [] n)) → read (change cs) n ≡ becomes (read cs n)
+    pub read_so : (n : ℕ) (becomes : A → A) (cs : List Cell) → ((c : Cell) → (c.object.name == n) ≡ true → named cs n ≡ Some c.object →
+        r.of (a.each c) ≡ becomes (r.of c)) → (named cs n ≡ None → read [] n ≡ becomes (read [] n)) → read (change cs) n ≡ becomes (read cs n)
     read_so n becomes [] so nothing = ap (λ l. read l n) a.none ∙ nothing refl
     read_so n becomes (c ∷ cs) so nothing =
         ap (λ l. read l n) (a.some c cs) ∙ r.first (a.each c) (change cs) n ∙ ap (λ o. cond (o.name == n) (r.of (a.each c)) (read (change cs) n)) (a.object c)

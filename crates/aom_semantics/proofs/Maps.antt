@@ -58,8 +58,7 @@ held_moved (c ∷ cs) p q r free =
     let f = front_free _ _ _ free in
     first (same_place c.owner p) refl f.0 (held_moved cs p q r f.1)
   where
-    second :
-        (x y z : Bool) → same_place c.owner p ≡ false → same_place c.owner q ≡ false → same_place c.owner r ≡ x → same_place q r ≡ y → same_place p r ≡ z →
+    second : (x y z : Bool) → same_place c.owner p ≡ false → same_place c.owner q ≡ false → same_place c.owner r ≡ x → same_place q r ≡ y → same_place p r ≡ z →
         held (moved p q cs) r ≡ cond y (held cs p) (cond z None (held cs r)) →
         cond x (Some c.object) (held (moved p q cs) r) ≡ cond y (held cs p) (cond z None (cond x (Some c.object) (held cs r)))
     second false y z np nq e f g ih = ih
@@ -67,15 +66,13 @@ held_moved (c ∷ cs) p q r free =
     second true true z np nq e f g ih = absurd (true≢false (sym (same_place_along c.owner r q e ∙ same_place_comm r q ∙ f) ∙ nq))
     second true false true np nq e f g ih = absurd (true≢false (sym (same_place_along c.owner r p e ∙ same_place_comm r p ∙ g) ∙ np))
 
-    third :
-        (y z : Bool) → same_place c.owner r ≡ z → held (moved p q cs) r ≡ cond y (held cs p) (cond z None (held cs r)) →
+    third : (y z : Bool) → same_place c.owner r ≡ z → held (moved p q cs) r ≡ cond y (held cs p) (cond z None (held cs r)) →
         cond y (Some c.object) (held (moved p q cs) r) ≡ cond y (Some c.object) (cond z None (cond (same_place c.owner r) (Some c.object) (held cs r)))
     third true z e ih = refl
     third false true e ih = ih
     third false false e ih = ih ∙ sym (ap (λ b. cond b (Some c.object) (held cs r)) e)
 
-    first :
-        (b : Bool) → same_place c.owner p ≡ b → same_place c.owner q ≡ false → held (moved p q cs) r ≡ transfer p q (held cs) r →
+    first : (b : Bool) → same_place c.owner p ≡ b → same_place c.owner q ≡ false → held (moved p q cs) r ≡ transfer p q (held cs) r →
         cond (same_place (cond b q c.owner) r) (Some c.object) (held (moved p q cs) r)
         ≡ cond (same_place q r) (cond b (Some c.object) (held cs p)) (cond (same_place p r) None (cond (same_place c.owner r) (Some c.object) (held cs r)))
     first true e nq ih = third (same_place q r) (same_place p r) (same_place_along c.owner p r e) ih
@@ -94,11 +91,12 @@ tidy_moved (c ∷ cs) p q free t =
     (own (same_place c.owner p) refl f.0 f.1, named_moved cs p q c.object.name ∙ t.1, tidy_moved cs p q f.1 t.2)
   where
     rest : (r : Place) → held cs q ≡ None → same_place q r ≡ false → held cs r ≡ None → held (moved p q cs) r ≡ None
-    rest r free e h = held_moved cs p q r free ∙ ap (λ b. cond b (held cs p) (cond (same_place p r) None (held cs r))) e ∙ ap (λ x. cond (same_place p r) None x) h ∙ cond_same (same_place p r) None
+    rest r free e h = held_moved cs p q r free ∙ ap (λ b. cond b (held cs p) (cond (same_place p r) None (held cs r))) e
+        ∙ ap (λ x. cond (same_place p r) None x) h ∙ cond_same (same_place p r) None
 
     own : (b : Bool) → same_place c.owner p ≡ b → same_place c.owner q ≡ false → held cs q ≡ None → held (moved p q cs) (cond b q c.owner) ≡ None
-    own true e nq free =
-        held_moved cs p q q free ∙ ap (λ b. cond b (held cs p) (cond (same_place p q) None (held cs q))) (same_place_refl q) ∙ ap (λ r. held cs r) (sym (same_place-true c.owner p e)) ∙ t.0
+    own true e nq free = held_moved cs p q q free ∙ ap (λ b. cond b (held cs p) (cond (same_place p q) None (held cs q))) (same_place_refl q)
+        ∙ ap (λ r. held cs r) (sym (same_place-true c.owner p e)) ∙ t.0
     own false e nq free = rest c.owner free (same_place_comm q c.owner ∙ nq) t.0
 
 -- a list written at one place
@@ -128,9 +126,8 @@ abbrev pub of_name : (n : ℕ) → Finds (λ cs. named cs n)
 of_name n = record { test = λ c. c.object.name == n; of = λ c. c.object; none = refl; some = λ c cs. refl }
 
 -- what holds where it is found at the front, and where it is found further on, holds
-pub found :
-    {A : Type 0} {find : List Cell → Option A} (f : Finds find) (x : A) (P : List Cell → Type 0) → ((c : Cell) (cs : List Cell) → f.test c ≡ true → f.of c ≡ x → P (c ∷ cs)) →
-    ((c : Cell) (cs : List Cell) → f.test c ≡ false → find cs ≡ Some x → P cs → P (c ∷ cs)) → (cs : List Cell) → find cs ≡ Some x → P cs
+pub found : {A : Type 0} {find : List Cell → Option A} (f : Finds find) (x : A) (P : List Cell → Type 0) → ((c : Cell) (cs : List Cell) → f.test c ≡ true → f.of
+    c ≡ x → P (c ∷ cs)) → ((c : Cell) (cs : List Cell) → f.test c ≡ false → find cs ≡ Some x → P cs → P (c ∷ cs)) → (cs : List Cell) → find cs ≡ Some x → P cs
 found f x P front further [] e = let clash : Some x ≡ None = sym e ∙ f.none in cc
 found {find = find} f x P front further (c ∷ cs) e = go (f.test c) refl (sym (f.some c cs) ∙ e) (found f x P front further cs)
   where
@@ -146,19 +143,18 @@ named_front c cs o is = grind (arith, nat_tests, eq-eqb c.object.name o.name)
 
 -- a cell stands in one place
 pub held_named : (cs : List Cell) (p : Place) (o : Object) → held cs p ≡ Some o → named cs o.name ≡ None → ⊥
-held_named cs p o = found (in_place p) o (λ cs. named cs o.name ≡ None → ⊥)
-    (λ c cs at is n. none-some _ (sym n ∙ named_front c cs o is))
+held_named cs p o = found (in_place p) o (λ cs. named cs o.name ≡ None → ⊥) (λ c cs at is n. none-some _ (sym n ∙ named_front c cs o is))
     (λ c cs other e rest n. rest (front_free _ _ _ n).1) cs
 
 pub one_place : (cs : List Cell) (p q : Place) (o x : Object) → Tidy cs → held cs p ≡ Some o → held cs q ≡ Some x → o.name ≡ x.name → p ≡ q
-one_place cs p q o x t e f n = found (in_place p) o (λ cs. Tidy cs → held cs q ≡ Some x → p ≡ q) (λ c cs at is t f. ⊎_elim (λ h. sym (same_place-true
-    c.owner p at) ∙ h.0) (λ h. absurd (held_named cs q x h (ap (λ k. named cs k) (sym n ∙ sym (ap (λ y. y.name) is)) ∙ t.1))) (held_front c cs q x f))
-    (λ c cs other e rest t f. ⊎_elim (λ h. absurd (held_named cs p o e (ap (λ k. named cs k) (n ∙ sym (ap (λ y. y.name) h.1)) ∙ t.1))) (λ h. rest t.2 h) (held_front c cs q x f)) cs e t f
+one_place cs p q o x t e f n =
+    found (in_place p) o (λ cs. Tidy cs → held cs q ≡ Some x → p ≡ q) (λ c cs at is t f. ⊎_elim (λ h. sym (same_place-true c.owner p at) ∙ h.0)
+    (λ h. absurd (held_named cs q x h (ap (λ k. named cs k) (sym n ∙ sym (ap (λ y. y.name) is)) ∙ t.1))) (held_front c cs q x f)) (λ c cs other e rest t f.
+    ⊎_elim (λ h. absurd (held_named cs p o e (ap (λ k. named cs k) (n ∙ sym (ap (λ y. y.name) h.1)) ∙ t.1))) (λ h. rest t.2 h) (held_front c cs q x f)) cs e t f
 
 -- what is held is there under its name
 pub held_lives : (cs : List Cell) (p : Place) (o : Object) → Tidy cs → held cs p ≡ Some o → named cs o.name ≡ Some o
-held_lives cs p o t e = found (in_place p) o (λ cs. Tidy cs → named cs o.name ≡ Some o)
-    (λ c cs at is t. named_front c cs o is)
+held_lives cs p o t e = found (in_place p) o (λ cs. Tidy cs → named cs o.name ≡ Some o) (λ c cs at is t. named_front c cs o is)
     (λ c cs other e rest t. ap (λ b. cond b (Some c.object) (named cs o.name)) (apart c cs e t) ∙ rest t.2) cs e t
   where
     apart : (c : Cell) (cs : List Cell) → held cs p ≡ Some o → Tidy (c ∷ cs) → (c.object.name == o.name) ≡ false
@@ -166,7 +162,8 @@ held_lives cs p o t e = found (in_place p) o (λ cs. Tidy cs → named cs o.name
 
 -- the cell of a name has that name
 pub named_name : (cs : List Cell) (n : ℕ) (o : Object) → named cs n ≡ Some o → o.name ≡ n
-named_name cs n o = found (of_name n) o (λ cs. o.name ≡ n) (λ c cs at is. ap (λ (x : Object). x.name) (sym is) ∙ eqb-true c.object.name n at) (λ c cs other e rest. rest) cs
+named_name cs n o = found (of_name n) o (λ cs. o.name ≡ n) (λ c cs at is. ap (λ (x : Object). x.name) (sym is) ∙ eqb-true c.object.name n at)
+    (λ c cs other e rest. rest) cs
 
 -- what goes
 pub without_none : (cs : List Cell) (g : Place) → held cs g ≡ None → without g cs ≡ cs
@@ -186,7 +183,8 @@ read_without {read = read} r (c ∷ cs) g o n t e d = grind (arith, nat_tests, r
 pub named_without : (cs : List Cell) (g : Place) (o : Object) (n : ℕ) → Tidy cs → held cs g ≡ Some o → (o.name == n) ≡ false → named (without g cs) n ≡ named cs n
 named_without = read_without names
 
-pub requested_without : (cs : List Cell) (g : Place) (o : Object) (n : ℕ) → Tidy cs → held cs g ≡ Some o → (o.name == n) ≡ false → requested (without g cs) n ≡ requested cs n
+pub requested_without : (cs : List Cell) (g : Place) (o : Object) (n : ℕ) → Tidy cs → held cs g ≡ Some o → (o.name == n) ≡ false →
+    requested (without g cs) n ≡ requested cs n
 requested_without = read_without requests
 
 named_gone : (cs : List Cell) (g : Place) (n : ℕ) → named cs n ≡ None → named (without g cs) n ≡ None
@@ -197,8 +195,8 @@ named_gone (c ∷ cs) g n e = grind (arith, nat_tests, front_free, named_gone cs
 pub unnamed : (cs : List Cell) (g : Place) (o : Object) → Tidy cs → held cs g ≡ Some o → named (without g cs) o.name ≡ None
 unnamed cs g o t e = found (in_place g) o (λ cs. Tidy cs → named (without g cs) o.name ≡ None)
     (λ c cs at is t. ap (λ b. named (cond b (without g cs) (c ∷ without g cs)) o.name) at ∙ named_gone cs g o.name (ap (λ x. named cs x.name) (sym is) ∙ t.1))
-    (λ c cs other e rest t. ap (λ b. named (cond b (without g cs) (c ∷ without g cs)) o.name) other
-    ∙ ap (λ b. cond b (Some c.object) (named (without g cs) o.name)) (ne_eqb c.object.name o.name (λ s. held_named cs g o e (ap (λ k. named cs k) (sym s) ∙ t.1))) ∙ rest t.2) cs e t
+    (λ c cs other e rest t. ap (λ b. named (cond b (without g cs) (c ∷ without g cs)) o.name) other ∙ ap (λ b. cond b (Some c.object)
+    (named (without g cs) o.name)) (ne_eqb c.object.name o.name (λ s. held_named cs g o e (ap (λ k. named cs k) (sym s) ∙ t.1))) ∙ rest t.2) cs e t
 
 -- of what is not there nothing is read
 pub read_unnamed : {A : Type 0} {read : List Cell → ℕ → A} (r : Reads read) (cs : List Cell) (n : ℕ) → named cs n ≡ None → read cs n ≡ read [] n

@@ -65,26 +65,26 @@ no_answer w none = (λ p refused name refuses s opened. none opened.answer, λ p
 
 pub native_needs_fail : NativeNeedsFail
 unfolding class_at gives_in instr_in kind_in kind_of method_at descends_in parent_in
-native_needs_fail =
-    record {
-      connects = refl;
-      asks = refl;
-      closes = refl;
-      connected = (refl, (refl, (refl, (refl, (refl, (refl, tt))))));
-      asked = (refl, (refl, (refl, (refl, (refl, tt)))));
-      issued = (refl, (refl, (refl, (refl, (refl, (refl, tt))))));
-      closed = (refl, (refl, (refl, tt)));
-      words = (sfits_lit tt, sfits_lit tt);
-      more = no_answer (pos 2147483648) (λ fits. grind (arith, ints, fits));
-      less = no_answer (negsuc 2147483648) (λ fits. grind (arith, ints, fits));
-    }
+native_needs_fail = record {
+  connects = refl;
+  asks = refl;
+  closes = refl;
+  connected = (refl, (refl, (refl, (refl, (refl, (refl, tt))))));
+  asked = (refl, (refl, (refl, (refl, (refl, tt)))));
+  issued = (refl, (refl, (refl, (refl, (refl, (refl, tt))))));
+  closed = (refl, (refl, (refl, tt)));
+  words = (sfits_lit tt, sfits_lit tt);
+  more = no_answer (pos 2147483648) (λ fits. grind (arith, ints, fits));
+  less = no_answer (negsuc 2147483648) (λ fits. grind (arith, ints, fits));
+}
 
 pub move_needs_fail : MoveNeedsFail
 unfolding is_role role_number kind_of sessions_in sessions_of class_at class_in fields_in gives_in instr_in method_at role_in descends_in parent_in
 move_needs_fail = record { going = refl; unwinding = refl; arrival = refl; traps = refl; standing = refl }
 
 pub server_needs_fail : ServerNeedsFail
-unfolding is_role role_number role_of own_role keeper_in plays kind_of kind_in sessions_in sessions_of class_at class_in fields_in gives_in instr_in method_at role_in descends_in parent_in
+unfolding is_role role_number role_of own_role keeper_in plays kind_of kind_in sessions_in sessions_of class_at class_in fields_in gives_in instr_in method_at
+    role_in descends_in parent_in
 server_needs_fail = record {
   taking = refl;
   replying = refl;
@@ -97,37 +97,35 @@ server_needs_fail = record {
 }
 
 pub turn_needs_fail : TurnNeedsFail
-turn_needs_fail =
-    record {
-      signals = (refl, (refl, (refl, (refl, (refl, (refl, (refl, (refl, tt))))))));
-      counts = (refl, refl, (refl, refl, (refl, refl, (refl, refl, (refl, refl, (refl, refl, tt))))));
-      picks = (refl, (refl, (refl, (refl, (refl, tt)))));
-      timers = (refl, (refl, (refl, (refl, (refl, (refl, tt))))));
-      stray = refl;
-    }
+turn_needs_fail = record {
+  signals = (refl, (refl, (refl, (refl, (refl, (refl, (refl, (refl, tt))))))));
+  counts = (refl, refl, (refl, refl, (refl, refl, (refl, refl, (refl, refl, (refl, refl, tt))))));
+  picks = (refl, (refl, (refl, (refl, (refl, tt)))));
+  timers = (refl, (refl, (refl, (refl, (refl, (refl, tt))))));
+  stray = refl;
+}
 
 pub event_needs_fail : EventNeedsFail
 unfolding class_at kind_in kind_of descends_in parent_in
-event_needs_fail =
-    record {
-      events = (refl, (refl, (refl, (refl, (refl, (refl, (refl, (refl, tt))))))));
-      polls = (refl, (refl, (refl, (refl, (refl, tt)))));
-      times = (refl, (refl, (refl, (refl, tt))));
-      kills = (refl, refl, (refl, refl, (refl, refl, (refl, refl, (refl, refl, (refl, refl, tt))))));
-      completions = (refl, refl, (refl, refl, (refl, refl, (refl, refl, (refl, refl, (refl, refl, (refl, refl, (refl, refl, tt))))))));
-    }
+event_needs_fail = record {
+  events = (refl, (refl, (refl, (refl, (refl, (refl, (refl, (refl, tt))))))));
+  polls = (refl, (refl, (refl, (refl, (refl, tt)))));
+  times = (refl, (refl, (refl, (refl, tt))));
+  kills = (refl, refl, (refl, refl, (refl, refl, (refl, refl, (refl, refl, (refl, refl, tt))))));
+  completions = (refl, refl, (refl, refl, (refl, refl, (refl, refl, (refl, refl, (refl, refl, (refl, refl, (refl, refl, tt))))))));
+}
 
 pub moves_leave : MovesLeave
-unfolding is_role role_number role_of own_role keeper_in plays kind_of kind_in sessions_in sessions_of class_at class_in fields_in gives_in instr_in method_at role_in words_in descends_in parent_in
-moves_leave =
-    record {
-      boot = refl;
-      popdel = (refl, refl);
-      leave = (refl, refl);
-      last_first = (refl, refl);
-      queue = (refl, refl);
-      service = (refl, refl);
-      abort = refl;
-      reply = refl;
-      hand = refl;
-    }
+unfolding is_role role_number role_of own_role keeper_in plays kind_of kind_in sessions_in sessions_of class_at class_in fields_in gives_in instr_in method_at
+    role_in words_in descends_in parent_in
+moves_leave = record {
+  boot = refl;
+  popdel = (refl, refl);
+  leave = (refl, refl);
+  last_first = (refl, refl);
+  queue = (refl, refl);
+  service = (refl, refl);
+  abort = refl;
+  reply = refl;
+  hand = refl;
+}

@@ -20,26 +20,25 @@ shown = tt
 
 pub servers_run : ServersRun
 unfolding shown
-servers_run =
-    record {
-      leaves = refl;
-      slots = refl;
-      refused = refl;
-      closes = refl;
-      stops = refl;
-      dies = refl;
-      lives = refl;
-      completed = refl;
-      untaken = refl;
-      lost = refl;
-      goes = refl;
-      declined = refl;
-      accepted = refl;
-      places = refl;
-      withdrawn = refl;
-      deleted = refl;
-      first = refl;
-    }
+servers_run = record {
+  leaves = refl;
+  slots = refl;
+  refused = refl;
+  closes = refl;
+  stops = refl;
+  dies = refl;
+  lives = refl;
+  completed = refl;
+  untaken = refl;
+  lost = refl;
+  goes = refl;
+  declined = refl;
+  accepted = refl;
+  places = refl;
+  withdrawn = refl;
+  deleted = refl;
+  first = refl;
+}
 
 pub overriders_run : OverridersRun
 unfolding shown

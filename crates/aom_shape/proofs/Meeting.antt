@@ -63,7 +63,8 @@ met_more a b m i x y r h within la lb e = record {
   ];
 }
 
-pub met_none : (a b : List Kind) (i : ℕ) (x y : Kind) → i < 16 → length a ≡ 16 → length b ≡ 16 → meet_kind (slice_index_or a i x) (slice_index_or b i y) ≡ None → Unmet a b
+pub met_none : (a b : List Kind) (i : ℕ) (x y : Kind) → i < 16 → length a ≡ 16 → length b ≡ 16 →
+    meet_kind (slice_index_or a i x) (slice_index_or b i y) ≡ None → Unmet a b
 met_none a b i x y within la lb e = record {
   place = i;
   none = rw (← at_within Unset x a i (omega arith), ← at_within Unset y b i (omega arith)) e;
@@ -101,18 +102,18 @@ filling_strongest : (x y n : Filling) → WeakerFilling n x → WeakerFilling n 
 filling_strongest x y n h k = fillings_tested n (meet_filling x y) (both_fillings_pass x y n (fillings_test n x h) (fillings_test n y k))
 
 met_everywhere : (a b m : List Kind) → length a ≡ 16 → length b ≡ 16 → Met a b m 16 → (i : ℕ) → IsMeetKind (at Unset m i) (at Unset a i) (at Unset b i)
-met_everywhere a b m la lb h i =
-    elim (leb_tells 16 i) [
-      | inr w ↦ meet_found (at Unset a i) (at Unset b i) (at Unset m i) (h.each i w.1)
-      | inl w ↦ rw (at_past Unset a i (omega (arith, w.1)), at_past Unset b i (omega (arith, w.1)), at_past Unset m i (omega (arith, w.1, h.size))) (meet_found Unset Unset Unset refl)
-    ]
+met_everywhere a b m la lb h i = elim (leb_tells 16 i) [
+  | inr w ↦ meet_found (at Unset a i) (at Unset b i) (at Unset m i) (h.each i w.1)
+  | inl w ↦ rw (at_past Unset a i (omega (arith, w.1)), at_past Unset b i (omega (arith, w.1)), at_past Unset m i (omega (arith, w.1, h.size)))
+      (meet_found Unset Unset Unset refl)
+]
 
-fillings_everywhere : (a b m : List Filling) → length a ≡ 8 → length b ≡ 8 → MetFillings a b m 8 → (i : ℕ) → at Perhaps m i ≡ meet_filling (at Perhaps a i) (at Perhaps b i)
-fillings_everywhere a b m la lb h i =
-    elim (leb_tells 8 i) [
-      | inr w ↦ h.each i w.1
-      | inl w ↦ rw (at_past Perhaps a i (omega (arith, w.1)), at_past Perhaps m i (omega (arith, w.1, h.size)))
-    ]
+fillings_everywhere : (a b m : List Filling) → length a ≡ 8 → length b ≡ 8 → MetFillings a b m 8 →
+    (i : ℕ) → at Perhaps m i ≡ meet_filling (at Perhaps a i) (at Perhaps b i)
+fillings_everywhere a b m la lb h i = elim (leb_tells 8 i) [
+  | inr w ↦ h.each i w.1
+  | inl w ↦ rw (at_past Perhaps a i (omega (arith, w.1)), at_past Perhaps m i (omega (arith, w.1, h.size)))
+]
 
 -- a state of the meets is the meet
 pub met : (a b m : Shape) → length a.registers ≡ 16 → length b.registers ≡ 16 →
@@ -143,18 +144,18 @@ unmet a b h = (
 )
 
 pub kinds_meet : (a b m : List Kind) → length a ≡ 16 → length b ≡ 16 → Met a b m 16 → ¬ Unmet a b
-kinds_meet a b m la lb h missing =
-    elim (leb_tells 16 missing.place) [
-      | inr w ↦ let found = h.each missing.place w.1 in let none = missing.none in cc
-      | inl w ↦ let none = rw (at_past Unset a missing.place (omega (arith, w.1)), at_past Unset b missing.place (omega (arith, w.1))) at missing.none in cc
-    ]
+kinds_meet a b m la lb h missing = elim (leb_tells 16 missing.place) [
+  | inr w ↦ let found = h.each missing.place w.1 in let none = missing.none in cc
+  | inl w ↦ let none = rw (at_past Unset a missing.place (omega (arith, w.1)), at_past Unset b missing.place (omega (arith, w.1))) at missing.none in cc
+]
 
 -- and where their entries differ nothing does either
 pub parted : (a b : Shape) → ¬ Unmet a.registers b.registers → a.entries ≢ b.entries → NoMeet a b × WhyNoMeet a b CleanupAtReturn
 parted a b meet differ = (record { none = λ n k l. differ (sym k.entries ∙ l.entries) }, by_entries meet differ)
 
 -- and where the message is gone in one alone
-pub not_together : (a b : Shape) → ¬ Unmet a.registers b.registers → a.entries ≡ b.entries → same_delivery a.delivery b.delivery ≡ false → NoMeet a b × WhyNoMeet a b MessageAtReturn
+pub not_together : (a b : Shape) → ¬ Unmet a.registers b.registers → a.entries ≡ b.entries → same_delivery a.delivery b.delivery ≡ false →
+    NoMeet a b × WhyNoMeet a b MessageAtReturn
 not_together a b meet same refused =
     let differ : a.delivery ≢ b.delivery = λ e. false≢true (sym refused ∙ rw (← e) (delivery_self a.delivery)) in
     (record { none = λ n k l. differ (sym k.delivery ∙ l.delivery) }, by_delivery meet same differ)

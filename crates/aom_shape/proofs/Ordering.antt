@@ -31,8 +31,10 @@ transitive a b c h k = record {
 }
 
 -- what a test on each two elements says of two lists, where both last
-module _ {X : Type 0} (test : X → X → Bool) (all : List X → List X → Bool) (none : X) (R : X → X → Type 0) (steps : (x y : X) (xs ys : List X) → all (x ∷ xs) (y ∷ ys) ≡ (test x y && all xs ys)) where
-  all_hold : ((x : X) → R x x) → ((x y : X) → test x y ≡ true → R x y) → (xs ys : List X) → length xs ≡ length ys → all xs ys ≡ true → (i : ℕ) → R (at none xs i) (at none ys i)
+module _ {X : Type 0} (test : X → X → Bool) (all : List X → List X → Bool) (none : X) (R : X → X → Type 0)
+    (steps : (x y : X) (xs ys : List X) → all (x ∷ xs) (y ∷ ys) ≡ (test x y && all xs ys)) where
+  all_hold : ((x : X) → R x x) → ((x y : X) → test x y ≡ true → R x y) → (xs ys : List X) → length xs ≡ length ys → all xs ys ≡ true → (i : ℕ) →
+      R (at none xs i) (at none ys i)
   all_hold itself each [] [] e h i = itself (at none [] i)
   all_hold itself each (x ∷ xs) (y ∷ ys) e h zero = each x y (and_parts (test x y) (all xs ys) (sym (steps x y xs ys) ∙ h)).0
   all_hold itself each (x ∷ xs) (y ∷ ys) e h (suc i) = all_hold itself each xs ys (omega arith) (and_parts (test x y) (all xs ys) (sym (steps x y xs ys) ∙ h)).1 i

@@ -43,7 +43,8 @@ extends_along a b c h k = record {
 }
 
 -- the pile with one more node on top
-pub pushed_stands : (nodes : List Node) (pile : Pile) (e : CleanupEntry) → Stands nodes pile → AllThere (suc pile.height) (nodes ++ record { entry = e; below = pile.top } ∷ []) (length nodes)
+pub pushed_stands : (nodes : List Node) (pile : Pile) (e : CleanupEntry) → Stands nodes pile →
+    AllThere (suc pile.height) (nodes ++ record { entry = e; below = pile.top } ∷ []) (length nodes)
 pushed_stands nodes pile e h =
     let x : Node = record { entry = e; below = pile.top } in (
       omega (arith, length-append nodes (x ∷ [])),
@@ -61,7 +62,8 @@ length_listed zero nodes top = refl
 length_listed (suc n) nodes top = ap suc (length_listed n nodes (node_at nodes top).below)
 
 -- what is below the last entry
-pub entry_below : (nodes : List Node) (top h n : ℕ) → 0 < h → 0 < n → slice_get (listed h nodes top) n ≡ slice_get (listed (h - 1) nodes (node_at nodes top).below) (n - 1)
+pub entry_below : (nodes : List Node) (top h n : ℕ) → 0 < h → 0 < n →
+    slice_get (listed h nodes top) n ≡ slice_get (listed (h - 1) nodes (node_at nodes top).below) (n - 1)
 entry_below nodes top (suc h) (suc n) some more =
     let e : suc h - 1 ≡ h = omega arith in
     let f : suc n - 1 ≡ n = omega arith in
@@ -85,10 +87,12 @@ pub below_there : (nodes : List Node) (top h : ℕ) → 0 < h → AllThere h nod
 below_there nodes top zero some there = absurd (omega arith)
 below_there nodes top (suc h) some there = let e : suc h - 1 ≡ h = omega arith in rw e there.1
 
-pub readied_here : (nodes : List Node) (top h n : ℕ) → 0 < h → n ≡ 0 → readied_at (listed h nodes top) n ≡ readied_entry (node_at nodes top).entry ∷ without_top (listed h nodes top)
+pub readied_here : (nodes : List Node) (top h n : ℕ) → 0 < h → n ≡ 0 →
+    readied_at (listed h nodes top) n ≡ readied_entry (node_at nodes top).entry ∷ without_top (listed h nodes top)
 readied_here nodes top zero n some none = absurd (omega arith)
 readied_here nodes top (suc h) n some none = rw none refl
 
-pub readied_below : (nodes : List Node) (top h n : ℕ) → 0 < h → 0 < n → readied_at (listed h nodes top) n ≡ (node_at nodes top).entry ∷ readied_at (without_top (listed h nodes top)) (n - 1)
+pub readied_below : (nodes : List Node) (top h n : ℕ) → 0 < h → 0 < n →
+    readied_at (listed h nodes top) n ≡ (node_at nodes top).entry ∷ readied_at (without_top (listed h nodes top)) (n - 1)
 readied_below nodes top (suc h) (suc n) some more = let f : suc n - 1 ≡ n = omega arith in rw f refl
 readied_below nodes top _ n some more = absurd (omega arith)

@@ -17,8 +17,7 @@ pub has_itself : (a : ℕ) → IsTrue (has a a)
 has_itself a = has_by a a (and_self a)
 
 pub has_along : (a b c : ℕ) → IsTrue (has a b) → IsTrue (has b c) → IsTrue (has a c)
-has_along a b c h k =
-    has_by a c (ap (bit_and a) (sym (shared b c k)) ∙ sym (and_assoc c a b) ∙ ap (λ x. bit_and x c) (shared a b h) ∙ shared b c k)
+has_along a b c h k = has_by a c (ap (bit_and a) (sym (shared b c k)) ∙ sym (and_assoc c a b) ∙ ap (λ x. bit_and x c) (shared a b h) ∙ shared b c k)
 
 -- the union of two sets has each, and a set that has both has it
 pub has_first : (a b : ℕ) → IsTrue (has (bit_or a b) a)

@@ -63,15 +63,16 @@ one_placed arguments kinds i x h within fits e =
       above = λ k above. rw (at_set_other Unset kinds i k kind (λ e. omega (arith, e))) (h.above k (omega arith));
     }
 
-pub all_placed : (arguments : List Argument) (kinds : List Kind) (n : ℕ) → Placed arguments kinds n → length arguments ≤ n → (k : ℕ) → at Unset kinds k ≡ at Unset (map argument_kind arguments) k
-all_placed arguments kinds n h ended k =
-    elim (leb_tells n k) [
-      | inl w ↦ rw (h.above k w.1, map_past arguments k (omega (arith, w.1)))
-      | inr w ↦ h.below k w.1
-    ]
+pub all_placed : (arguments : List Argument) (kinds : List Kind) (n : ℕ) → Placed arguments kinds n → length arguments ≤ n →
+    (k : ℕ) → at Unset kinds k ≡ at Unset (map argument_kind arguments) k
+all_placed arguments kinds n h ended k = elim (leb_tells n k) [
+  | inl w ↦ rw (h.above k w.1, map_past arguments k (omega (arith, w.1)))
+  | inr w ↦ h.below k w.1
+]
 
 -- two states that have the same everywhere say the same
-pub says_the_same : (a b : Shape) → ((i : ℕ) → register a i ≡ register b i) → a.fields ≡ b.fields → a.entries ≡ b.entries → a.states ≡ b.states → a.delivery ≡ b.delivery → SaysNoMore a b
+pub says_the_same : (a b : Shape) → ((i : ℕ) → register a i ≡ register b i) → a.fields ≡ b.fields → a.entries ≡ b.entries → a.states ≡ b.states →
+    a.delivery ≡ b.delivery → SaysNoMore a b
 says_the_same a b registers fields entries states delivery = record {
   registers = λ i. rw (registers i) alike;
   fields = λ i. let P : List Filling → Type 0 = λ fs. WeakerFilling (at Perhaps a.fields i) (at Perhaps fs i) in subst P fields alike_filling;

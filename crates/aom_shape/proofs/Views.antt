@@ -58,7 +58,8 @@ pub fields_none : (p : Image) (c i : ℕ) (xs : List ClassDecl) → xs ≡ p.cla
 unfolding fields_in
 fields_none p c i xs e f h = sym (ap fields_in (class_none p c i xs e f h))
 
-pub fields_some : (p : Image) (c i : ℕ) (xs : List ClassDecl) (d : ClassDecl) → xs ≡ p.classes → i ≡ c → i < length xs → d ≡ slice_index_or xs i d → d.fields ≡ fields_of p c
+pub fields_some : (p : Image) (c i : ℕ) (xs : List ClassDecl) (d : ClassDecl) → xs ≡ p.classes → i ≡ c → i < length xs → d ≡ slice_index_or xs i d →
+    d.fields ≡ fields_of p c
 unfolding fields_in
 fields_some p c i xs d e f h g = sym (ap fields_in (class_some p c i xs d e f h g))
 
@@ -66,6 +67,7 @@ pub words_none : (p : Image) (c i : ℕ) (xs : List ClassDecl) → xs ≡ p.clas
 unfolding words_in
 words_none p c i xs e f h = sym (ap words_in (class_none p c i xs e f h))
 
-pub words_some : (p : Image) (c i : ℕ) (xs : List ClassDecl) (d : ClassDecl) → xs ≡ p.classes → i ≡ c → i < length xs → d ≡ slice_index_or xs i d → d.words ≡ words_of p c
+pub words_some : (p : Image) (c i : ℕ) (xs : List ClassDecl) (d : ClassDecl) → xs ≡ p.classes → i ≡ c → i < length xs →
+    d ≡ slice_index_or xs i d → d.words ≡ words_of p c
 unfolding words_in
 words_some p c i xs d e f h g = sym (ap words_in (class_some p c i xs d e f h g))

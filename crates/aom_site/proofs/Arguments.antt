@@ -29,19 +29,20 @@ needs_one p sh xs first i x within e =
 pub needs_passed : (p : Image) (sh : Shape) (xs : List Argument) (first i : ℕ) (x : Argument) (u : Unit {0}) →
     i < length xs → x ≡ slice_index_or xs i x → tested (argument_needs p x (register sh (first + i))) ≡ Ok u →
     tested (each_argument p sh (drop i xs) (first + i)) ≡ tested (each_argument p sh (drop (i + 1) xs) (first + (i + 1)))
-needs_passed p sh xs first i x u within e passed =
-    ap tested (needs_one p sh xs first i x within e) ∙ passed_first (argument_needs p x (register sh (first + i))) (each_argument p sh (drop (i + 1) xs) (first + (i + 1))) tt u tt passed
+needs_passed p sh xs first i x u within e passed = ap tested (needs_one p sh xs first i x within e)
+    ∙ passed_first (argument_needs p x (register sh (first + i))) (each_argument p sh (drop (i + 1) xs) (first + (i + 1))) tt u tt passed
 
 pub needs_failed : (p : Image) (sh : Shape) (xs : List Argument) (first i : ℕ) (x : Argument) (w : Why) → i < length xs →
     x ≡ slice_index_or xs i x → tested (argument_needs p x (register sh (first + i))) ≡ Err w → tested (each_argument p sh (drop i xs) (first + i)) ≡ Err w
-needs_failed p sh xs first i x w within e failed =
-    ap tested (needs_one p sh xs first i x within e) ∙ failed_first (argument_needs p x (register sh (first + i))) (each_argument p sh (drop (i + 1) xs) (first + (i + 1))) tt tt w failed
+needs_failed p sh xs first i x w within e failed = ap tested (needs_one p sh xs first i x within e)
+    ∙ failed_first (argument_needs p x (register sh (first + i))) (each_argument p sh (drop (i + 1) xs) (first + (i + 1))) tt tt w failed
 
 pub needs_done : (p : Image) (sh : Shape) (xs : List Argument) (i n : ℕ) → length xs ≤ i → tested (each_argument p sh (drop i xs) n) ≡ Ok tt
 needs_done p sh xs i n ended = ap (λ (l : List Argument). tested (each_argument p sh l n)) (drop_of_length-le xs ended)
 
 -- the last argument is within the registers, or past them
-pub rule_within : (p : Image) (sh : Shape) (xs : List Argument) (first : ℕ) → first + length xs ≤ 16 → tested (rule_arguments p sh xs first) ≡ tested (each_argument p sh xs first)
+pub rule_within : (p : Image) (sh : Shape) (xs : List Argument) (first : ℕ) → first + length xs ≤ 16 →
+    tested (rule_arguments p sh xs first) ≡ tested (each_argument p sh xs first)
 rule_within p sh xs first h = ap (λ b. cond b (tested (each_argument p sh xs first)) (Err RegisterKind)) (le-leb (first + length xs) 16 h)
 
 pub rule_past : (p : Image) (sh : Shape) (xs : List Argument) (first : ℕ) → 16 < first + length xs → tested (rule_arguments p sh xs first) ≡ Err RegisterKind

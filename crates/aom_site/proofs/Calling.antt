@@ -33,11 +33,10 @@ arguments_leave (x ∷ xs) first sh = arguments_leave xs (suc first) (argument_m
 -- what passes is what was to pass
 passed_is : {A : Type 0} (xs : List Need) (a z : A) → judged xs a ≡ Ok z → a ≡ z
 passed_is [] a z e = cc
-passed_is {A = A} (x ∷ xs) a z e =
-    elim x.0 as (λ t. cond t (judged xs a) (Err x.1) ≡ Ok z → a ≡ z) [
-      | true ↦ λ e. passed_is xs a z e
-      | false ↦ λ e. absurd cc
-    ] e
+passed_is {A = A} (x ∷ xs) a z e = elim x.0 as (λ t. cond t (judged xs a) (Err x.1) ≡ Ok z → a ≡ z) [
+  | true ↦ λ e. passed_is xs a z e
+  | false ↦ λ e. absurd cc
+] e
 
 module _ (p : Image) (m : ℕ) (sh : Shape) (target : Target) (m' first : ℕ) (d : Method) where
   abbrev of_target : List Need
@@ -72,15 +71,14 @@ module _ (p : Image) (m : ℕ) (sh : Shape) (target : Target) (m' first : ℕ) (
     pub rest_refused : (z : Shape) (w : Why) → judged given moved ≡ Ok z → tested (rest z) ≡ Err w → answer ≡ Err w
     pub met : (z : Shape) (u : Unit {0}) → judged given moved ≡ Ok z → tested (rest z) ≡ Ok u → answer ≡ Ok (left z)
 
-  decides : (rest : Shape → List Need) (left : Shape → List Flow) (answer : Result (List Flow) Why) → answer ≡ judged (given ++ rest moved) (left moved) → Decides rest left answer
+  decides : (rest : Shape → List Need) (left : Shape → List Flow) (answer : Result (List Flow) Why) → answer ≡ judged (given ++ rest moved) (left moved) →
+      Decides rest left answer
   decides rest left answer is = record {
     refused = λ w e. is ∙ failed_first given (rest moved) moved (left moved) w e;
-    rest_refused = λ z w e f. is ∙ passed_first given (rest moved) moved z (left moved) e ∙ all_failed (rest moved) (left moved) w (ap (λ s. tested (rest s)) (passed_is given moved z e) ∙ f);
-    met = λ z u e f.
-        is
-        ∙ passed_first given (rest moved) moved z (left moved) e
-        ∙ all_passed (rest moved) (left moved) u (ap (λ s. tested (rest s)) (passed_is given moved z e) ∙ f)
-        ∙ ap (λ s. Ok (left s)) (passed_is given moved z e);
+    rest_refused = λ z w e f. is ∙ passed_first given (rest moved) moved z (left moved) e
+        ∙ all_failed (rest moved) (left moved) w (ap (λ s. tested (rest s)) (passed_is given moved z e) ∙ f);
+    met = λ z u e f. is ∙ passed_first given (rest moved) moved z (left moved) e ∙ all_passed (rest moved) (left moved) u
+        (ap (λ s. tested (rest s)) (passed_is given moved z e) ∙ f) ∙ ap (λ s. Ok (left s)) (passed_is given moved z e);
   }
 
 -- ---- at a site
@@ -97,12 +95,11 @@ module _ (site : Site) (call : Call) (d : Method) (there : method_at site.image 
 
   -- what is asked, by what is declared of the called method
   abbrev asks : (Shape → List Need) → Option ℕ → Option Role → List Argument → List Need
-  asks rest class role xs =
-      rule_target site.image site.method site.shape call.target call.method class (is_construct role) call.first (length xs)
-      ++ (rule_arguments site.image site.shape xs call.first
-      ++ rest (arguments_moved xs call.first site.shape))
+  asks rest class role xs = rule_target site.image site.method site.shape call.target call.method class (is_construct role) call.first (length xs)
+      ++ (rule_arguments site.image site.shape xs call.first ++ rest (arguments_moved xs call.first site.shape))
 
-  asked : (rest : Shape → List Need) → asks rest (method_class site.image call.method) (method_role site.image call.method) (arguments_of site.image call.method) ≡ needs ++ rest after
+  asked : (rest : Shape → List Need) →
+      asks rest (method_class site.image call.method) (method_role site.image call.method) (arguments_of site.image call.method) ≡ needs ++ rest after
   asked rest = ap (λ class. asks rest class (method_role site.image call.method) (arguments_of site.image call.method)) (class_there
       site.image call.method d there) ∙ ap (λ role. asks rest d.class role (arguments_of site.image call.method)) (role_there site.image call.method d there)
       ∙ ap (λ xs. asks rest d.class (Some d.role) xs) (arguments_there site.image call.method d there) ∙ sym (append_assoc (of_target site.image site.method
@@ -117,14 +114,17 @@ module _ (site : Site) (call : Call) (d : Method) (there : method_at site.image 
   left_by_call s = to_next site.place (brought d.gives call.result (lasting d.after.0 s))
 
   call_leaves : flow_call site.image site.method site.place site.shape call.target call.method call.first call.result ≡ left_by_call after
-  call_leaves = rw (gives_there site.image call.method d there, class_there site.image call.method d there, arguments_there site.image call.method d there, after_there site.image call.method d there) refl
+  call_leaves =
+      rw (gives_there site.image call.method d there, class_there site.image call.method d there, arguments_there site.image call.method d there, after_there site.image call.method d there) refl
 
   call_is : call_answer site call.target call.method call.first call.result ≡ judged (needs ++ of_moved after) (left_by_call after)
   call_is = ap (λ ns. judged ns (flow_call site.image site.method site.place site.shape call.target call.method call.first call.result)) (asked of_moved)
       ∙ ap (λ fs. judged (needs ++ of_moved after) fs) call_leaves
 
-  pub call_decides : Decides site.image site.method site.shape call.target call.method call.first d of_moved left_by_call (call_answer site call.target call.method call.first call.result)
-  call_decides = decides site.image site.method site.shape call.target call.method call.first d of_moved left_by_call (call_answer site call.target call.method call.first call.result) call_is
+  pub call_decides : Decides site.image site.method site.shape call.target call.method call.first d of_moved left_by_call
+      (call_answer site call.target call.method call.first call.result)
+  call_decides = decides site.image site.method site.shape call.target call.method call.first d of_moved left_by_call
+      (call_answer site call.target call.method call.first call.result) call_is
 
   -- ---- traps
 
@@ -135,10 +135,10 @@ module _ (site : Site) (call : Call) (d : Method) (there : method_at site.image 
   left_by_trap s = to_next site.place (caught d.gives call.result (lasting (resting site.image d.class) s))
 
   module _ (loud : is_quiet site.image site.method ≡ false) where
-    trap_asks : rule_trap site.image site.method site.place site.shape call.target call.method call.first call.result ≡ (true, QuietBroken) ∷ (needs ++ of_trapped after)
-    trap_asks =
-        ap (λ quiet. (not quiet, QuietBroken) ∷ asks of_trapped (method_class site.image call.method) (method_role site.image call.method) (arguments_of site.image call.method)) loud
-        ∙ ap (λ (ns : List Need). (true, QuietBroken) ∷ ns) (asked of_trapped)
+    trap_asks : rule_trap site.image site.method site.place site.shape call.target call.method call.first call.result
+        ≡ (true, QuietBroken) ∷ (needs ++ of_trapped after)
+    trap_asks = ap (λ quiet. (not quiet, QuietBroken) ∷ asks of_trapped (method_class site.image call.method) (method_role site.image call.method)
+        (arguments_of site.image call.method)) loud ∙ ap (λ (ns : List Need). (true, QuietBroken) ∷ ns) (asked of_trapped)
 
     trap_leaves : flow_trap site.image site.method site.place site.shape call.target call.method call.first call.result ≡ left_by_trap after
     trap_leaves = rw (gives_there site.image call.method d there, class_there site.image call.method d there, arguments_there site.image call.method d there) refl
@@ -147,5 +147,7 @@ module _ (site : Site) (call : Call) (d : Method) (there : method_at site.image 
     trap_is = ap (λ ns. judged ns (flow_trap site.image site.method site.place site.shape call.target call.method call.first call.result)) trap_asks
         ∙ ap (λ fs. judged (needs ++ of_trapped after) fs) trap_leaves
 
-    pub trap_decides : Decides site.image site.method site.shape call.target call.method call.first d of_trapped left_by_trap (trap_answer site call.target call.method call.first call.result)
-    trap_decides = decides site.image site.method site.shape call.target call.method call.first d of_trapped left_by_trap (trap_answer site call.target call.method call.first call.result) trap_is
+    pub trap_decides : Decides site.image site.method site.shape call.target call.method call.first d of_trapped left_by_trap
+        (trap_answer site call.target call.method call.first call.result)
+    trap_decides = decides site.image site.method site.shape call.target call.method call.first d of_trapped left_by_trap
+        (trap_answer site call.target call.method call.first call.result) trap_is

@@ -47,8 +47,9 @@ module _ (items : List (Bor (List ℕ))) (n : Bor (List ℕ)) where
       FindsFirst places names → true ≡ is_some (get_by (λ k. slice_cmp nat_cmp n.now k.now) places) → FindsFirst places (map (λ w. w.now) (items ++ n ∷ []))
   found_again places found there = search (arith, nat_tests, again, found_at, found.place n.now, place_of_push, map-append)
 
-  pub found_fresh : (old new : BTreeMap (Bor (List ℕ)) ℕ) → FindsFirst old names → false ≡ is_some (get_by (λ k. slice_cmp nat_cmp n.now k.now) old)
-      → UpdatesBy (λ x y. slice_cmp nat_cmp x.now y.now) (λ k. slice_cmp nat_cmp n.now k.now) old new (Some (length items)) → FindsFirst new (map (λ w. w.now) (items ++ n ∷ []))
+  pub found_fresh : (old new : BTreeMap (Bor (List ℕ)) ℕ) → FindsFirst old names → false ≡ is_some (get_by (λ k. slice_cmp nat_cmp n.now k.now) old) →
+      UpdatesBy (λ x y. slice_cmp nat_cmp x.now y.now) (λ k. slice_cmp nat_cmp n.now k.now) old new (Some (length items)) →
+      FindsFirst new (map (λ w. w.now) (items ++ n ∷ []))
   found_fresh old new found there updates = record {
     place = λ q. btree_map_updates_str n.now old new (Some (length items)) updates q ∙ ap (cond (bytes_eq n.now q) (Some (length items))) (found.place q)
         ∙ ap (λ l. cond (bytes_eq n.now q) (Some l) (place_of q names)) (sym (length-map items (λ w. w.now))) ∙ fresh _ _ _

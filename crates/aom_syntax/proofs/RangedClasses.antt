@@ -29,7 +29,8 @@ use Rattle.aom_syntax.proofs.RangedLists.{ListFits, listed_fits, thing_fits}
 
 -- ---- kinds
 
-native_within : (version : Version) (natives n : ℕ) (b : Bool) → nat_lt n natives ≡ b → Within (ProviderFits version natives) (if b then giving (providers.Native n) else failing LimitPassed)
+native_within : (version : Version) (natives n : ℕ) (b : Bool) → nat_lt n natives ≡ b →
+    Within (ProviderFits version natives) (if b then giving (providers.Native n) else failing LimitPassed)
 native_within version natives n x below = grind (arith, nat_tests, giving_within, ltb-true, failing_within)
 
 token_within : (version : Version) (natives : ℕ) (b : Bool) → includes version versions.Two ≡ b

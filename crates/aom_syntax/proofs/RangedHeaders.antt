@@ -36,11 +36,9 @@ module _ (scope : Scope) (strict : scope.is_strict ≡ true) where
   root_within = either IsRoot (λ ws. (took k.Root ws).0) (λ ws. (took k.Root ws).1) _ (next (nothing_more true) (λ u. giving None)) said_root no_root
 
   pub header_within : Within Fits (image_statement scope)
-  header_within = after Fits (keyword k.Image) _ (λ u. after Fits optional_version _ (λ version.
-      next_within (Between 0 4096) Fits (optional_number k.Cells 4096) _ (optional_between k.Cells 4096) (λ cells few_cells.
-      next_within (Between 0 1024) Fits (optional_number k.Messages 1024) _ (optional_between k.Messages 1024) (λ messages few_messages.
-      next_within (Between 0 16) Fits (optional_number k.Natives 16) _ (optional_between k.Natives 16) (λ natives few_natives.
-      after Fits (keyword k.Budget) _ (λ u.
-      next_within (Between 0 4294967295) Fits (number 0 4294967295) _ (number_between 0 4294967295) (λ budget small.
-      next_within IsRoot Fits (optional_root scope) _ root_within (λ root is_class.
-      giving_within Fits _ (record { cells = few_cells.most; messages = few_messages.most; natives = few_natives.most; root = is_class; budget = omega (arith, small.most) })))))))))
+  header_within = after Fits (keyword k.Image) _ (λ u. after Fits optional_version _ (λ version. next_within (Between 0 4096) Fits
+      (optional_number k.Cells 4096) _ (optional_between k.Cells 4096) (λ cells few_cells. next_within (Between 0 1024) Fits (optional_number k.Messages 1024) _
+      (optional_between k.Messages 1024) (λ messages few_messages. next_within (Between 0 16) Fits (optional_number k.Natives 16) _ (optional_between
+      k.Natives 16) (λ natives few_natives. after Fits (keyword k.Budget) _ (λ u. next_within (Between 0 4294967295) Fits (number 0 4294967295) _
+      (number_between 0 4294967295) (λ budget small. next_within IsRoot Fits (optional_root scope) _ root_within (λ root is_class. giving_within Fits _
+      (record { cells = few_cells.most; messages = few_messages.most; natives = few_natives.most; root = is_class; budget = omega (arith, small.most) })))))))))

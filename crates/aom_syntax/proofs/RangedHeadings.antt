@@ -43,10 +43,12 @@ MayGive classes usual = IfSome usual (λ g. GivesFits classes g)
 not_served_fits : (classes : ℕ) (known : Bool) → MayGive classes (not_served known)
 not_served_fits classes x = grind arith
 
-accepted_fits : (version : Version) (classes natives : ℕ) (known : Bool) (kind : ClassKind) → KindFits version classes natives kind → MayGive classes (accepted known kind)
+accepted_fits : (version : Version) (classes natives : ℕ) (known : Bool) (kind : ClassKind) → KindFits version classes natives kind →
+    MayGive classes (accepted known kind)
 accepted_fits version classes natives known x fits = grind (arith, nat_tests, not_served_fits classes known)
 
-usual_fits : (version : Version) (classes natives : ℕ) (known : Bool) (role : Role) (kind : ClassKind) → KindFits version classes natives kind → MayGive classes (usual_gives known role kind)
+usual_fits : (version : Version) (classes natives : ℕ) (known : Bool) (role : Role) (kind : ClassKind) → KindFits version classes natives kind →
+    MayGive classes (usual_gives known role kind)
 usual_fits version classes natives known x kind fits = grind arith
 
 -- what is not said is what stands for it
@@ -132,7 +134,8 @@ module _ (before_version : Version) (natives : ℕ) (scope : Scope) (version : V
   over_within = either (IsOver version) (λ ws. (took k.Over ws).0) (λ ws. (took k.Over ws).1) (said_over scope version) (giving None)
       (said_over_within version) (giving_within (IsOver version) None tt)
 
-  behind_within : place < length scope.methods → (role : Role) (class over : Option ℕ) → IsClass scope known class → IsOver version over → Within IsRead (behind_class scope role class over)
+  behind_within : place < length scope.methods → (role : Role) (class over : Option ℕ) → IsClass scope known class → IsOver version over →
+      Within IsRead (behind_class scope role class over)
   behind_within below role class over is_class is_over =
       let few = all_few (kind_of scope.kinds class) in
       after IsRead (flag k.Leaves) _ (λ leaves.

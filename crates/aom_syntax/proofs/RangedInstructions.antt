@@ -58,7 +58,8 @@ module _ (scope : Scope) (version : Version) (strict : scope.is_strict ≡ true)
 
   -- ---- by the kind of an operand
 
-  said : {A X : Type 0} (P : A → Type 0) (Q : X → Type 0) (a : Reading A) (f : A → X) → Within P a → ((x : A) → P x → Q (f x)) → Within Q (next a (λ x. giving (f x)))
+  said : {A X : Type 0} (P : A → Type 0) (Q : X → Type 0) (a : Reading A) (f : A → X) → Within P a → ((x : A) → P x → Q (f x)) →
+      Within Q (next a (λ x. giving (f x)))
   said P Q a f wa fits = next_within P Q a (λ x. giving (f x)) wa (λ x p. giving_within Q (f x) (fits x p))
 
   small_within : (k : SmallKind) → Within (SmallFits k) (small_operand k)
@@ -80,7 +81,8 @@ module _ (scope : Scope) (version : Version) (strict : scope.is_strict ≡ true)
 
   -- ---- behind each mnemonic
 
-  in_order_within : (k : Kinds) (order : OperandOrder) → Within (OperandsFit bounds k) (in_order order (small_operand k.a) (small_operand k.b) (small_operand k.c) (large_operand scope labels k.d))
+  in_order_within : (k : Kinds) (order : OperandOrder) →
+      Within (OperandsFit bounds k) (in_order order (small_operand k.a) (small_operand k.b) (small_operand k.c) (large_operand scope labels k.d))
   in_order_within k LargeLast = next_within (SmallFits k.a) (OperandsFit bounds k) (small_operand k.a) _ (small_within k.a) (λ a pa.
       next_within (SmallFits k.b) (OperandsFit bounds k) (small_operand k.b) _ (small_within k.b) (λ b pb.
       next_within (SmallFits k.c) (OperandsFit bounds k) (small_operand k.c) _ (small_within k.c) (λ c pc.

@@ -53,8 +53,7 @@ module _ (scope : Scope) (known : IsKnown scope.is_strict (length scope.classes)
       referred_below scope.is_strict 256 scope.classes known s.first c s.second
 
   pub thing_fits : (w : List ℕ) (t : Thing) → thing_of scope w ≡ Ok t → ThingFits (length scope.classes) t
-  thing_fits w t is =
-      marked_or (ThingFits (length scope.classes)) _ owned.Message (class_of scope w) (λ c. owned.Object c) t (λ same. tt) (class_below w) is
+  thing_fits w t is = marked_or (ThingFits (length scope.classes)) _ owned.Message (class_of scope w) (λ c. owned.Object c) t (λ same. tt) (class_below w) is
 
   pub thing_within : Within (ThingFits (length scope.classes)) (thing scope)
   thing_within = seen_within (ThingFits (length scope.classes)) (thing_of scope) word thing_fits

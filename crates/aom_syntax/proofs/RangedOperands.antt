@@ -41,7 +41,8 @@ last_within = weaker (λ n. n ≤ 15) IsRegister (last_register 15) (λ n most. 
 -- ---- targets
 
 module _ (w : List ℕ) (t : Target) where
-  numbered : (letter highest : ℕ) (make : ℕ → Target) → ((n : ℕ) → n ≤ highest → TargetFits (make n)) → (indexed letter highest w >>= λ n. Ok (make n)) ≡ Ok t → TargetFits t
+  numbered : (letter highest : ℕ) (make : ℕ → Target) → ((n : ℕ) → n ≤ highest → TargetFits (make n)) →
+      (indexed letter highest w >>= λ n. Ok (make n)) ≡ Ok t → TargetFits t
   numbered letter highest make fits is = grind (arith, nat_tests, made_of, indexed_most)
 
   by_letter : (is_self is_register is_field : Bool) → (if is_self then Ok targets.This else if is_register then (indexed 114 15 w >>= λ n. Ok

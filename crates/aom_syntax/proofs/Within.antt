@@ -56,7 +56,8 @@ giving_within P x p = record { each = λ ws y rest is. value_is P x y ws rest is
 pub failing_within : {X : Type 0} (P : X → Type 0) (e : AsmFaultKind) → Within P (failing e)
 failing_within P e = record { each = λ ws y rest is. cc }
 
-pub next_within : {A B : Type 0} (P : A → Type 0) (Q : B → Type 0) (a : Reading A) (b : A → Reading B) → Within P a → ((x : A) → P x → Within Q (b x)) → Within Q (next a b)
+pub next_within : {A B : Type 0} (P : A → Type 0) (Q : B → Type 0) (a : Reading A) (b : A → Reading B) → Within P a →
+    ((x : A) → P x → Within Q (b x)) → Within Q (next a b)
 next_within P Q a b wa wb = record { each = grind (arith, nat_tests, steps) }
 
 -- what is read in the words that are left, whatever was read before them
@@ -70,7 +71,8 @@ seen_within Q f a q = record { each = grind (arith, nat_tests, steps, value_is Q
 pub weaker : {X : Type 0} (P Q : X → Type 0) (r : Reading X) → ((x : X) → P x → Q x) → Within P r → Within Q r
 weaker P Q r f w = record { each = λ ws x rest is. f x (w.each ws x rest is) }
 
-by_test : {X : Type 0} (P : X → Type 0) (r s : Reading X) → Within P r → Within P s → (b : Bool) (vs : List (List ℕ)) (x : X) (rest : List (List ℕ)) → (if b then r vs else s vs) ≡ Ok (x, rest) → P x
+by_test : {X : Type 0} (P : X → Type 0) (r s : Reading X) → Within P r → Within P s → (b : Bool) (vs : List (List ℕ)) (x : X) (rest : List (List ℕ)) →
+    (if b then r vs else s vs) ≡ Ok (x, rest) → P x
 by_test P r s wr ws true vs x rest is = wr.each vs x rest is
 by_test P r s wr ws false vs x rest is = ws.each vs x rest is
 

@@ -18,18 +18,18 @@ not_chosen x n is = grind arith
 
 -- ---- parts in general
 
-pub split_some : (p : ℕ → Bool) (bs : List ℕ) (i : ℕ) → position p bs ≡ Some i → slice_split p bs ≡ take i bs ∷ slice_split p (take (length bs - (i + 1)) (drop (i + 1) bs))
+pub split_some : (p : ℕ → Bool) (bs : List ℕ) (i : ℕ) → position p bs ≡ Some i →
+    slice_split p bs ≡ take i bs ∷ slice_split p (take (length bs - (i + 1)) (drop (i + 1) bs))
 split_some p bs i is =
     let at = chosen (nat_lt (position_or_len p bs) (length bs)) (position_or_len p bs) i is in
     let within : position_or_len p bs < length bs = search (rules, tests, at.0) in
-    slice_split_first p bs 0 within
-    ∙ ap (λ n. take n bs ∷ slice_split p (drop (n + 1) bs)) at.1
+    slice_split_first p bs 0 within ∙ ap (λ n. take n bs ∷ slice_split p (drop (n + 1) bs)) at.1
     ∙ ap (λ (rest : List ℕ). take i bs ∷ slice_split p rest) (sym (take_rest bs (i + 1)))
 
 one_part : (p : ℕ → Bool) (bs : List ℕ) → nat_lt (position_or_len p bs) (length bs) ≡ false → slice_split p bs ≡ bs ∷ []
 one_part p [] h = refl
-one_part p (b ∷ bs) h =
-    elim (p b) as (λ t. nat_lt (cond (not t) (1 + position_or_len p bs) 0) (length (b ∷ bs)) ≡ false → cond t ([] ∷ slice_split p bs) (onto_first b (slice_split p bs)) ≡ (b ∷ bs) ∷ []) [
+one_part p (b ∷ bs) h = elim (p b) as (λ t. nat_lt (cond (not t) (1 + position_or_len p bs) 0) (length (b ∷ bs)) ≡ false →
+    cond t ([] ∷ slice_split p bs) (onto_first b (slice_split p bs)) ≡ (b ∷ bs) ∷ []) [
       | true ↦ λ past. absurd (grind (arith, common_steps))
       | false ↦ λ past. ap (onto_first b) (one_part p bs (grind (arith, common_steps)))
     ] h
@@ -46,11 +46,10 @@ pub record Parts (parts : List (List ℕ)) : Type 0 where
 -- a list is cut into one part at least
 has_parts : (p : ℕ → Bool) (bs : List ℕ) → Parts (slice_split p bs)
 has_parts p [] = record { part = []; more = []; is = refl }
-has_parts p (b ∷ bs) =
-    elim (p b) as (λ t. Parts (cond t ([] ∷ slice_split p bs) (onto_first b (slice_split p bs)))) [
-      | true ↦ record { part = []; more = slice_split p bs; is = refl }
-      | false ↦ let rest = has_parts p bs in record { part = b ∷ rest.part; more = rest.more; is = ap (onto_first b) rest.is }
-    ]
+has_parts p (b ∷ bs) = elim (p b) as (λ t. Parts (cond t ([] ∷ slice_split p bs) (onto_first b (slice_split p bs)))) [
+  | true ↦ record { part = []; more = slice_split p bs; is = refl }
+  | false ↦ let rest = has_parts p bs in record { part = b ∷ rest.part; more = rest.more; is = ap (onto_first b) rest.is }
+]
 
 -- ---- lines
 
@@ -72,7 +71,8 @@ put_is : (ws : List (List ℕ)) (rest : List (List (List ℕ))) → filter has_w
 put_is [] rest = refl
 put_is (w ∷ ws) rest = refl
 
-pub worded_first : (bs : List ℕ) (i : ℕ) → position (λ b. b == 59) bs ≡ Some i → worded bs ≡ put_words (words (take i bs)) (worded (take (length bs - (i + 1)) (drop (i + 1) bs)))
+pub worded_first : (bs : List ℕ) (i : ℕ) → position (λ b. b == 59) bs ≡ Some i →
+    worded bs ≡ put_words (words (take i bs)) (worded (take (length bs - (i + 1)) (drop (i + 1) bs)))
 worded_first bs i is = ap (λ ps. filter has_words (map words ps)) (split_some (λ b. b == 59) bs i is)
     ∙ put_is (words (take i bs)) (map words (slice_split (λ b. b == 59) (take (length bs - (i + 1)) (drop (i + 1) bs))))
 
@@ -119,7 +119,8 @@ module _ (p : ℕ → Bool) where
       known (p b) refl h
 
   -- and of one in which each byte passes
-  none_at : (So : List ℕ → Type 0) → So [] → ((b : ℕ) (bs : List ℕ) → p b ≡ true → So bs → So (b ∷ bs)) → (bs : List ℕ) → nat_lt (position_or_len (λ b. not (p b)) bs) (length bs) ≡ false → So bs
+  none_at : (So : List ℕ → Type 0) → So [] → ((b : ℕ) (bs : List ℕ) → p b ≡ true → So bs → So (b ∷ bs)) → (bs : List ℕ) →
+      nat_lt (position_or_len (λ b. not (p b)) bs) (length bs) ≡ false → So bs
   none_at So self behind [] h = self
   none_at So self behind (b ∷ bs) h =
       elim (p b) as (λ t. p b ≡ t → nat_lt (cond (not (not t)) (1 + position_or_len (λ b. not (p b)) bs) 0) (length (b ∷ bs)) ≡ false → So (b ∷ bs)) [
@@ -159,8 +160,9 @@ word_then b bs e ink is =
     ∙ cut_word b bs (slice_split is_blank (take (length (b ∷ bs) - (e + 1)) (drop (e + 1) (b ∷ bs)))) (position_or_len is_blank bs) ink
     ∙ ap (λ n. take n (b ∷ bs) ∷ words (take (length (b ∷ bs) - (e + 1)) (drop (e + 1) (b ∷ bs)))) at.1
 
-pub word_first : (bs : List ℕ) (i e : ℕ) → position (λ b. not (is_blank b)) bs ≡ Some i → position is_blank (take (length bs - i) (drop i bs)) ≡ Some e
-    → words bs ≡ take e (take (length bs - i) (drop i bs)) ∷ words (take (length (take (length bs - i) (drop i bs)) - (e + 1)) (drop (e + 1) (take (length bs - i) (drop i bs))))
+pub word_first : (bs : List ℕ) (i e : ℕ) → position (λ b. not (is_blank b)) bs ≡ Some i → position is_blank (take (length bs - i) (drop i bs)) ≡ Some e →
+    words bs ≡ take e (take (length bs - i) (drop i bs)) ∷ words
+    (take (length (take (length bs - i) (drop i bs)) - (e + 1)) (drop (e + 1) (take (length bs - i) (drop i bs))))
 word_first bs i e is ends =
     let at = chosen (nat_lt (position_or_len (λ b. not (is_blank b)) bs) (length bs)) (position_or_len (λ b. not (is_blank b)) bs) i is in
     let ink : Inked bs i = subst (Inked bs) at.1 (inked bs at.0) in
@@ -174,7 +176,8 @@ word_only bs i is ends =
     let at = chosen (nat_lt (position_or_len (λ b. not (is_blank b)) bs) (length bs)) (position_or_len (λ b. not (is_blank b)) bs) i is in
     let ink : Inked bs i = subst (Inked bs) at.1 (inked bs at.0) in
     let same : take (length bs - i) (drop i bs) ≡ ink.first ∷ ink.more = take_rest bs i ∙ ink.at in
-    subst (λ (t : List ℕ). position is_blank t ≡ None → words bs ≡ t ∷ []) (sym same) (λ h. ink.so ∙ ap (filter has_bytes) (split_none is_blank (ink.first ∷ ink.more) h)) ends
+    subst (λ (t : List ℕ). position is_blank t ≡ None → words bs ≡ t ∷ []) (sym same)
+    (λ h. ink.so ∙ ap (filter has_bytes) (split_none is_blank (ink.first ∷ ink.more) h)) ends
 
 -- ---- comments
 
@@ -187,8 +190,8 @@ abbrev Other : List ℕ → ℕ → Type 0
 Other = First is_plain (λ bs rest. find (λ b. not (is_plain b)) bs ≡ find (λ b. not (is_plain b)) rest)
 
 other : (bs : List ℕ) → nat_lt (position_or_len (λ b. not (is_plain b)) bs) (length bs) ≡ true → Other bs (position_or_len (λ b. not (is_plain b)) bs)
-other =
-    first_at is_plain (λ bs rest. find (λ b. not (is_plain b)) bs ≡ find (λ b. not (is_plain b)) rest) (λ bs. refl) (λ b bs rest e same. plain_first b bs (find (λ b. not (is_plain b)) rest) e same)
+other = first_at is_plain (λ bs rest. find (λ b. not (is_plain b)) bs ≡ find (λ b. not (is_plain b)) rest) (λ bs. refl)
+    (λ b bs rest e same. plain_first b bs (find (λ b. not (is_plain b)) rest) e same)
 
 no_other : (bs : List ℕ) → nat_lt (position_or_len (λ b. not (is_plain b)) bs) (length bs) ≡ false → find (λ b. not (is_plain b)) bs ≡ None
 no_other = none_at is_plain (λ bs. find (λ b. not (is_plain b)) bs ≡ None) refl (λ b bs e same. plain_first b bs None e same)
@@ -199,12 +202,14 @@ second p q h = (or_parts p q h).1
 one_word : (b : ℕ) → is_blank b ≡ false → words (b ∷ []) ≡ (b ∷ []) ∷ []
 one_word b e = ap (λ t. filter has_bytes (cond t ([] ∷ slice_split is_blank []) (onto_first b (slice_split is_blank [])))) e
 
-pub comment_some : (n : ℕ) (bs : List ℕ) (i : ℕ) → position (λ b. not (is_plain b)) bs ≡ Some i → comment_statements n bs ≡ in_line n (words (take 1 (drop i bs))) ∷ []
+pub comment_some : (n : ℕ) (bs : List ℕ) (i : ℕ) → position (λ b. not (is_plain b)) bs ≡ Some i →
+    comment_statements n bs ≡ in_line n (words (take 1 (drop i bs))) ∷ []
 comment_some n bs i is =
     let at = chosen (nat_lt (position_or_len (λ b. not (is_plain b)) bs) (length bs)) (position_or_len (λ b. not (is_plain b)) bs) i is in
     let it : Other bs i = subst (Other bs) at.1 (other bs at.0) in
     let found = it.so ∙ ap (λ t. cond (not t) (Some it.first) (find (λ b. not (is_plain b)) it.more)) it.is in
-    ap (other_byte n) found ∙ ap (λ ws. in_line n ws ∷ []) (sym (ap (λ t. words (take 1 t)) it.at ∙ one_word it.first (second ((nat_le 32 it.first && nat_le it.first 126)) (is_blank it.first) it.is)))
+    ap (other_byte n) found ∙ ap (λ ws. in_line n ws ∷ [])
+    (sym (ap (λ t. words (take 1 t)) it.at ∙ one_word it.first (second ((nat_le 32 it.first && nat_le it.first 126)) (is_blank it.first) it.is)))
 
 pub comment_none : (n : ℕ) (bs : List ℕ) → position (λ b. not (is_plain b)) bs ≡ None → comment_statements n bs ≡ []
 comment_none n bs is = ap (other_byte n) (no_other bs (not_chosen _ _ is))

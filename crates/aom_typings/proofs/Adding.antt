@@ -40,13 +40,15 @@ by_past true P past near = past refl
 by_past false P past near = near refl
 
 pub within_most : (c : Prices) (m to : ℕ) (r : Region) (fs : List Flow) → AmongFlows to fs → is_past r to ≡ false → c.from m to ≤ most_within c m r fs
-within_most c m to r fs among near = by_flow to (λ gs. c.from m to ≤ most_within c m r gs) (λ f gs e. omega (arith, this f.0 e)) (λ f gs le. omega (arith, le)) fs among
+within_most c m to r fs among near =
+    by_flow to (λ gs. c.from m to ≤ most_within c m r gs) (λ f gs e. omega (arith, this f.0 e)) (λ f gs le. omega (arith, le)) fs among
   where
     this : (x : ℕ) → x ≡ to → cond (is_past r x) 0 (c.from m x) ≡ c.from m to
     this x e = ap (λ y. cond (is_past r y) 0 (c.from m y)) e ∙ ap (λ b. cond b 0 (c.from m to)) near
 
 -- what holds of 0 and of each flow in the region holds of the dearest
-most_one : (c : Prices) (m : ℕ) (r : Region) (P : ℕ → Type 0) → P 0 → (fs : List Flow) → ((to : ℕ) → AmongFlows to fs → is_past r to ≡ false → P (c.from m to)) → P (most_within c m r fs)
+most_one : (c : Prices) (m : ℕ) (r : Region) (P : ℕ → Type 0) → P 0 → (fs : List Flow) →
+    ((to : ℕ) → AmongFlows to fs → is_past r to ≡ false → P (c.from m to)) → P (most_within c m r fs)
 most_one c m r P none [] one = none
 most_one c m r P none (f ∷ fs) one = either_max P (cond (is_past r f.0) 0 (c.from m f.0)) (most_within c m r fs)
     (either_cond P (is_past r f.0) 0 (c.from m f.0) (λ past. none) (λ near. one f.0 (inl refl) near))
@@ -67,7 +69,8 @@ pub reached_is_some : (t : Typing) (m place : ℕ) → IsReached t m place → I
 reached_is_some t m place reached = subst (λ o. IsSome o) (sym reached.1) refl
 
 -- where a reached instruction goes on is reached
-pub leads_on : (p : Image) (t : Typing) (m : ℕ) → IsTyped p t → (place to : ℕ) (sh : Shape) (i : Instr) → Stands p t m place sh i → AmongFlows to (flows p m place sh i) → IsReached t m to
+pub leads_on : (p : Image) (t : Typing) (m : ℕ) → IsTyped p t → (place to : ℕ) (sh : Shape) (i : Instr) → Stands p t m place sh i →
+    AmongFlows to (flows p m place sh i) → IsReached t m to
 leads_on p t m typed place to sh i at among = grind (arith, typed.each m place sh at.shape, led_to t m to)
 
 -- an instruction that ends no round goes on at a later place
@@ -88,7 +91,8 @@ record Adds (p : Image) (t : Typing) (c : Prices) (a : Afters) (m : ℕ) (r : Re
 
 module _ (p : Image) (t : Typing) (c : Prices) (a : Afters) (m : ℕ) (looped : IsLooped p) (forward : JumpsForward p m) where
   module _ (typed : IsTyped p t) (swept : (place : ℕ) → IsSweptAt (λ n. n) p t c a m place) where
-    module _ (place : ℕ) (r : Region) (w : IsInnermost p m place r) (later : (to : ℕ) (s : Region) → place < to → IsReached t m to → IsInnermost p m to s → Adds p t c a m s to) where
+    module _ (place : ℕ) (r : Region) (w : IsInnermost p m place r)
+        (later : (to : ℕ) (s : Region) → place < to → IsReached t m to → IsInnermost p m to s → Adds p t c a m s to) where
       -- ---- an instruction that begins no loop and ends no round
       module _ (sh : Shape) (i : Instr) (at : Stands p t m place sh i) (no_loop : loop_in (Some i) ≡ None) (no_next : next_in (Some i) ≡ None) where
         -- where it goes on in the region
@@ -114,8 +118,7 @@ module _ (p : Image) (t : Typing) (c : Prices) (a : Afters) (m : ℕ) (looped : 
         plain_adds : Adds p t c a m r place
         plain_adds = either_max (λ n. c.from m place ≡ own p m c sh i + n → Adds p t c a m r place) (after a m r) (most_within c m r (flows p m place sh i))
             (λ is. stops (omega (arith, is)))
-            (most_one c m r (λ n. c.from m place ≡ own p m c sh i + n → Adds p t c a m r place) (λ is. stops (omega (arith, is, found))) _ on)
-            found
+            (most_one c m r (λ n. c.from m place ≡ own p m c sh i + n → Adds p t c a m r place) (λ is. stops (omega (arith, is, found))) _ on) found
           where
             stops : own p m c sh i + after a m r ≡ c.from m place → Adds p t c a m r place
             stops sum = record { cost = own p m c sh i; met = ends w.inside at no_loop; sum = sum; most = plain_most (own p m c sh i) sum }
@@ -231,7 +234,8 @@ module _ (p : Image) (t : Typing) (c : Prices) (a : Afters) (m : ℕ) (looped : 
     adds_from count within zero place r few reached w = grind (arith, typed.each m place reached.0 reached.1)
     adds_from count within (suc left) place r few reached w =
         let passes = typed.each m place reached.0 reached.1 in
-        place_adds place r w (λ to s lt there v. adds_from count within left to s (omega (arith, few, lt)) there v) reached.0 passes.instr (record { shape = reached.1; instr = passes.stands })
+        place_adds place r w (λ to s lt there v. adds_from count within left to s (omega (arith, few, lt)) there v) reached.0 passes.instr
+        (record { shape = reached.1; instr = passes.stands })
 
     priced_from : (count : ℕ) → ((place : ℕ) (i : Instr) → instr_at p m place ≡ Some i → place < count) → IsReached t m 0 → IsPrice p t c m (price c m)
     priced_from count within reached =
@@ -256,4 +260,5 @@ law_is_price p t c a formed linked typed swept = record { methods = methods; cla
     methods : (m : ℕ) → IsSome (method_at p m) → IsPrice p t c m (price c m)
     methods m some = some_given (λ o. IsSome o) (method_at p m) some (λ s. cc) (λ d e s.
         let begins = typed.entry m some in
-        priced_from p t c a m (linked_is_looped p formed linked) (jumps_forward p linked m) typed (place_of (λ n. n) p t c a swept m) (length d.code) (in_code p m d e) (begins.0, begins.1))
+        priced_from p t c a m (linked_is_looped p formed linked) (jumps_forward p linked m) typed (place_of (λ n. n) p t c a swept m) (length d.code)
+        (in_code p m d e) (begins.0, begins.1))

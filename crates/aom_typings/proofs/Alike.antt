@@ -22,7 +22,8 @@ use Rattle.aom_typings.proofs.Among.{by_flow}
 
 -- what one typing reaches the other reaches too, with a state that says just as much
 pub record IsCovered (p : Image) (t d : Typing) : Type 0 where
-  pub each : (m place : ℕ) (sh : Shape) (i : Instr) → Stands p t m place sh i → (other : Shape) × Stands p d m place other i × SaysNoMore other sh × SaysNoMore sh other
+  pub each : (m place : ℕ) (sh : Shape) (i : Instr) → Stands p t m place sh i →
+      (other : Shape) × Stands p d m place other i × SaysNoMore other sh × SaysNoMore sh other
 
 kind_is : (k l : Kind) → Weaker k l → Weaker l k → k ≡ l
 kind_is _ _ alike back = refl
@@ -49,7 +50,8 @@ module _ (p : Image) (t d : Typing) (c : Prices) (m : ℕ) (typed : IsTyped p d)
   applies : (place : ℕ) (sh : Shape) (i : Instr) → Stands p d m place sh i → AllTrue (rule_needs p m place sh i)
   applies place sh i at = grind (arith, nat_tests, typed.each m place sh at.shape, same_Some)
 
-  among_there : (place to : ℕ) (sh other : Shape) (i : Instr) → Stands p d m place other i → SaysNoMore other sh → AmongFlows to (flows p m place sh i) → AmongFlows to (flows p m place other i)
+  among_there : (place to : ℕ) (sh other : Shape) (i : Instr) → Stands p d m place other i → SaysNoMore other sh → AmongFlows to (flows p m place sh i) →
+      AmongFlows to (flows p m place other i)
   among_there place to sh other i at no_more among = grind (arith, nat_tests, leads, flows_more, applies)
 
   out_there : (from to out : ℕ) → GoesOut p t m from to out → GoesOut p d m from to out

@@ -15,8 +15,7 @@ use Rattle.aom_typings.specs.Sweeping.{Afters, IsAfter, IsInnermost, IsSweptBy, 
 
 -- at one place: of a loop's body what is found at its loop, and what follows it at its next
 pub record IsSweptAt (keep : ℕ → ℕ) (p : Image) (t : Typing) (c : Prices) (a : Afters) (m place : ℕ) : Type 0 where
-  pub plain :
-      (sh : Shape) (i : Instr) (r : Region) → Stands p t m place sh i → loop_in (Some i) ≡ None → next_in (Some i) ≡ None → IsInnermost p m place r →
+  pub plain : (sh : Shape) (i : Instr) (r : Region) → Stands p t m place sh i → loop_in (Some i) ≡ None → next_in (Some i) ≡ None → IsInnermost p m place r →
       c.from m place ≡ keep (own p m c sh i + max (after a m r) (most_within c m r (flows p m place sh i)))
   pub loops : (d n : ℕ) (sh : Shape) → Stands p t m place sh (Loop d n) → c.from m place ≡ keep (1 + (n - 1) * c.round m place + c.from m (suc place))
   pub nexts : (d from : ℕ) (sh : Shape) → Stands p t m place sh (Next d (suc from)) → c.from m place ≡ keep (1 + a m from)

@@ -31,12 +31,12 @@ use Rattle.aom_typings.proofs.Ways.{IsReached, JumpsForward}
 use Rattle.aom_typings.proofs.Among.{each_below}
 
 -- what follows a loop is no more, up to the limit, than what the other table says
-follow_below : (limit : ℕ) (p : Image) (t : Typing) (c e : Prices) (a b : Afters) (m from to : ℕ) (r : Region) → IsAfter p t c a m from to r → IsAfter p t e b m from to r →
-    Alike limit (after a m r) (after b m r) → ((place : ℕ) → GoesOut p t m from to place → Alike limit (c.from m place) (e.from m place)) → min limit (a m from) ≤ min limit (b m from)
+follow_below : (limit : ℕ) (p : Image) (t : Typing) (c e : Prices) (a b : Afters) (m from to : ℕ) (r : Region) →
+    IsAfter p t c a m from to r → IsAfter p t e b m from to r → Alike limit (after a m r) (after b m r) →
+    ((place : ℕ) → GoesOut p t m from to place → Alike limit (c.from m place) (e.from m place)) → min limit (a m from) ≤ min limit (b m from)
 follow_below limit p t c e a b m from to r one other around out = grind (arith, nat_tests)
 
-module _
-    (limit : ℕ) (p : Image) (t : Typing) (looped : IsLooped p) (typed : IsTyped p t) (layered : PaysBefore p t) (forward : (m : ℕ) → JumpsForward p m)
+module _ (limit : ℕ) (p : Image) (t : Typing) (looped : IsLooped p) (typed : IsTyped p t) (layered : PaysBefore p t) (forward : (m : ℕ) → JumpsForward p m)
     (c e : Prices) (a b : Afters) (capped : IsSweptUpTo limit p t c a) (whole : IsSwept p t e b) where
   module _ (m : ℕ) (before : (k : ℕ) → k < m → Alike limit (price c k) (price e k)) where
     -- what an instruction costs itself

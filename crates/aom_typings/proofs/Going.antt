@@ -64,7 +64,8 @@ pub max_same : (x y z w : ℕ) → x ≡ y → z ≡ w → max x z ≡ max y w
 max_same x y z w a b = omega (arith, a, b)
 
 -- two costs of methods that are the same for all that runs
-pub going_same : (p : Image) (f g : Option ℕ → ℕ) → f None ≡ g None → (x : Thing) → ((k : ℕ) → Destructs p x k → f (Some k) ≡ g (Some k)) → all_going p f x ≡ all_going p g x
+pub going_same : (p : Image) (f g : Option ℕ → ℕ) → f None ≡ g None → (x : Thing) → ((k : ℕ) → Destructs p x k → f (Some k) ≡ g (Some k)) →
+    all_going p f x ≡ all_going p g x
 going_same p f g nobody = all_related (λ x y. x ≡ y) refl times_same refl plus_same max_same f g nobody p
 
 -- two that are alike up to a limit
@@ -78,7 +79,8 @@ of_session : (cost : ℕ → ℕ) (o : Option ClassKind) → is_session_in o ≡
 unfolding is_session_in is_session_kind
 of_session cost o e = grind arith
 
-sessions_ordered : (p : Image) → IsLinked p → (c s : ℕ) (class : Option ClassDecl) → class_at p c ≡ class → sessions_in (kind_in class) ≡ Some s → is_session p s ≡ true
+sessions_ordered : (p : Image) → IsLinked p → (c s : ℕ) (class : Option ClassDecl) → class_at p c ≡ class →
+    sessions_in (kind_in class) ≡ Some s → is_session p s ≡ true
 unfolding class_at sessions_in kind_in
 sessions_ordered p linked c s class e is = grind arith
 

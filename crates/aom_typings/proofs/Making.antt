@@ -96,14 +96,14 @@ no_method : (p : Image) (m place : ℕ) → method_at p m ≡ None → instr_at 
 unfolding instr_in
 no_method p m place e = ap (λ o. instr_in o place) e
 
-module _ (p : Image) (t : Typing) (looped : IsLooped p) (typed : IsTyped p t) (layered : PaysBefore p t)
-    (forward : (m : ℕ) → JumpsForward p m) where
+module _ (p : Image) (t : Typing) (looped : IsLooped p) (typed : IsTyped p t) (layered : PaysBefore p t) (forward : (m : ℕ) → JumpsForward p m) where
   module _ (m k : ℕ) (w : Made p t m (suc k)) where
     abbrev old : Prices
     old = prices_of p w.from w.round
 
     -- two numbers change there, and what follows a loop that ends there
-    module _ (v u : ℕ) (h : Afters) (others : (j x : ℕ) → j < m → h j x ≡ w.after j x) (loops : (from to d n : ℕ) → k < to → Body p m from to d n → h m from ≡ w.after m from) where
+    module _ (v u : ℕ) (h : Afters) (others : (j x : ℕ) → j < m → h j x ≡ w.after j x)
+        (loops : (from to d n : ℕ) → k < to → Body p m from to d n → h m from ≡ w.after m from) where
       abbrev new : Prices
       new = prices_of p (set w.from m k v) (set w.round m k u)
 
@@ -169,7 +169,8 @@ module _ (p : Image) (t : Typing) (looped : IsLooped p) (typed : IsTyped p t) (l
         table : Prices
         table = new v 0 w.after kept_others kept_loops
 
-        found : (s : Shape) (r : Region) → Stands p t m k s i → IsInnermost p m k r → table.from m k ≡ own p m table s i + max (after w.after m r) (most_within table m r (flows p m k s i))
+        found : (s : Shape) (r : Region) → Stands p t m k s i → IsInnermost p m k r →
+            table.from m k ≡ own p m table s i + max (after w.after m r) (most_within table m r (flows p m k s i))
         found s r at inner =
             let one = same_Some sh s (sym shape ∙ at.shape) in
             let place = one_innermost p looped m k region.0 r region.1 inner in
@@ -253,7 +254,8 @@ module _ (p : Image) (t : Typing) (looped : IsLooped p) (typed : IsTyped p t) (l
           Met n = afters m from ≡ n → (afters m from ≡ after afters m r) ⊎ ((to : ℕ) × GoesOut p t m from k to × (table.from m to ≡ afters m from))
 
       at_next : Made p t m k
-      at_next = lower (1 + follow) 0 afters next_others next_loops (next_there (λ n. n) p t table afters m k d from there (omega (arith, set_here w.from m k (1 + follow), followed)) is_after)
+      at_next = lower (1 + follow) 0 afters next_others next_loops
+          (next_there (λ n. n) p t table afters m k d from there (omega (arith, set_here w.from m k (1 + follow), followed)) is_after)
 
     at_some : (i : Instr) → instr_at p m k ≡ Some i → Made p t m k
     at_some i there = by_kind (Made p t m k) i plain loop next

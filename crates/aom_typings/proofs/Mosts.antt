@@ -110,7 +110,8 @@ sessions_end p formed linked c e parent =
     let goes : IfSome (slice_get p.classes e) (Continues d) = grind (arith, all_there (ContinuesParent p) p.classes c d linked.parents own.1) in
     of (slice_get p.classes e) refl goes may.1
   where
-    of : (o : Option ClassDecl) → slice_get p.classes e ≡ o → IfSome o (Continues (parent_named p c e parent).0) → may_descend (parent_named p c e parent).0.kind ≡ true → is_session p e ≡ false
+    of : (o : Option ClassDecl) → slice_get p.classes e ≡ o → IfSome o (Continues (parent_named p c e parent).0) →
+        may_descend (parent_named p c e parent).0.kind ≡ true → is_session p e ≡ false
     of x at goes may = grind (arith, nat_tests, descends_plainly, parent_named)
 
 pub session_alone : (p : Image) → SessionsEnd p → (s x : ℕ) → is_session p s ≡ true → descends p x s ≡ true → x ≡ s
@@ -165,9 +166,8 @@ module _ (R : ℕ → ℕ → Type 0) (none : R 0 0) (plus : (x y z w : ℕ) →
     where
       same : (x : ℕ) → (x == x) ≡ true
       same x = grind arith
-  in_related (suc n) (Some c) each =
-      plus (f (own_role p c Destruct)) (g (own_role p c Destruct)) (line_in p f n (parent_of p c)) (line_in p g n (parent_of p c))
-      (one_related (own_role p c Destruct) (λ k is. each k c (left (c == c) (descends_in p n (parent_of p c) c) (same c)) is))
+  in_related (suc n) (Some c) each = plus (f (own_role p c Destruct)) (g (own_role p c Destruct)) (line_in p f n (parent_of p c))
+      (line_in p g n (parent_of p c)) (one_related (own_role p c Destruct) (λ k is. each k c (left (c == c) (descends_in p n (parent_of p c) c) (same c)) is))
       (in_related n (parent_of p c) (λ k d h is. each k d (right (c == d) (descends_in p n (parent_of p c) d) h) is))
     where
       same : (x : ℕ) → (x == x) ≡ true

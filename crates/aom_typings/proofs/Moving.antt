@@ -31,7 +31,8 @@ pub own_same : (keep : ℕ → ℕ) (p : Image) (c c' : Prices) → ((x : Thing)
 own_same keep p c c' classes classes' = own_related (λ x y. x ≡ y) refl p c' c (λ x y e. ap (λ n. 1 + n) e) max_same
     (λ x h. classes' x ∙ (ap keep (going_same p (destructor_price c') (destructor_price c) refl x h) ∙ sym (classes x)))
 
-pub most_same : (p : Image) (c c' : Prices) (m : ℕ) (r : Region) (fs : List Flow) → ((to : ℕ) → AmongFlows to fs → c'.from m to ≡ c.from m to) → most_within c' m r fs ≡ most_within c m r fs
+pub most_same : (p : Image) (c c' : Prices) (m : ℕ) (r : Region) (fs : List Flow) → ((to : ℕ) → AmongFlows to fs → c'.from m to ≡ c.from m to) →
+    most_within c' m r fs ≡ most_within c m r fs
 most_same p c c' m r = most_related (λ x y. x ≡ y) refl p c' c max_same m r
 
 -- ---- a place
@@ -43,11 +44,9 @@ pub record AreSameFrom (p : Image) (c c' : Prices) (a a' : Afters) (m down : ℕ
   pub round : (place : ℕ) → down ≤ place → c'.round m place ≡ c.round m place
   pub after : (from to d n : ℕ) → down ≤ to → Body p m from to d n → a' m from ≡ a m from
 
-module _
-    (keep : ℕ → ℕ) (p : Image) (t : Typing) (c c' : Prices) (a a' : Afters) (m : ℕ) (looped : IsLooped p) (forward : JumpsForward p m)
+module _ (keep : ℕ → ℕ) (p : Image) (t : Typing) (c c' : Prices) (a a' : Afters) (m : ℕ) (looped : IsLooped p) (forward : JumpsForward p m)
     (layered : PaysBefore p t) (classes : (x : Thing) → c.destruction x ≡ keep (all_going p (destructor_price c) x))
-    (classes' : (x : Thing) → c'.destruction x ≡ keep (all_going p (destructor_price c') x))
-    (place : ℕ) (same : AreSameFrom p c c' a a' m place) where
+    (classes' : (x : Thing) → c'.destruction x ≡ keep (all_going p (destructor_price c') x)) (place : ℕ) (same : AreSameFrom p c c' a a' m place) where
   -- what follows a region that ends later
   after_same : (r : Region) (k : ℕ) → place ≤ k → IsInnermost p m k r → after a' m r ≡ after a m r
   after_same Whole k later w = refl

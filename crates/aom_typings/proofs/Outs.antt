@@ -47,7 +47,8 @@ module _ (p : Image) (t : Typing) (m from end : ℕ) (h : ℕ → ℕ) where
   body_out zero = 0
   body_out (suc n) = max (body_out n) (cond (nat_lt from n) (place_out n (shape_at t m n) (instr_at p m n)) 0)
 
-  place_most : (place to : ℕ) (sh : Shape) (i : Instr) → Stands p t m place sh i → AmongFlows to (flows p m place sh i) → end < to → h to ≤ place_out place (shape_at t m place) (instr_at p m place)
+  place_most : (place to : ℕ) (sh : Shape) (i : Instr) → Stands p t m place sh i → AmongFlows to (flows p m place sh i) → end < to →
+      h to ≤ place_out place (shape_at t m place) (instr_at p m place)
   unfolding place_out
   place_most place to sh i at among past = rw (at.shape, at.instr) (flows_most end to h (flows p m place sh i) among past)
 
@@ -69,7 +70,8 @@ module _ (p : Image) (t : Typing) (m from end : ℕ) (h : ℕ → ℕ) where
 
   -- what holds of 0 and of each place to which the body goes out holds of the dearest
   module _ (P : ℕ → Type 0) (none : P 0) (one : (to : ℕ) → GoesOut p t m from end to → P (h to)) where
-    place_one : (place : ℕ) → from < place → place ≤ end → (s : Option Shape) (o : Option Instr) → shape_at t m place ≡ s → instr_at p m place ≡ o → P (place_out place s o)
+    place_one : (place : ℕ) → from < place → place ≤ end → (s : Option Shape) (o : Option Instr) → shape_at t m place ≡ s →
+        instr_at p m place ≡ o → P (place_out place s o)
     unfolding place_out
     place_one place after upto (Some sh) (Some i) es eo = flows_one end h P none (flows p m place sh i) (λ to among past. one to
         (record { place = place; inside = (after, upto); shape = sh; instr = i; stands = record { shape = es; instr = eo }; flow = among; outside = past }))

@@ -48,7 +48,8 @@ module _ (p : Image) (t : Typing) (c : Prices) (m : ℕ) where
   plain_steps r place k sh i none = grind arith
 
   -- one thing alone stands there
-  stepped : (r : Region) (place k : ℕ) (sh sh' : Shape) (i i' : Instr) → Stands p t m place sh i → Stands p t m place sh' i' → Steps r place k sh i → Steps r place k sh' i'
+  stepped : (r : Region) (place k : ℕ) (sh sh' : Shape) (i i' : Instr) → Stands p t m place sh i → Stands p t m place sh' i' →
+      Steps r place k sh i → Steps r place k sh' i'
   stepped r place k sh sh' i i' a b s = grind arith
 
   -- a path begins outside, or takes a step
@@ -73,10 +74,10 @@ module _ (p : Image) (t : Typing) (c : Prices) (m : ℕ) where
   first_step : (r : Region) (place k : ℕ) → Costs p t c m r place k → (sh : Shape) (i : Instr) → Stands p t m place sh i → Inside r place → Steps r place k sh i
   first_step r place k path sh i at inside = ⊎_elim (λ out. absurd (out.0 inside)) (λ within. within.1 sh i at) (begins r place k path)
 
-  pub ends_or_goes :
-      (r : Region) (place k : ℕ) → Costs p t c m r place k → (sh : Shape) (i : Instr) → Stands p t m place sh i → loop_in (Some i) ≡ None → Inside r place →
-      (k ≡ own p m c sh i) ⊎ GoesOn r place k sh i
+  pub ends_or_goes : (r : Region) (place k : ℕ) → Costs p t c m r place k → (sh : Shape) (i : Instr) → Stands p t m place sh i → loop_in (Some i) ≡ None →
+      Inside r place → (k ≡ own p m c sh i) ⊎ GoesOn r place k sh i
   ends_or_goes r place k path sh i at none inside = (plain_steps r place k sh i none).1 (first_step r place k path sh i at inside)
 
-  pub rounds_of : (r : Region) (place k : ℕ) → Costs p t c m r place k → (sh : Shape) (d n : ℕ) → Stands p t m place sh (Loop d n) → Inside r place → Rounds r place k d n
+  pub rounds_of : (r : Region) (place k : ℕ) → Costs p t c m r place k → (sh : Shape) (d n : ℕ) → Stands p t m place sh (Loop d n) →
+      Inside r place → Rounds r place k d n
   rounds_of r place k path sh d n at inside = first_step r place k path sh (Loop d n) at inside

@@ -37,7 +37,8 @@ each_paid c m pays here (f ∷ fs) paid = (paid f.0 (inl refl), each_paid c m pa
 at_most : (x y : ℕ) → y ≡ x → x ≤ y
 at_most x y e = omega (arith, e)
 
-module _ (p : Image) (t : Typing) (c : Prices) (a : Afters) (looped : IsLooped p) (formed : WellFormed p) (linked : IsLinked p) (typed : IsTyped p t) (swept : IsSwept p t c a) where
+module _ (p : Image) (t : Typing) (c : Prices) (a : Afters) (looped : IsLooped p) (formed : WellFormed p) (linked : IsLinked p) (typed : IsTyped p t)
+    (swept : IsSwept p t c a) where
   -- what a region goes out to is paid for by what follows it
   out_paid : (m place to : ℕ) (sh : Shape) (i : Instr) (r : Region) → Stands p t m place sh i → AmongFlows to (flows p m place sh i) → IsInnermost p m place r →
       is_past r to ≡ true → c.from m to ≤ after a m r

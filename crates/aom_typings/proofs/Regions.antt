@@ -20,7 +20,8 @@ use Rattle.aom_typings.proofs.Ways.Way.{back, jump, on}
 -- ---- instructions
 
 -- an instruction begins a loop, ends a round, or does neither
-pub by_kind : (P : Type 0) (i : Instr) → (loop_in (Some i) ≡ None → next_in (Some i) ≡ None → P) → ((d n : ℕ) → i ≡ Loop d n → P) → ((d to : ℕ) → i ≡ Next d to → P) → P
+pub by_kind : (P : Type 0) (i : Instr) → (loop_in (Some i) ≡ None → next_in (Some i) ≡ None → P) → ((d n : ℕ) → i ≡ Loop d n → P) →
+    ((d to : ℕ) → i ≡ Next d to → P) → P
 unfolding loop_in next_in
 by_kind P (Loop d n) plain loop next = loop d n refl
 by_kind P (Next d to) plain loop next = next d to refl
@@ -85,7 +86,8 @@ module _ (p : Image) (looped : IsLooped p) (m : ℕ) where
   one_end from to to' d n d' n' body other = grind (arith, nested from to d n from to' d' n' body other, nested from to' d' n' from to d n other body)
 
   -- where an instruction goes on in a body, unless it begins the loop, it stands there
-  pub came_from : (place to : ℕ) (i : Instr) → instr_at p m place ≡ Some i → loop_in (Some i) ≡ None → Way place i to → (f e k l : ℕ) → Body p m f e k l → IsIn f e to → IsIn f e place
+  pub came_from : (place to : ℕ) (i : Instr) → instr_at p m place ≡ Some i → loop_in (Some i) ≡ None → Way place i to → (f e k l : ℕ) → Body p m f e k l →
+      IsIn f e to → IsIn f e place
   unfolding loop_in
   came_from place to i stands none on f e k l body inside = grind arith
   came_from place to i stands none (jump j) f e k l body inside = looped.jumps m place to i stands j f e k l body inside
@@ -114,7 +116,8 @@ module _ (p : Image) (looped : IsLooped p) (m : ℕ) where
   begun_there from x before = grind (arith, nat_tests, begun)
 
   -- that of a next's loop, at the next
-  pub innermost_of_next : (place d from n : ℕ) (r : Region) → instr_at p m place ≡ Some (Next d (suc from)) → Body p m from place d n → IsInnermost p m place r → (end : ℕ) × (r ≡ Round from end)
+  pub innermost_of_next : (place d from n : ℕ) (r : Region) → instr_at p m place ≡ Some (Next d (suc from)) → Body p m from place d n →
+      IsInnermost p m place r → (end : ℕ) × (r ≡ Round from end)
   innermost_of_next place d from n r at body w = grind (arith, begun_there from r, nested from place d n)
 
   -- there is no other
@@ -131,7 +134,8 @@ module _ (p : Image) (looped : IsLooped p) (m : ℕ) where
   one_innermost place r (Round f e) v w = same_round place f e r w v (begun_there f r (v.others f e w.body.0 w.body.1 w.body.2 w.inside))
 
   -- and it stays the same along a path that stays in it
-  pub innermost_on : (place to : ℕ) (i : Instr) (r : Region) → instr_at p m place ≡ Some i → loop_in (Some i) ≡ None → Way place i to → IsInnermost p m place r → Inside r to → IsInnermost p m to r
+  pub innermost_on : (place to : ℕ) (i : Instr) (r : Region) → instr_at p m place ≡ Some i → loop_in (Some i) ≡ None → Way place i to →
+      IsInnermost p m place r → Inside r to → IsInnermost p m to r
   innermost_on place to i r stands none way w inside = search (arith, nat_tests, came_from place to i stands none way)
 
   -- no loop round the first place
@@ -152,11 +156,11 @@ module _ (p : Image) (looped : IsLooped p) (m : ℕ) where
     out_around : (from to d n out : ℕ) → Body p m from to d n → GoesOut p t m from to out → (f e k l : ℕ) → Body p m f e k l → IsIn f e out → IsIn f e from
     out_around from to d n out body g f e k l other inside =
         let there = came_from _ out _ g.stands.instr (out_from from to d n out body g) (way_of p m g.place out g.shape g.instr g.flow) f e k l other inside in
-        ⊎_elim (λ (lt : f < from). (lt, omega (arith, g.inside.0, there.1)))
-        (λ (ge : from ≤ f). let ends = nested from to d n f e k l body other ge (omega (arith, there.0, g.inside.1)) in absurd (omega (arith, ends, inside.1, g.outside)))
-        (cases_lt f from)
+        ⊎_elim (λ (lt : f < from). (lt, omega (arith, g.inside.0, there.1))) (λ (ge : from ≤ f). let ends = nested from to d n f e k l body other ge
+        (omega (arith, there.0, g.inside.1)) in absurd (omega (arith, ends, inside.1, g.outside))) (cases_lt f from)
 
-    pub innermost_out : (from to d n out : ℕ) (r : Region) → Body p m from to d n → GoesOut p t m from to out → IsInnermost p m from r → Inside r out → IsInnermost p m out r
+    pub innermost_out : (from to d n out : ℕ) (r : Region) → Body p m from to d n → GoesOut p t m from to out → IsInnermost p m from r →
+        Inside r out → IsInnermost p m out r
     innermost_out from to d n out r body g w inside = record {
       body = w.body;
       inside = inside;
@@ -164,7 +168,8 @@ module _ (p : Image) (looped : IsLooped p) (m : ℕ) where
     }
 
     -- what a body goes out to past the end of the body round it, that one goes out to as well
-    pub out_of_both : (from to d n out f e : ℕ) → Body p m from to d n → GoesOut p t m from to out → IsInnermost p m from (Round f e) → e < out → GoesOut p t m f e out
+    pub out_of_both : (from to d n out f e : ℕ) → Body p m from to d n → GoesOut p t m from to out → IsInnermost p m from (Round f e) →
+        e < out → GoesOut p t m f e out
     out_of_both from to d n out f e body g w past =
         let ends = ends_before f e w.body.0 w.body.1 from to d n w.body.2 body w.inside in
         record {
@@ -193,10 +198,9 @@ module _ (p : Image) (looped : IsLooped p) (m : ℕ) where
       loop d n begins =
           let found = looped.begins m k d n begins in
           let body = found.2 in
-          ⊎_elim (λ (lt : k < place). ⊎_elim
-          (λ (past : found.1 < place). inr (λ to' d' n' other inside. let same = one_end k found.1 to' d n d' n' body other in absurd (omega (arith, same, inside.1, past))))
-          (λ (within : place ≤ found.1). inl (found.1, d, n, body, (lt, within))) (cases_lt found.1 place))
-          (λ (ge : place ≤ k). inr (λ to' d' n' other inside. absurd (omega (arith, ge, inside.0)))) (cases_lt k place)
+          ⊎_elim (λ (lt : k < place). ⊎_elim (λ (past : found.1 < place). inr (λ to' d' n' other inside. let same = one_end k found.1
+          to' d n d' n' body other in absurd (omega (arith, same, inside.1, past)))) (λ (within : place ≤ found.1). inl (found.1, d, n, body, (lt, within)))
+          (cases_lt found.1 place)) (λ (ge : place ≤ k). inr (λ to' d' n' other inside. absurd (omega (arith, ge, inside.0)))) (cases_lt k place)
 
       go : (o : Option Instr) → instr_at p m k ≡ o → Around place k ⊎ Misses place k
       go None e = inr (λ to d n body inside. let clash : None ≡ Some (Loop d n) = sym e ∙ body.begins in cc)

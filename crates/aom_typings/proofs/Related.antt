@@ -56,9 +56,8 @@ module _ (R : ℕ → ℕ → Type 0) (none : R 0 0) (p : Image) (c d : Prices) 
   module _ (maxima : (x y z w : ℕ) → R x y → R z w → R (max x z) (max y w)) (m : ℕ) (r : Region) where
     pub most_related : (fs : List Flow) → ((to : ℕ) → AmongFlows to fs → R (c.from m to) (d.from m to)) → R (most_within c m r fs) (most_within d m r fs)
     most_related [] h = none
-    most_related (f ∷ fs) h =
-        maxima (cond (is_past r f.0) 0 (c.from m f.0)) (cond (is_past r f.0) 0 (d.from m f.0)) (most_within c m r fs) (most_within d m r fs)
-        (this (is_past r f.0)) (most_related fs (λ to among. h to (inr among)))
+    most_related (f ∷ fs) h = maxima (cond (is_past r f.0) 0 (c.from m f.0)) (cond (is_past r f.0) 0 (d.from m f.0)) (most_within c m r fs)
+        (most_within d m r fs) (this (is_past r f.0)) (most_related fs (λ to among. h to (inr among)))
       where
         this : (past : Bool) → R (cond past 0 (c.from m f.0)) (cond past 0 (d.from m f.0))
         this true = none

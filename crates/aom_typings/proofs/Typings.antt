@@ -39,7 +39,8 @@ states_typed : (p : Image) (t : Typing) (m : ℕ) → IsTyped p t → IsSome (me
 states_typed p t m h some = search (arith, nat_tests, applies p t m, h.each m, h.entry m some, there)
 
 -- and says no more than the strongest one
-pub says_most : (p : Image) (strongest t : Typing) → IsStrongest p strongest → IsTyped p t → (m : ℕ) → IsSome (method_at p m) → IsBelow (at [] t m) (at [] strongest m)
+pub says_most : (p : Image) (strongest t : Typing) → IsStrongest p strongest → IsTyped p t → (m : ℕ) → IsSome (method_at p m) →
+    IsBelow (at [] t m) (at [] strongest m)
 says_most p strongest t h typed m some = (h.each m some).least (at [] t m) (states_typed p t m typed some)
 
 pub method_typed : (p : Image) (t : Typing) (m : ℕ) → IsTyped p t → IsSome (method_at p m) → HasTyping p m

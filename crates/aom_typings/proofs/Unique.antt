@@ -19,7 +19,8 @@ use Rattle.aom_typings.proofs.Going.{going_same, found_of}
 use Rattle.aom_typings.proofs.Among.{each_below}
 
 -- a path costs the same by a table that says the same of each instruction
-module _ (p : Image) (t : Typing) (c d : Prices) (m : ℕ) (same : (place : ℕ) (sh : Shape) (i : Instr) → Stands p t m place sh i → own p m c sh i ≡ own p m d sh i) where
+module _ (p : Image) (t : Typing) (c d : Prices) (m : ℕ)
+    (same : (place : ℕ) (sh : Shape) (i : Instr) → Stands p t m place sh i → own p m c sh i ≡ own p m d sh i) where
   costs_same : (r : Region) (place k : ℕ) → Costs p t c m r place k → Costs p t d m r place k
   costs_same r place k (outside far) = outside far
   costs_same r place k (ends {sh = sh} {i = i} inside at l) = subst (λ x. Costs p t d m r place x) (sym (same place sh i at)) (ends inside at l)
@@ -29,7 +30,8 @@ module _ (p : Image) (t : Typing) (c d : Prices) (m : ℕ) (same : (place : ℕ)
       loops inside at body (costs_same _ (suc place) b round) out_there (costs_same r out e rest)
   costs_same r place k (loops_in {to = to} {b = b} inside at body round) = loops_in inside at body (costs_same _ (suc place) b round)
 
-module _ (p : Image) (t : Typing) (c d : Prices) (formed : WellFormed p) (linked : IsLinked p) (layered : PaysBefore p t) (are : ArePrices p t c) (also : ArePrices p t d) where
+module _ (p : Image) (t : Typing) (c d : Prices) (formed : WellFormed p) (linked : IsLinked p) (layered : PaysBefore p t) (are : ArePrices p t c)
+    (also : ArePrices p t d) where
   method_same : (m : ℕ) → IsSome (method_at p m) → ((k : ℕ) → k < m → price d k ≡ price c k) → price d m ≡ price c m
   method_same m some before =
       let one = are.methods m some in
@@ -39,7 +41,8 @@ module _ (p : Image) (t : Typing) (c d : Prices) (formed : WellFormed p) (linked
       omega (arith, up, down)
     where
       owned : (place : ℕ) (sh : Shape) (i : Instr) → Stands p t m place sh i → own p m d sh i ≡ own p m c sh i
-      owned place sh i at = own_same (λ n. n) p c d (found_of p formed linked c are.classes) (found_of p formed linked d also.classes) m sh i (λ k paid. before k (layered.each m place k sh i at paid))
+      owned place sh i at = own_same (λ n. n) p c d (found_of p formed linked c are.classes) (found_of p formed linked d also.classes) m sh i
+          (λ k paid. before k (layered.each m place k sh i at paid))
 
   same_there : (k : ℕ) → k < length p.methods → price c k ≡ price d k
   same_there k lt = sym (each_below (λ j. price d j ≡ price c j) (length p.methods) (λ j less before. method_same j (method_is_some p j less) before) k lt)

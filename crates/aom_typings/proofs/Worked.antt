@@ -139,7 +139,8 @@ module _ (c : Prices) where
   past_outer k path = let nothing = outside_cost worked worked_typing c 0 (Round 0 5) 7 k path (λ inside. omega (arith, inside.1)) in omega (arith, nothing)
 
   -- a loop whose rounds and exits cost so much at most
-  loop_line : (r : Region) (place end d n b e : ℕ) → There place (Loop d n) → Inside r place → ((to : ℕ) → Body worked 0 place to d n → to ≡ end) → Most (Round place end) (suc place) b →
+  loop_line : (r : Region) (place end d n b e : ℕ) →
+      There place (Loop d n) → Inside r place → ((to : ℕ) → Body worked 0 place to d n → to ≡ end) → Most (Round place end) (suc place) b →
       ((out : ℕ) → GoesOut worked worked_typing 0 place end out → Most r out e) → (k : ℕ) → Path r place k → (x : ℕ) × (x ≤ b) × (k ≤ 1 + n * x + e)
   loop_line r place end d n b e at inside is_end most exits k path = go (rounds_of worked worked_typing c 0 r place k path a_word d n at inside)
     where
@@ -171,7 +172,8 @@ module _ (c : Prices) where
 
   inner_round : Path (Round 1 4) 2 3
   unfolding loop_in next_in
-  inner_round = goes (omega arith, omega arith) at_each.2 refl refl (inl refl) (goes (omega arith, omega arith) at_each.3 refl refl (inl refl) (ends (omega arith, omega arith) at_each.4 refl))
+  inner_round = goes (omega arith, omega arith) at_each.2 refl refl (inl refl)
+      (goes (omega arith, omega arith) at_each.3 refl refl (inl refl) (ends (omega arith, omega arith) at_each.4 refl))
 
   inner_exit : GoesOut worked worked_typing 0 1 4 5
   inner_exit = record { place = 4; inside = (omega arith, omega arith); shape = a_word; instr = Next 1 2; stands = at_each.4; flow = inr (inl refl); outside = omega arith }

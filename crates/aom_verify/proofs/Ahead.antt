@@ -24,8 +24,7 @@ use Rattle.std.proofs.lemmas.Bool.{or_parts}
 pub set_but : (nodes : List Node) (kept : List (Option Kept)) (to : ℕ) (k : Kept) → SameBut to (shapes_of nodes kept) (shapes_of nodes (slice_set kept to (Some k)))
 set_but nodes kept to k pc other = rw (set_shapes nodes kept to (Some k)) (at_set_other None (shapes_of nodes kept) to pc (Some (kept_shape nodes k)) other)
 
-pub joined_ahead :
-    (old new : Shapes) (to seen : ℕ) (step : Step) → IsChange old new step.change → SameBut to old new →
+pub joined_ahead : (old new : Shapes) (to seen : ℕ) (step : Step) → IsChange old new step.change → SameBut to old new →
     (step.is_behind ≡ false → (step.change ≡ Nothing) ⊎ (seen < to)) → (step.change ≡ Nothing → step.is_behind ≡ false) → IsAhead seen old new step
 joined_ahead old new to seen step changed others ahead nothing = record { same = λ behind. go (ahead behind); nothing = nothing }
   where
@@ -34,9 +33,9 @@ joined_ahead old new to seen step changed others ahead nothing = record { same =
     go (inr lt) pc le = others pc (λ e. absurd (omega (arith, e, le, lt)))
 
 -- what was joined at a place by a step with that change
-pub joined_at :
-    (old new : Shapes) (ways : List Flow) (to seen : ℕ) (change : StatesChange) (step : Step) → Joins old new ways change → SameBut to old new → step.change ≡ change →
-    (step.is_behind ≡ false → (change ≡ Nothing) ⊎ (seen < to)) → (change ≡ Nothing → step.is_behind ≡ false) → Joins old new ways step.change × IsAhead seen old new step
+pub joined_at : (old new : Shapes) (ways : List Flow) (to seen : ℕ) (change : StatesChange) (step : Step) → Joins old new ways change →
+    SameBut to old new → step.change ≡ change → (step.is_behind ≡ false → (change ≡ Nothing) ⊎ (seen < to)) → (change ≡ Nothing → step.is_behind ≡ false) →
+    Joins old new ways step.change × IsAhead seen old new step
 joined_at old new ways to seen change step joins others same ahead nothing =
     let here : Joins old new ways step.change = rw same joins in
     (here, joined_ahead old new to seen step here.changed others (rw same ahead) (rw same nothing))
@@ -68,7 +67,8 @@ nothing_first _ _ e = absurd (grind arith)
 nothing_last : (x y : StatesChange) → then x y ≡ Nothing → y ≡ Nothing
 nothing_last x y e = rw (nothing_first x y e) at e
 
-pub then_nothing : (x y : Step) → (x.change ≡ Nothing → x.is_behind ≡ false) → (y.change ≡ Nothing → y.is_behind ≡ false) → (step_then x y).change ≡ Nothing → (step_then x y).is_behind ≡ false
+pub then_nothing : (x y : Step) → (x.change ≡ Nothing → x.is_behind ≡ false) → (y.change ≡ Nothing → y.is_behind ≡ false) → (step_then x y).change ≡ Nothing →
+    (step_then x y).is_behind ≡ false
 then_nothing x y one other e = or_none x.is_behind y.is_behind (one (nothing_first x.change y.change e)) (other (nothing_last x.change y.change e))
 
 pub then_ahead : (seen : ℕ) (a b c : Shapes) (x y : Step) → IsAhead seen a b x → IsAhead seen b c y → IsAhead seen a c (step_then x y)

@@ -54,8 +54,10 @@ module _ {K : Type 0} (none : K) (rank : K → ℕ) (Less : K → K → Type 0) 
   all_stay [] (y ∷ ys) h e (suc i) = all_stay [] ys (λ i. h (suc i)) (omega (arith, sum_by-cons rank y ys, falls none y (h 0), all_fall [] ys (λ i. h (suc i)))) i
   all_stay (x ∷ xs) [] h e zero = stays x none (h 0) (omega (arith, sum_by-cons rank x xs, falls x none (h 0), all_fall xs [] (λ i. h (suc i))))
   all_stay (x ∷ xs) [] h e (suc i) = all_stay xs [] (λ i. h (suc i)) (omega (arith, sum_by-cons rank x xs, falls x none (h 0), all_fall xs [] (λ i. h (suc i)))) i
-  all_stay (x ∷ xs) (y ∷ ys) h e zero = stays x y (h 0) (omega (arith, sum_by-cons rank x xs, sum_by-cons rank y ys, falls x y (h 0), all_fall xs ys (λ i. h (suc i))))
-  all_stay (x ∷ xs) (y ∷ ys) h e (suc i) = all_stay xs ys (λ i. h (suc i)) (omega (arith, sum_by-cons rank x xs, sum_by-cons rank y ys, falls x y (h 0), all_fall xs ys (λ i. h (suc i)))) i
+  all_stay (x ∷ xs) (y ∷ ys) h e zero =
+      stays x y (h 0) (omega (arith, sum_by-cons rank x xs, sum_by-cons rank y ys, falls x y (h 0), all_fall xs ys (λ i. h (suc i))))
+  all_stay (x ∷ xs) (y ∷ ys) h e (suc i) =
+      all_stay xs ys (λ i. h (suc i)) (omega (arith, sum_by-cons rank x xs, sum_by-cons rank y ys, falls x y (h 0), all_fall xs ys (λ i. h (suc i)))) i
 
 -- a set that has another is that one, or falls less often
 states_fall : (a b : ℕ) → IsTrue (has a b) → states_rank a ≤ states_rank b

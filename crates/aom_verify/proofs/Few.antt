@@ -1,5 +1,6 @@
 -- The states of a method have fewer cleanup entries than there are places reached, and so fewer than it has places.
-use Rattle.std.proofs.Common.{◌≡◌, ℕ, zero, suc, ◌<◌, ◌≤◌, List, [], ◌∷◌, ◌++◌, length, Option, Some, None, slice_set, slice_index_or, replicate, inl, inr, refl, sym, ◌∙◌, ap, arith}
+use Rattle.std.proofs.Common.{◌≡◌, ℕ, zero, suc, ◌<◌, ◌≤◌, List, [], ◌∷◌, ◌++◌, length, Option, Some, None, slice_set, slice_index_or, replicate, inl, inr}
+use Rattle.std.proofs.Common.{refl, sym, ◌∙◌, ap, arith}
 use Rattle.std.proofs.lemmas.Bool.Decides.{eqb_tells}
 use Rattle.std.proofs.lemmas.List.{length-set, length-replicate}
 use Rattle.std.proofs.lemmas.List.Sums.{sum_by-set, sum_by-cons}
@@ -38,7 +39,8 @@ few_first s to sh h within e few =
     }
 
 -- its state falls, and keeps its entries
-pub few_lower : (s : Shapes) (to : ℕ) (sh there less : Shape) → HasFewEntries s → to < length s → at None s to ≡ Some there → IsMeet less there sh → HasFewEntries (slice_set s to (Some less))
+pub few_lower : (s : Shapes) (to : ℕ) (sh there less : Shape) → HasFewEntries s → to < length s → at None s to ≡ Some there → IsMeet less there sh →
+    HasFewEntries (slice_set s to (Some less))
 few_lower s to sh there less h within e meet =
     let read : slice_index_or s to (Some there) ≡ Some there = at_within None (Some there) s to within ∙ e in
     let as_many = sum_by-set unreached s to (Some less) (Some there) within in
@@ -110,6 +112,7 @@ room p m s pc sh spans h e = record {
 pub flows_few : (p : Image) (m pc : ℕ) (sh : Shape) (ways : List Flow) → Flows p m pc sh ways → HaveAtMost (suc (length sh.entries)) ways
 flows_few p m pc sh ways h = rw h.is (at_most_one_more p m pc sh h.instr)
 
-pub ways_few : (s : Shapes) (pc : ℕ) (sh : Shape) (ways : List Flow) → HasFewEntries s → at None s pc ≡ Some sh → HaveAtMost (suc (length sh.entries)) ways → AllFew s ways
+pub ways_few : (s : Shapes) (pc : ℕ) (sh : Shape) (ways : List Flow) → HasFewEntries s → at None s pc ≡ Some sh →
+    HaveAtMost (suc (length sh.entries)) ways → AllFew s ways
 ways_few s pc sh [] h e few = tt
 ways_few s pc sh (way ∷ ways) h e few = (omega (arith, h.each pc sh e, few.0), ways_few s pc sh ways h e few.1)

@@ -54,13 +54,15 @@ put_strongest t s to sh m h below meets = record {
     | inl w ↦
         let here = put_here s to m h.within in
         let same : m ≡ x = let f = rw w.1 at e in cc in
-        let found : Meets t to m = record { next = meets.next; there = meets.there; no_more = h.strongest meets.next meets.no_more (below_at t s to sh meets below) } in
+        let found : Meets t to m =
+        record { next = meets.next; there = meets.there; no_more = h.strongest meets.next meets.no_more (below_at t s to sh meets below) } in
         rw (w.1, ← same) found
     | inr w ↦ below.each pc x (sym (at_set_other None s to pc (Some m) w.1) ∙ e)
   ];
 }
 
-put_arrives : (s : Shapes) (to : ℕ) (sh m : Shape) → IsPut s to sh m → (p : Image) (k : ℕ) → AllArrive p k s → Arrives p k to sh → AllArrive p k (slice_set s to (Some m))
+put_arrives : (s : Shapes) (to : ℕ) (sh m : Shape) → IsPut s to sh m → (p : Image) (k : ℕ) → AllArrive p k s → Arrives p k to sh →
+    AllArrive p k (slice_set s to (Some m))
 put_arrives s to sh m h p k all here = λ pc x e. elim (eqb_tells pc to) [
   | inl w ↦
       let there = put_here s to m h.within in
@@ -69,7 +71,8 @@ put_arrives s to sh m h p k all here = λ pc x e. elim (eqb_tells pc to) [
   | inr w ↦ all pc x (sym (at_set_other None s to pc (Some m) w.1) ∙ e)
 ]
 
-joins_put : (s : Shapes) (to : ℕ) (sh m : Shape) (change : StatesChange) → IsPut s to sh m → IsChange s (slice_set s to (Some m)) change → Joins s (slice_set s to (Some m)) ((to, sh) ∷ []) change
+joins_put : (s : Shapes) (to : ℕ) (sh m : Shape) (change : StatesChange) → IsPut s to sh m → IsChange s (slice_set s to (Some m)) change →
+    Joins s (slice_set s to (Some m)) ((to, sh) ∷ []) change
 joins_put s to sh m change h changed = record {
   size = length-set s to (Some m);
   below_old = put_below s to sh m h;
@@ -89,15 +92,14 @@ joins_first s to sh within e =
 
 -- the state there says no more already
 pub joins_none : (s : Shapes) (to : ℕ) (sh there : Shape) → at None s to ≡ Some there → SaysNoMore there sh → Joins s s ((to, sh) ∷ []) Nothing
-joins_none s to sh there here h =
-    record {
-      size = refl;
-      below_old = below_self s;
-      met = (record { next = there; there = here; no_more = h }, tt);
-      strongest = λ t below meets. below;
-      arrives = λ p k all each. all;
-      changed = refl;
-    }
+joins_none s to sh there here h = record {
+  size = refl;
+  below_old = below_self s;
+  met = (record { next = there; there = here; no_more = h }, tt);
+  strongest = λ t below meets. below;
+  arrives = λ p k all each. all;
+  changed = refl;
+}
 
 -- the state there falls
 pub joins_lower : (s : Shapes) (to : ℕ) (sh there less : Shape) → to < length s → at None s to ≡ Some there →
@@ -105,8 +107,7 @@ pub joins_lower : (s : Shapes) (to : ℕ) (sh there less : Shape) → to < lengt
 joins_lower s to sh there less within here differs meet byte =
     let read : slice_index_or s to (Some there) ≡ Some there = at_within None (Some there) s to within ∙ here in
     let falls = shape_falls less there byte meet.first (λ h. differs (transitive there less sh h meet.second)) in
-    joins_put s to sh less Fell
-    (record {
+    joins_put s to sh less Fell (record {
       within = within;
       no_more = meet.second;
       old = λ other f. let same : there ≡ other = cc in rw same at meet.first;
@@ -123,7 +124,8 @@ cannot_join s to sh there here no_meet =
     record { none = λ t below meets. no_meet.none meets.0.next (below_at t s to sh meets.0 below there here) meets.0.no_more }
 
 -- and where both arrive the state there is refused
-pub join_fails : (s : Shapes) (to : ℕ) (sh there : Shape) (why : Why) → at None s to ≡ Some there → NoMeet there sh → WhyNoMeet there sh why → JoinFails s s ((to, sh) ∷ []) to why
+pub join_fails : (s : Shapes) (to : ℕ) (sh there : Shape) (why : Why) → at None s to ≡ Some there → NoMeet there sh → WhyNoMeet there sh why →
+    JoinFails s s ((to, sh) ∷ []) to why
 join_fails s to sh there why here no_meet reason = λ p k all each. record { arrive = all; shape = there; there = here; refused = without_meet each.0 no_meet reason }
 
 all_met_add : (s : Shapes) (xs ys : List Flow) → AllMet s xs → AllMet s ys → AllMet s (xs ++ ys)
@@ -173,7 +175,8 @@ cannot_last a b xs ys x h k = record { none = λ t below met. k.none t (h.strong
 pub fails_first : (a c : Shapes) (xs ys : List Flow) (place : ℕ) (why : Why) → JoinFails a c xs place why → JoinFails a c (xs ++ ys) place why
 fails_first a c xs ys place why fails = λ p k all each. fails p k all (each_first p k xs ys each)
 
-pub fails_last : (a b c : Shapes) (xs ys : List Flow) (x : StatesChange) (place : ℕ) (why : Why) → Joins a b xs x → JoinFails b c ys place why → JoinFails a c (xs ++ ys) place why
+pub fails_last : (a b c : Shapes) (xs ys : List Flow) (x : StatesChange) (place : ℕ) (why : Why) → Joins a b xs x → JoinFails b c ys place why →
+    JoinFails a c (xs ++ ys) place why
 fails_last a b c xs ys x place why h fails = λ p k all each. fails p k (h.arrives p k all (each_first p k xs ys each)) (each_last p k xs ys each)
 
 pub within_first : (n : ℕ) (xs ys : List Flow) → AllWithin n (xs ++ ys) → AllWithin n xs

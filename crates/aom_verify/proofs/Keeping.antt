@@ -35,7 +35,8 @@ at_shapes nodes [] pc = refl
 at_shapes nodes (k ∷ ks) zero = refl
 at_shapes nodes (k ∷ ks) (suc pc) = at_shapes nodes ks pc
 
-pub set_shapes : (nodes : List Node) (kept : List (Option Kept)) (pc : ℕ) (k : Option Kept) → shapes_of nodes (slice_set kept pc k) ≡ slice_set (shapes_of nodes kept) pc (shape_of nodes k)
+pub set_shapes : (nodes : List Node) (kept : List (Option Kept)) (pc : ℕ) (k : Option Kept) →
+    shapes_of nodes (slice_set kept pc k) ≡ slice_set (shapes_of nodes kept) pc (shape_of nodes k)
 set_shapes nodes [] pc k = refl
 set_shapes nodes (x ∷ xs) zero k = refl
 set_shapes nodes (x ∷ xs) (suc pc) k = ap (λ (s : Shapes). shape_of nodes x ∷ s) (set_shapes nodes xs pc k)
@@ -49,7 +50,8 @@ read_kept kept to o within h = sym (at_within None o kept to within) ∙ sym h
 
 pub kept_there : (nodes : List Node) (kept : List (Option Kept)) (pc : ℕ) (o : Option Kept) →
     pc < length (shapes_of nodes kept) → o ≡ slice_index_or kept pc o → shape_of nodes o ≡ at None (shapes_of nodes kept) pc
-kept_there nodes kept pc o within is = ap (shape_of nodes) (sym (read_kept kept pc o (omega (arith, within, length_shapes nodes kept)) is)) ∙ sym (at_shapes nodes kept pc)
+kept_there nodes kept pc o within is = ap (shape_of nodes) (sym (read_kept kept pc o (omega (arith, within, length_shapes nodes kept)) is))
+    ∙ sym (at_shapes nodes kept pc)
 
 pub kept_stands : (nodes : List Node) (kept : List (Option Kept)) (pc : ℕ) (o : Option Kept) →
     pc < length (shapes_of nodes kept) → o ≡ slice_index_or kept pc o → AreKept nodes kept → IfSome o (λ k. Stands nodes k.pile)
@@ -62,7 +64,8 @@ same_shape : (old new : List Node) (o : Option Kept) → Extends old new → ((k
 same_shape old new None h stand = refl
 same_shape old new (Some k) h stand = rw (h.same k.pile (stand k refl)) refl
 
-pub same_shapes : (old new : List Node) (kept : List (Option Kept)) → Extends old new → ((pc : ℕ) (k : Kept) → at None kept pc ≡ Some k → Stands old k.pile) → shapes_of new kept ≡ shapes_of old kept
+pub same_shapes : (old new : List Node) (kept : List (Option Kept)) → Extends old new → ((pc : ℕ) (k : Kept) → at None kept pc ≡ Some k → Stands old k.pile) →
+    shapes_of new kept ≡ shapes_of old kept
 same_shapes old new [] h stand = refl
 same_shapes old new (o ∷ os) h stand = rw (same_shape old new o h (λ k e. stand 0 k e), same_shapes old new os h (λ pc k e. stand (suc pc) k e))
 
@@ -94,7 +97,8 @@ module _ (nodes : List Node) (kept : List (Option Kept)) (to : ℕ) (new : Kept)
   filled : (there : Kept) → at None kept to ≡ Some there → at None (shapes_of nodes kept) to ≡ Some (kept_shape nodes there)
   filled there e = at_shapes nodes kept to ∙ ap (shape_of nodes) e
 
-  pub kept_first : AreKept nodes kept → at None kept to ≡ None → IsFew (shapes_of nodes kept) (kept_shape nodes new) → Stands nodes new.pile → AreKept nodes (slice_set kept to (Some new))
+  pub kept_first : AreKept nodes kept → at None kept to ≡ None → IsFew (shapes_of nodes kept) (kept_shape nodes new) → Stands nodes new.pile →
+      AreKept nodes (slice_set kept to (Some new))
   kept_first h e few stands = record {
     stand = stands_set nodes kept to new within h.stand stands;
     few = rw (set_shapes nodes kept to (Some new)) (few_first _ to _ h.few inside (empty e) few);
@@ -103,7 +107,8 @@ module _ (nodes : List Node) (kept : List (Option Kept)) (to : ℕ) (new : Kept)
   pub first_joined : at None kept to ≡ None → Joins (shapes_of nodes kept) (shapes_of nodes (slice_set kept to (Some new))) ((to, kept_shape nodes new) ∷ []) Reached
   first_joined e = rw (set_shapes nodes kept to (Some new)) (joins_first _ to _ inside (empty e))
 
-  pub none_joined : (there : Kept) → at None kept to ≡ Some there → Lowers nodes there new None → Joins (shapes_of nodes kept) (shapes_of nodes kept) ((to, kept_shape nodes new) ∷ []) Nothing
+  pub none_joined : (there : Kept) → at None kept to ≡ Some there → Lowers nodes there new None →
+      Joins (shapes_of nodes kept) (shapes_of nodes kept) ((to, kept_shape nodes new) ∷ []) Nothing
   none_joined there e h = joins_none _ to _ _ (filled there e) h
 
   pub kept_lower : (there : Kept) (known : Known) → AreKept nodes kept → at None kept to ≡ Some there →
@@ -128,7 +133,8 @@ module _ (nodes : List Node) (kept : List (Option Kept)) (to : ℕ) (new : Kept)
 
 -- ---- the first states
 
-pub first_shapes_are : (nodes : List Node) (n : ℕ) (k : Kept) → shapes_of nodes (slice_set (replicate n None) 0 (Some k)) ≡ slice_set (replicate n None) 0 (Some (kept_shape nodes k))
+pub first_shapes_are : (nodes : List Node) (n : ℕ) (k : Kept) →
+    shapes_of nodes (slice_set (replicate n None) 0 (Some k)) ≡ slice_set (replicate n None) 0 (Some (kept_shape nodes k))
 first_shapes_are nodes n k = set_shapes nodes (replicate n None) 0 (Some k) ∙ ap (λ (s : Shapes). slice_set s 0 (Some (kept_shape nodes k))) (none_shapes nodes n)
 
 pub none_reached : {A : Type 0} (n pc : ℕ) → at {A = Option A} None (replicate n None) pc ≡ None
@@ -136,8 +142,10 @@ none_reached zero pc = refl
 none_reached (suc n) zero = refl
 none_reached (suc n) (suc pc) = none_reached n pc
 
-pub kept_at_first : (nodes : List Node) (n : ℕ) (new : Kept) → 0 < n → Stands nodes new.pile → (kept_shape nodes new).entries ≡ [] → AreKept nodes (slice_set (replicate n None) 0 (Some new))
+pub kept_at_first : (nodes : List Node) (n : ℕ) (new : Kept) → 0 < n → Stands nodes new.pile → (kept_shape nodes new).entries ≡ [] →
+    AreKept nodes (slice_set (replicate n None) 0 (Some new))
 kept_at_first nodes n new some stands none = record {
-  stand = stands_set nodes (replicate n None) 0 new (omega (arith, some, length-replicate {A = Option Kept} n None)) (λ pc k e. absurd (none-some k (sym (none_reached n pc) ∙ e))) stands;
+  stand = stands_set nodes (replicate n None) 0 new (omega (arith, some, length-replicate {A = Option Kept} n None))
+      (λ pc k e. absurd (none-some k (sym (none_reached n pc) ∙ e))) stands;
   few = rw (first_shapes_are nodes n new) (few_at_first n (kept_shape nodes new) some none);
 }

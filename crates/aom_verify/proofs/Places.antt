@@ -19,14 +19,13 @@ some_places p m d h e = let fits : MethodFits p.header.version (length p.classes
 -- a state with room has fewer entries than a method may have places
 pub few_places : (p : Image) (m : ℕ) (sh : Shape) → WellFormed p → IsSome (method_at p m) → HasRoom p m sh → length sh.entries < 1024
 unfolding method_at
-few_places p m sh h some room =
-    elim (method_at p m) as (λ o. method_at p m ≡ o → IsSome o → length sh.entries < 1024) [
-      | None ↦ λ e some. absurd cc
-      | Some d ↦ λ e some.
-          let fits : MethodFits p.header.version (length p.classes) (length p.methods) d =
-          all_there (λ x. MethodFits p.header.version (length p.classes) (length p.methods) x) p.methods m d h.methods.each e in
-          omega (arith, fits.code_length, room.each d e)
-    ] refl some
+few_places p m sh h some room = elim (method_at p m) as (λ o. method_at p m ≡ o → IsSome o → length sh.entries < 1024) [
+  | None ↦ λ e some. absurd cc
+  | Some d ↦ λ e some.
+      let fits : MethodFits p.header.version (length p.classes) (length p.methods) d =
+      all_there (λ x. MethodFits p.header.version (length p.classes) (length p.methods) x) p.methods m d h.methods.each e in
+      omega (arith, fits.code_length, room.each d e)
+] refl some
 
 pub spanned : (p : Image) (m n : ℕ) (s : Shapes) → HasPlaces p m n → length s ≡ n → Spans p m s
 spanned p m n s h e = record { method = h.method; is = h.is; size = e ∙ h.size }

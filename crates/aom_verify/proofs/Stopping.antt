@@ -30,12 +30,14 @@ pub stops_first : (a c : Shapes) (xs ys : List Flow) (fault : SweepFault) → Jo
 stops_first a c xs ys OutOfMemory h = tt
 stops_first a c xs ys (At place why) h = (cannot_first a xs ys h.0, h.1, fails_first a c xs ys place why h.2)
 
-pub stops_last : (a b c : Shapes) (xs ys : List Flow) (x : StatesChange) (fault : SweepFault) → Joins a b xs x → JoinStops b c ys fault → JoinStops a c (xs ++ ys) fault
+pub stops_last : (a b c : Shapes) (xs ys : List Flow) (x : StatesChange) (fault : SweepFault) → Joins a b xs x → JoinStops b c ys fault →
+    JoinStops a c (xs ++ ys) fault
 stops_last a b c xs ys x OutOfMemory joins h = tt
 stops_last a b c xs ys x (At place why) joins h = (cannot_last a b xs ys x joins h.0, omega (arith, h.1, joins.size), fails_last a b c xs ys x place why joins h.2)
 
 -- a rule that fails, and flows that cannot be joined
-pub stops_rule : (p : Image) (m : ℕ) (s : Shapes) (pc : ℕ) (sh : Shape) (why : Why) → pc < length s → at None s pc ≡ Some sh → Fails p m pc sh why → Stops p m s s (At pc why)
+pub stops_rule : (p : Image) (m : ℕ) (s : Shapes) (pc : ℕ) (sh : Shape) (why : Why) → pc < length s → at None s pc ≡ Some sh → Fails p m pc sh why →
+    Stops p m s s (At pc why)
 stops_rule p m s pc sh why within e h = (failed_visit p m s pc sh why e h, within, told_rule p m s pc pc sh why e h refl)
 
 pub stops_visit : (p : Image) (m : ℕ) (s new : Shapes) (pc : ℕ) (sh : Shape) (ways : List Flow) (fault : SweepFault) → at None s pc ≡ Some sh →

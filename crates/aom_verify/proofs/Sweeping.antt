@@ -45,7 +45,8 @@ fails_before p m a b c place why h k = λ all. k (h.arrives all)
 pub sweeps_self : (p : Image) (m : ℕ) (s : Shapes) → Sweeps p m s s 0 (record { change = Nothing; is_behind = false })
 sweeps_self p m s = record { keeps = keeps_self p m s; changed = refl; nothing = λ none. refl; applies = λ behind pc below. absurd (omega arith) }
 
-pub sweeps_more : (p : Image) (m : ℕ) (a b c : Shapes) (count : ℕ) (x y : Step) → Sweeps p m a b count x → Visits p m b c count y → Sweeps p m a c (count + 1) (step_then x y)
+pub sweeps_more : (p : Image) (m : ℕ) (a b c : Shapes) (count : ℕ) (x y : Step) → Sweeps p m a b count x → Visits p m b c count y →
+    Sweeps p m a c (count + 1) (step_then x y)
 sweeps_more p m a b c count x y h k = record {
   keeps = keeps_along p m a b c h.keeps k.keeps;
   changed = changes_add a b c x.change y.change h.changed k.changed;
@@ -68,7 +69,8 @@ first_count places entry = length-set (replicate places None) 0 (Some entry) ∙
 entry_stands : (places : ℕ) (entry : Shape) → 0 < places → at None (first_shapes places entry) 0 ≡ Some entry
 entry_stands places entry h = at_set_here None (replicate places None) 0 (Some entry) (omega (arith, h, length-replicate {A = Option Shape} places None))
 
-pub typing_below_first : (p : Image) (m : ℕ) (t : Shapes) (places : ℕ) (entry : Shape) → 0 < places → SaysNoMore (entry_shape p m) entry → IsMethodTyped p m t → IsBelow t (first_shapes places entry)
+pub typing_below_first : (p : Image) (m : ℕ) (t : Shapes) (places : ℕ) (entry : Shape) → 0 < places → SaysNoMore (entry_shape p m) entry → IsMethodTyped p m t →
+    IsBelow t (first_shapes places entry)
 typing_below_first p m t places entry some no_less typed = record {
   each = λ pc sh e. elim (eqb_tells pc 0) [
     | inl w ↦
@@ -82,7 +84,8 @@ typing_below_first p m t places entry some no_less typed = record {
 }
 
 -- the state before the first sweep is what is known as the method begins
-pub first_arrives : (p : Image) (m : ℕ) (places : ℕ) (entry : Shape) → 0 < places → SaysNoMore entry (entry_shape p m) → SaysNoMore (entry_shape p m) entry → AllArrive p m (first_shapes places entry)
+pub first_arrives : (p : Image) (m : ℕ) (places : ℕ) (entry : Shape) → 0 < places → SaysNoMore entry (entry_shape p m) → SaysNoMore (entry_shape p m) entry →
+    AllArrive p m (first_shapes places entry)
 first_arrives p m places entry some no_more no_less = λ pc sh e. elim (eqb_tells pc 0) [
   | inl w ↦
       let same : entry ≡ sh = let f = rw w.1 at e in let g = entry_stands places entry some in cc in
@@ -108,5 +111,6 @@ settled p m places entry s some no_more no_less h = record {
 }
 
 -- and where there is no typing below the first states the method has none
-pub untyped : (p : Image) (m : ℕ) (places : ℕ) (entry : Shape) → 0 < places → SaysNoMore (entry_shape p m) entry → NoTypingBelow p m (first_shapes places entry) → ¬ HasTyping p m
+pub untyped : (p : Image) (m : ℕ) (places : ℕ) (entry : Shape) → 0 < places → SaysNoMore (entry_shape p m) entry →
+    NoTypingBelow p m (first_shapes places entry) → ¬ HasTyping p m
 untyped p m places entry some no_less h = λ typing. h.none typing.states typing.typed (typing_below_first p m typing.states places entry some no_less typing.typed)

@@ -44,7 +44,8 @@ typed_below p m t s pc sh typed below e =
     record { next = meets.next; no_more = meets.no_more; applies = typed.each pc meets.next meets.there }
 
 -- it meets the flows
-typing_meets : (p : Image) (m : ℕ) (t s : Shapes) (pc : ℕ) (sh : Shape) (ways : List Flow) → at None s pc ≡ Some sh → Flows p m pc sh ways → IsMethodTyped p m t → IsBelow t s → AllMet t ways
+typing_meets : (p : Image) (m : ℕ) (t s : Shapes) (pc : ℕ) (sh : Shape) (ways : List Flow) → at None s pc ≡ Some sh → Flows p m pc sh ways →
+    IsMethodTyped p m t → IsBelow t s → AllMet t ways
 typing_meets p m t s pc sh ways e h typed below =
     let found = typed_below p m t s pc sh typed below e in
     let same : found.applies.instr ≡ h.instr = let f = found.applies.stands in let g = h.stands in cc in
@@ -61,7 +62,8 @@ failed_visit p m s pc sh why e h = record {
 }
 
 -- where the flows cannot be joined there is none
-pub failed_join : (p : Image) (m : ℕ) (s : Shapes) (pc : ℕ) (sh : Shape) (ways : List Flow) → at None s pc ≡ Some sh → Flows p m pc sh ways → CannotJoin s ways → NoTypingBelow p m s
+pub failed_join : (p : Image) (m : ℕ) (s : Shapes) (pc : ℕ) (sh : Shape) (ways : List Flow) → at None s pc ≡ Some sh → Flows p m pc sh ways →
+    CannotJoin s ways → NoTypingBelow p m s
 failed_join p m s pc sh ways e h k = record { none = λ t typed below. k.none t below (typing_meets p m t s pc sh ways e h typed below) }
 
 -- the flows of a state that arrives do
@@ -69,11 +71,13 @@ each_arrives : (p : Image) (m : ℕ) (ways : List Flow) → ((to : ℕ) (next : 
 each_arrives p m [] h = tt
 each_arrives p m (way ∷ ways) h = (h way.0 way.1 (inl refl), each_arrives p m ways (λ to next one. h to next (inr one)))
 
-ways_arrive : (p : Image) (m : ℕ) (s : Shapes) (pc : ℕ) (sh : Shape) (ways : List Flow) → at None s pc ≡ Some sh → Flows p m pc sh ways → AllArrive p m s → EachArrives p m ways
+ways_arrive : (p : Image) (m : ℕ) (s : Shapes) (pc : ℕ) (sh : Shape) (ways : List Flow) → at None s pc ≡ Some sh → Flows p m pc sh ways →
+    AllArrive p m s → EachArrives p m ways
 ways_arrive p m s pc sh ways e h all = rw h.is (each_arrives p m (flows p m pc sh h.instr) (λ to next one. led (all pc sh e) h.stands h.needs one))
 
 -- a need that fails there, and flows that cannot be joined, are told of states that arrive
-pub told_rule : (p : Image) (m : ℕ) (s : Shapes) (pc place : ℕ) (sh : Shape) (why : Why) → at None s pc ≡ Some sh → Fails p m pc sh why → place ≡ pc → StatesFail p m s s place why
+pub told_rule : (p : Image) (m : ℕ) (s : Shapes) (pc place : ℕ) (sh : Shape) (why : Why) → at None s pc ≡ Some sh → Fails p m pc sh why → place ≡ pc →
+    StatesFail p m s s place why
 told_rule p m s pc place sh why e h same = λ all. rw same (record { arrive = all; shape = sh; there = e; refused = by_need h.stands h.is })
 
 pub told_join : (p : Image) (m : ℕ) (s new : Shapes) (pc place : ℕ) (sh : Shape) (ways : List Flow) (why : Why) → at None s pc ≡ Some sh →

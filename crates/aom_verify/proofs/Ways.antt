@@ -28,17 +28,17 @@ use Rattle.aom_verify.specs.Sweep.{AllWithin, Flows, Fails, WithinMethod}
 
 judged_ok : (needs : List Need) (fs gs : List Flow) → judged needs fs ≡ Ok gs → AllTrue needs × (gs ≡ fs)
 judged_ok [] fs gs e = (tt, cc)
-judged_ok (need ∷ needs) fs gs e =
-    elim need.0 as (λ b. cond b (judged needs fs) (Err need.1) ≡ Ok gs → ((b ≡ true) × AllTrue needs) × (gs ≡ fs)) [
-      | true ↦ λ e. let r = judged_ok needs fs gs e in ((refl, r.0), r.1)
-      | false ↦ λ e. absurd cc
-    ] e
+judged_ok (need ∷ needs) fs gs e = elim need.0 as (λ b. cond b (judged needs fs) (Err need.1) ≡ Ok gs → ((b ≡ true) × AllTrue needs) × (gs ≡ fs)) [
+  | true ↦ λ e. let r = judged_ok needs fs gs e in ((refl, r.0), r.1)
+  | false ↦ λ e. absurd cc
+] e
 
 judged_err : (needs : List Need) (fs : List Flow) (why : Why) → judged needs fs ≡ Err why → ¬ AllTrue needs
 judged_err [] fs why e = λ all. cc
 judged_err (need ∷ needs) fs why e = λ all. judged_err needs fs why (rw all.0 at e) all.1
 
-pub has_flows : (p : Image) (m pc : ℕ) (sh : Shape) (ways : List Flow) → IsSome (instr_at p m pc) → IfSome (instr_at p m pc) (λ i. Ok ways ≡ rule p m pc sh i) → Flows p m pc sh ways
+pub has_flows : (p : Image) (m pc : ℕ) (sh : Shape) (ways : List Flow) → IsSome (instr_at p m pc) →
+    IfSome (instr_at p m pc) (λ i. Ok ways ≡ rule p m pc sh i) → Flows p m pc sh ways
 has_flows p m pc sh ways some h =
     elim (instr_at p m pc) as (λ o. instr_at p m pc ≡ o → IsSome o → IfSome o (λ i. Ok ways ≡ rule p m pc sh i) → Flows p m pc sh ways) [
       | None ↦ λ e some h. absurd cc
@@ -47,7 +47,8 @@ has_flows p m pc sh ways some h =
           record { instr = i; stands = e; needs = r.0; is = r.1 }
     ] refl some h
 
-pub has_failed : (p : Image) (m pc : ℕ) (sh : Shape) (why : Why) → IsSome (instr_at p m pc) → IfSome (instr_at p m pc) (λ i. Err why ≡ rule p m pc sh i) → Fails p m pc sh why
+pub has_failed : (p : Image) (m pc : ℕ) (sh : Shape) (why : Why) → IsSome (instr_at p m pc) →
+    IfSome (instr_at p m pc) (λ i. Err why ≡ rule p m pc sh i) → Fails p m pc sh why
 has_failed p m pc sh why some h =
     elim (instr_at p m pc) as (λ o. instr_at p m pc ≡ o → IsSome o → IfSome o (λ i. Err why ≡ rule p m pc sh i) → Fails p m pc sh why) [
       | None ↦ λ e some h. absurd cc

@@ -30,7 +30,8 @@ again : (last : ℕ) (ss : List Statement) (s : Scope) (first : Program) (kinds 
     s ≡ scope_of false ss [] → read_program last s ss ≡ Ok first → kinds ≡ first.classes
     → Answers (λ p. p) r (read_program last (record s { is_strict = true; kinds = kinds }) ss) → Answers image_of r (read_statements last ss)
 again last ss s first kinds r is found classes read =
-    let statements = ap (λ x. and_then x (λ first. and_then (read_program last (scope_of true ss first.classes) ss) (λ p. Ok (image_of p)))) (ap (λ t. read_program last t ss) (sym is) ∙ found) in
+    let statements = ap (λ x. and_then x (λ first. and_then (read_program last (scope_of true ss first.classes) ss) (λ p. Ok (image_of p))))
+    (ap (λ t. read_program last t ss) (sym is) ∙ found) in
     let program = ap₂ (λ (t : Scope) (k : List ClassDecl). read_program last (record t { is_strict = true; kinds = k }) ss) is classes in
     subst (λ x. Answers image_of r x) (sym statements) (as_image r _ (subst (λ x. Answers (λ p. p) r x) program read))
 

@@ -15,7 +15,8 @@ unfolding kind_in class_at
 returns-in-Some-clause-is c =
     let found = rw (c.as_slice.ensures, c.classes-classes.ensures.value, c.image.ensures, c.number.ensures.value) at c.in-Some.ensures.lookup in
     let there : slice_get c.args.linked.now.classes c.args.class ≡ Some c.in-Some.class.now = slice_get_read _ _ _ _ refl (ltb-true _ _ (sym found.0)) found.1 in
-    c.kind_sessions.ensures.is ∙ ap (λ d. kept (perhaps_sessions (λ (k : ℕ). going c.args.linked.now (price_by c.args.prices.now) (Object k)) (kind_in d))) (sym there)
+    c.kind_sessions.ensures.is
+    ∙ ap (λ d. kept (perhaps_sessions (λ (k : ℕ). going c.args.linked.now (price_by c.args.prices.now) (Object k)) (kind_in d))) (sym there)
 
 pub returns-in-None-clause-is : goal.returns-in-None-clause-is
 unfolding kind_in class_at

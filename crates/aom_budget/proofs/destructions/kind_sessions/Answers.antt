@@ -11,4 +11,5 @@ pub returns-in-Server-clause-is : goal.returns-in-Server-clause-is
 returns-in-Server-clause-is c =
     let times = alike_times 4294967296 c.in-Server.sessions c.going.result _ c.going.ensures.is in
     let same : c.from.result ≡ c.in-Server.sessions = search rules in
-    ap (λ n. kept (n * c.going.result)) same ∙ times ∙ ap (λ k. kept (kind_sessions (λ (j : ℕ). going c.args.linked.now (price_by c.args.prices.now) (Object j)) k)) (sym c.in-Server.is)
+    ap (λ n. kept (n * c.going.result)) same ∙ times
+    ∙ ap (λ k. kept (kind_sessions (λ (j : ℕ). going c.args.linked.now (price_by c.args.prices.now) (Object j)) k)) (sym c.in-Server.is)

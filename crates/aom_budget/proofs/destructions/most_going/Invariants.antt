@@ -10,9 +10,7 @@ use Rattle.aom_budget.proofs.destructions.most_going.Given as goal
 
 abbrev pub invariant-loop-index : goal.invariant-loop-index
 invariant-loop-index l = record {
-  is :
-      l.most
-      ≡ max (kept (whole_going l.linked (price_by l.prices) (Object l.class)))
+  is : l.most ≡ max (kept (whole_going l.linked (price_by l.prices) (Object l.class)))
       (most_of (λ y. descends l.linked y l.class) (λ y. kept (whole_going l.linked (price_by l.prices) (Object y))) l.index);
   low : l.most ≤ 4294967296;
 }

@@ -11,4 +11,5 @@ loop-index-preserved c = raised_next c.args.linked.now _ _ _ _ _ _ _ _ c.image-i
 pub returns : goal.returns
 returns c =
     let count : c.loop-index.index ≡ length c.args.linked.now.classes = search rules in
-    destroyed_made c.args.linked.now (rw c.image.ensures at c.classes.ensures.well_formed) c.args.prices.now _ _ c.requires.size c.requires.below (rw count at c.loop-index.invariant)
+    destroyed_made c.args.linked.now (rw c.image.ensures at c.classes.ensures.well_formed) c.args.prices.now _ _ c.requires.size c.requires.below
+    (rw count at c.loop-index.invariant)

@@ -10,6 +10,7 @@ use Rattle.aom_budget.proofs.lines.going_depth.Goals as goal
 pub returns-in-Some : goal.returns-in-Some
 returns-in-Some c =
     let both = most_append c.args.depths.now (lines_of c.args.linked.now (Some c.args.class)) (lines_of c.args.linked.now (Some c.in-Some.sessions)) in
-    let at : sessions_at c.args.linked.now c.args.class ≡ Some c.in-Some.sessions = ap (λ q. sessions_at q c.args.class) (sym c.image.ensures) ∙ sym c.sessions_at.ensures ∙ c.in-Some.is in
+    let at : sessions_at c.args.linked.now c.args.class ≡ Some c.in-Some.sessions = ap (λ q. sessions_at q c.args.class) (sym c.image.ensures)
+    ∙ sym c.sessions_at.ensures ∙ c.in-Some.is in
     c.max.ensures ∙ ap₂ max c.line_depth-own.ensures c.line_depth.ensures ∙ sym both
     ∙ ap (λ o. most_at c.args.depths.now (lines_of c.args.linked.now (Some c.args.class) ++ lines_of c.args.linked.now o)) (sym at)

@@ -20,8 +20,6 @@ returns-then-number c =
     (sym c.class_of.ensures ∙ c.in_ok-of.was ∙ ap (λ k. Some k) same))
 
 pub returns-else-number : goal.returns-else-number
-returns-else-number c =
-    sym (not_own c.args.linked.now c.args.class c.in_ok-method.method (sym c.role.ensures ∙ c.in_ok-method.was)
-    (λ is.
+returns-else-number c = sym (not_own c.args.linked.now c.args.class c.in_ok-method.method (sym c.role.ensures ∙ c.in_ok-method.was) (λ is.
     let same : c.in_ok-of.of ≡ c.args.class = same_Some _ _ (sym (c.in_ok-of.was) ∙ c.class_of.ensures ∙ is) in
     c.if-number.false (c.number.ensures.value ∙ same ∙ sym c.number-2.ensures.value)))

@@ -7,4 +7,5 @@ use Rattle.aom_budget.proofs.Raised.{IsRaised}
 use Rattle.aom_budget.proofs.lines.raise_gone.Given as goal
 
 abbrev pub invariant-loop-index : goal.invariant-loop-index
-invariant-loop-index l = IsRaised l.linked (λ y. most_at l.depths (lines_of l.linked (Some y) ++ lines_of l.linked (sessions_at l.linked y))) l.fn.table l.index l.table
+invariant-loop-index l =
+    IsRaised l.linked (λ y. most_at l.depths (lines_of l.linked (Some y) ++ lines_of l.linked (sessions_at l.linked y))) l.fn.table l.index l.table

@@ -9,7 +9,8 @@ use Rattle.aom_budget.proofs.raising.raise_called.Given as goal
 abbrev pub invariant-loop-here : goal.invariant-loop-here
 invariant-loop-here l = record {
   size : length l.table ≡ length l.fn.table;
-  each : (k : ℕ) → k < length l.fn.table → max (at 0 l.table k) (cond (leads_in l.image l.left l.here k) l.number 0) ≡ max (at 0 l.fn.table k) (cond (is_body l.image l.fn.method k) l.number 0);
+  each : (k : ℕ) → k < length l.fn.table →
+      max (at 0 l.table k) (cond (leads_in l.image l.left l.here k) l.number 0) ≡ max (at 0 l.fn.table k) (cond (is_body l.image l.fn.method k) l.number 0);
 }
 
 abbrev pub decreases-loop-here : goal.decreases-loop-here

@@ -14,6 +14,7 @@ loop-instr-preserved c =
 
 pub returns : goal.returns
 returns c = (
-  λ _. rw (← c.as_slice-instr-items.ensures) (all_whole (RunsBelow c.args.image.now c.args.number c.args.method.now.class) _ _ c.loop-instr-test.false c.loop-instr.invariant),
+  λ _. rw (← c.as_slice-instr-items.ensures)
+      (all_whole (RunsBelow c.args.image.now c.args.number c.args.method.now.class) _ _ c.loop-instr-test.false c.loop-instr.invariant),
   λ _. refl,
 )

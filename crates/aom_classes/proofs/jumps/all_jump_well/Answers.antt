@@ -9,7 +9,8 @@ loop-method-init c = λ k lt. absurd (omega arith)
 pub returns-then-not-jump_well : goal.returns-then-not-jump_well
 returns-then-not-jump_well c =
     let no = refused _ c.jump_well.ensures c.if-not-jump_well.true in
-    rw (← (c.as_slice-method-items.ensures ∙ c.methods-methods.ensures.value)) (each_not (λ _ d. JumpsWell d.code) _ _ _ c.loop-method-test.true c.method-item.is (rw c.as_slice.ensures at no))
+    rw (← (c.as_slice-method-items.ensures ∙ c.methods-methods.ensures.value))
+    (each_not (λ _ d. JumpsWell d.code) _ _ _ c.loop-method-test.true c.method-item.is (rw c.as_slice.ensures at no))
 
 pub loop-method-preserved : goal.loop-method-preserved
 loop-method-preserved c =
@@ -18,6 +19,7 @@ loop-method-preserved c =
 
 pub returns : goal.returns
 returns c = (
-  λ _. rw (← (c.as_slice-method-items.ensures ∙ c.methods-methods.ensures.value)) (each_all (λ _ d. JumpsWell d.code) _ _ c.loop-method-test.false c.loop-method.invariant),
+  λ _. rw (← (c.as_slice-method-items.ensures ∙ c.methods-methods.ensures.value))
+      (each_all (λ _ d. JumpsWell d.code) _ _ c.loop-method-test.false c.loop-method.invariant),
   λ _. refl,
 )

@@ -5,7 +5,8 @@ use Rattle.aom_classes.proofs.loops.loops_nest.Goals as goal
 
 pub returns-then-not-pass : goal.returns-then-not-pass
 returns-then-not-pass c =
-    let here : slice_get c.args.code.now c.loop-place.place ≡ Some c.index-code-place.result = slice_get_read _ _ _ _ refl c.loop-place-test.true c.index-code-place.is in (
+    let here : slice_get c.args.code.now c.loop-place.place ≡ Some c.index-code-place.result =
+    slice_get_read _ _ _ _ refl c.loop-place-test.true c.index-code-place.is in (
       λ no. absurd (cc),
       λ nest.
           let pass = must_pass _ _ _ _ here c.loop-place.invariant nest in

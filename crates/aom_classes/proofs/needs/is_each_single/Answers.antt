@@ -14,7 +14,8 @@ returns-then-not-is_single c =
 pub loop-class-preserved : goal.loop-class-preserved
 loop-class-preserved c =
     let here = c.is_single.ensures.0 c.if-not-is_single.false in
-    each_more (λ k d. ClassSingle c.args.methods.now k) _ _ _ c.loop-class.invariant c.loop-class-test.true c.index-classes-class.is (rw c.class_number.ensures at here)
+    each_more (λ k d. ClassSingle c.args.methods.now k) _ _ _ c.loop-class.invariant c.loop-class-test.true c.index-classes-class.is
+    (rw c.class_number.ensures at here)
 
 pub returns : goal.returns
 returns c = (λ _. each_all (λ k d. ClassSingle c.args.methods.now k) _ _ c.loop-class-test.false c.loop-class.invariant, λ _. refl)

@@ -8,7 +8,8 @@ pub push-requires : goal.push-requires
 push-requires c = omega (arith, c.loop-called.invariant.all, c.loop-called-test.true)
 
 pub loop-called-init : goal.loop-called-init
-loop-called-init c = subst (λ ns. AreLeast 0 ns (λ k m. OverridersBelow c.args.image.now m k)) (sym c.new-calls.ensures) (table_none (λ k m. OverridersBelow c.args.image.now m k))
+loop-called-init c = subst (λ ns. AreLeast 0 ns (λ k m. OverridersBelow c.args.image.now m k)) (sym c.new-calls.ensures)
+    (table_none (λ k m. OverridersBelow c.args.image.now m k))
 
 pub loop-called-preserved : goal.loop-called-preserved
 loop-called-preserved c =

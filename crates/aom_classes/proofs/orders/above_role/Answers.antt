@@ -8,13 +8,12 @@ pub loop-number-init : goal.loop-number-init
 loop-number-init c = least_none (plays c.args.class c.args.role) c.args.methods.now
 
 pub loop-number-preserved : goal.loop-number-preserved
-loop-number-preserved c =
-    elim c.if-plays.branch [
-      | then-plays w ↦ rw w.above-is (least_yes (plays c.args.class c.args.role)
-          c.args.methods.now c.loop-number.number _ c.loop-number-test.true c.index-methods-number.is (sym c.plays.ensures ∙ w.if-plays.true))
-      | else-plays w ↦ rw w.above-is (least_no (plays c.args.class c.args.role) c.args.methods.now c.loop-number.above
-          c.loop-number.number _ c.loop-number.invariant c.loop-number-test.true c.index-methods-number.is (sym c.plays.ensures ∙ w.if-plays.false))
-    ]
+loop-number-preserved c = elim c.if-plays.branch [
+  | then-plays w ↦ rw w.above-is (least_yes (plays c.args.class c.args.role)
+      c.args.methods.now c.loop-number.number _ c.loop-number-test.true c.index-methods-number.is (sym c.plays.ensures ∙ w.if-plays.true))
+  | else-plays w ↦ rw w.above-is (least_no (plays c.args.class c.args.role) c.args.methods.now c.loop-number.above
+      c.loop-number.number _ c.loop-number.invariant c.loop-number-test.true c.index-methods-number.is (sym c.plays.ensures ∙ w.if-plays.false))
+]
 
 pub returns : goal.returns
 returns c = least_all (plays c.args.class c.args.role) c.args.methods.now c.loop-number.above _ c.loop-number.invariant c.loop-number-test.false

@@ -16,4 +16,5 @@ loop-class-preserved c =
     rw c.push.ensures.items (least_push c.loop-class.class _ (λ k m. EndsBelow c.args.image.now m k) c.ending.result c.loop-class.invariant here)
 
 pub returns : goal.returns
-returns c = subst (λ n. AreLeast n c.loop-class.ends.items (λ k m. EndsBelow c.args.image.now m k)) (omega (arith, c.loop-class.auto.class-end, c.loop-class-test.false)) c.loop-class.invariant
+returns c = subst (λ n. AreLeast n c.loop-class.ends.items (λ k m. EndsBelow c.args.image.now m k))
+    (omega (arith, c.loop-class.auto.class-end, c.loop-class-test.false)) c.loop-class.invariant

@@ -11,7 +11,8 @@ loop-other-init c = reaches_first c.args.image.now _ c.args.class _ (read_at _ c
 pub loop-other-preserved : goal.loop-other-preserved
 loop-other-preserved c =
     let count = c.len-other-end.ensures ∙ ap (λ cs. length cs) c.classes.ensures.value in
-    let within : c.loop-other.other < length c.args.table.now = omega (arith, c.loop-other-test.true, count, c.classes.ensures.well_formed.classes.count, c.requires) in
+    let within : c.loop-other.other < length c.args.table.now =
+    omega (arith, c.loop-other-test.true, count, c.classes.ensures.well_formed.classes.count, c.requires) in
     elim c.if-descends.branch [
       | then-descends w ↦
           let family = subst (λ x. descends c.args.image.now x c.args.class ≡ true) c.class_number.ensures (sym c.descends.ensures ∙ w.if-descends.true) in

@@ -12,7 +12,8 @@ pub push-requires : goal.push-requires
 push-requires c = omega (arith, c.loop-class.invariant.all, c.loop-class-test.true)
 
 pub loop-class-init : goal.loop-class-init
-loop-class-init c = subst (λ ns. AreLeast 0 ns (λ k m. CancelsBelow c.args.image.now m k)) (sym c.new-lines.ensures) (table_none (λ k m. CancelsBelow c.args.image.now m k))
+loop-class-init c = subst (λ ns. AreLeast 0 ns (λ k m. CancelsBelow c.args.image.now m k)) (sym c.new-lines.ensures)
+    (table_none (λ k m. CancelsBelow c.args.image.now m k))
 
 pub loop-class-preserved : goal.loop-class-preserved
 loop-class-preserved c =
@@ -20,4 +21,5 @@ loop-class-preserved c =
     rw c.push.ensures.items (least_push c.loop-class.class _ (λ k m. CancelsBelow c.args.image.now m k) c.cancelling.result c.loop-class.invariant here)
 
 pub returns : goal.returns
-returns c = subst (λ n. AreLeast n c.loop-class.lines.items (λ k m. CancelsBelow c.args.image.now m k)) (omega (arith, c.loop-class.auto.class-end, c.loop-class-test.false)) c.loop-class.invariant
+returns c = subst (λ n. AreLeast n c.loop-class.lines.items (λ k m. CancelsBelow c.args.image.now m k))
+    (omega (arith, c.loop-class.auto.class-end, c.loop-class-test.false)) c.loop-class.invariant

@@ -18,8 +18,8 @@ loop-named-preserved c =
     let same = c.as_slice-method-items.ensures ∙ c.methods-methods.ensures.value in
     let here = c.is_overridden_once.ensures.0 c.if-not-is_overridden_once.false in
     each_more (λ m e. OverriddenOnce c.args.image.now m) c.args.image.now.methods c.loop-named.named c._method-item.result c.loop-named.invariant
-    (subst (λ ms. c.loop-named.named < length ms) same c.loop-named-test.true) (subst (λ ms. c._method-item.result ≡ get_or ms c.loop-named.named c._method-item.result) same c._method-item.is)
-    (rw c.number_at.ensures at here)
+    (subst (λ ms. c.loop-named.named < length ms) same c.loop-named-test.true)
+    (subst (λ ms. c._method-item.result ≡ get_or ms c.loop-named.named c._method-item.result) same c._method-item.is) (rw c.number_at.ensures at here)
 
 pub returns : goal.returns
 returns c =

@@ -10,14 +10,15 @@ pub returns-then-not-is_only : goal.returns-then-not-is_only
 returns-then-not-is_only c =
     let same = c.as_slice-method-items.ensures ∙ c.methods-methods.ensures.value in
     each_not (IsOnly c.args.image.now c.args.named) _ c.loop-index.index _ (subst (λ ms. c.loop-index.index < length ms) same c.loop-index-test.true)
-    (subst (λ ms. c.method-item.result ≡ get_or ms c.loop-index.index c.method-item.result) same c.method-item.is) (refused _ c.is_only.ensures c.if-not-is_only.true)
+    (subst (λ ms. c.method-item.result ≡ get_or ms c.loop-index.index c.method-item.result) same c.method-item.is)
+    (refused _ c.is_only.ensures c.if-not-is_only.true)
 
 pub loop-index-preserved : goal.loop-index-preserved
 loop-index-preserved c =
     let same = c.as_slice-method-items.ensures ∙ c.methods-methods.ensures.value in
     each_more (IsOnly c.args.image.now c.args.named) c.args.image.now.methods c.loop-index.index c.method-item.result c.loop-index.invariant
-    (subst (λ ms. c.loop-index.index < length ms) same c.loop-index-test.true) (subst (λ ms. c.method-item.result ≡ get_or ms c.loop-index.index c.method-item.result) same c.method-item.is)
-    (c.is_only.ensures.0 c.if-not-is_only.false)
+    (subst (λ ms. c.loop-index.index < length ms) same c.loop-index-test.true)
+    (subst (λ ms. c.method-item.result ≡ get_or ms c.loop-index.index c.method-item.result) same c.method-item.is) (c.is_only.ensures.0 c.if-not-is_only.false)
 
 pub returns : goal.returns
 returns c =

@@ -25,9 +25,8 @@ loop-here-preserved c =
     let other = ne_eqb c.in-Some.other c.args.method (λ same. c.if-number.false (c.number.ensures.value ∙ same ∙ sym c.number-in-Some.ensures.value)) in
     let more : c.loop-here.left ≡ suc (c.loop-here.left - 1) = omega (arith, c.if-left-eq0.false) in
     c.loop-here.invariant ∙ ap (λ o. leads_in c.args.image.now c.loop-here.left o c.args.method) c.in-Some.is
-    ∙ ap (λ n. leads_in c.args.image.now n (Some c.in-Some.other) c.args.method) more
-    ∙ next_leads c.args.image.now (c.loop-here.left - 1) c.in-Some.other c.args.method other
-    ∙ ap (λ o. leads_in c.args.image.now (c.loop-here.left - 1) o c.args.method) (sym c.over_of-here.ensures)
+    ∙ ap (λ n. leads_in c.args.image.now n (Some c.in-Some.other) c.args.method) more ∙ next_leads c.args.image.now (c.loop-here.left - 1) c.in-Some.other
+    c.args.method other ∙ ap (λ o. leads_in c.args.image.now (c.loop-here.left - 1) o c.args.method) (sym c.over_of-here.ensures)
 
 pub returns : goal.returns
 returns c = sym (c.loop-here.invariant ∙ ap (λ o. leads_in c.args.image.now c.loop-here.left o c.args.method) c.in_default.is ∙ none_leads _ _ c.args.method)

@@ -10,7 +10,8 @@ invariant-loop-place l = record {
   within : (m : ℕ) → IsIn m (list_at l.sent l.list) → m < length l.places;
   room : length l.freed.items + length (list_at l.sent l.list) ≤ 64;
   sent : with_list l.list [] l.sent ≡ with_list l.list [] l.initial.sent;
-  queues : record l.queues { lists = without_each (list_at l.sent l.list) l.queues.lists } ≡ record l.initial.queues { lists = without_each (list_at l.initial.sent l.list) l.initial.queues.lists };
+  queues : record l.queues { lists = without_each (list_at l.sent l.list) l.queues.lists }
+      ≡ record l.initial.queues { lists = without_each (list_at l.initial.sent l.list) l.initial.queues.lists };
   places : left_each (list_at l.sent l.list) l.places ≡ left_each (list_at l.initial.sent l.list) l.initial.places;
   freed : l.freed.items ++ waiting_each (list_at l.sent l.list) l.places ≡ waiting_each (list_at l.initial.sent l.list) l.initial.places;
 }

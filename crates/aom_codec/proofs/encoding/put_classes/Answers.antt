@@ -4,7 +4,8 @@ use Rattle.aom_codec.proofs.Putting.{one_more, all_put}
 use Rattle.aom_codec.proofs.encoding.put_classes.Goals as goal
 
 pub loop-class-preserved : goal.loop-class-preserved
-loop-class-preserved c = one_more (class c.args.version) _ _ _ c.class-item.result c.loop-class-test.true c.class-item.is c.loop-class.invariant c.in_ok-put_class.ensures
+loop-class-preserved c =
+    one_more (class c.args.version) _ _ _ c.class-item.result c.loop-class-test.true c.class-item.is c.loop-class.invariant c.in_ok-put_class.ensures
 
 pub returns : goal.returns
 returns c = all_put (class c.args.version) _ _ _ c.loop-class-test.false c.loop-class.invariant

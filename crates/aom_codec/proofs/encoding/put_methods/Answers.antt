@@ -4,7 +4,8 @@ use Rattle.aom_codec.proofs.Putting.{one_more, all_put}
 use Rattle.aom_codec.proofs.encoding.put_methods.Goals as goal
 
 pub loop-method-preserved : goal.loop-method-preserved
-loop-method-preserved c = one_more (method c.args.version) _ _ _ c.method-item.result c.loop-method-test.true c.method-item.is c.loop-method.invariant c.in_ok-put_method.ensures
+loop-method-preserved c =
+    one_more (method c.args.version) _ _ _ c.method-item.result c.loop-method-test.true c.method-item.is c.loop-method.invariant c.in_ok-put_method.ensures
 
 pub returns : goal.returns
 returns c = all_put (method c.args.version) _ _ _ c.loop-method-test.false c.loop-method.invariant

@@ -9,8 +9,13 @@ pub returns : goal.returns
 returns c =
     let bare : HasForm (new_app (codes "check")) c.about.result = record { shape = search rules; own = search rules } in
     let prices = first c.prices_arg.result _ _ c.arg-command.result c.arg-command.ensures bare c.prices_arg.ensures.rule c.prices_arg.ensures.own in
-    let explain = next c.explain_arg.result _ _ c.arg-command.result c.with_arg-command.result c.with_arg-command.ensures prices c.explain_arg.ensures.rule c.explain_arg.ensures.own in
-    let lines = next c.lines_arg.result _ _ c.with_arg-command.result c.with_arg-command-2.result c.with_arg-command-2.ensures explain c.lines_arg.ensures.rule c.lines_arg.ensures.own in
-    let text = next c.text_arg.result _ _ c.with_arg-command-2.result c.with_arg-command-3.result c.with_arg-command-3.ensures lines c.text_arg.ensures.rule c.text_arg.ensures.own in
-    let assembled = next c.asm_arg.result _ _ c.with_arg-command-3.result c.with_arg-command-4.result c.with_arg-command-4.ensures text c.asm_arg.ensures.rule c.asm_arg.ensures.own in
-    next c.file_arg.result _ (file_rule (codes "IMAGE")) c.with_arg-command-4.result c.with_arg.result c.with_arg.ensures assembled (search rules) c.file_arg.ensures.own
+    let explain = next c.explain_arg.result _ _ c.arg-command.result c.with_arg-command.result c.with_arg-command.ensures prices c.explain_arg.ensures.rule
+    c.explain_arg.ensures.own in
+    let lines = next c.lines_arg.result _ _ c.with_arg-command.result c.with_arg-command-2.result c.with_arg-command-2.ensures explain c.lines_arg.ensures.rule
+    c.lines_arg.ensures.own in
+    let text = next c.text_arg.result _ _ c.with_arg-command-2.result c.with_arg-command-3.result c.with_arg-command-3.ensures lines c.text_arg.ensures.rule
+    c.text_arg.ensures.own in
+    let assembled = next c.asm_arg.result _ _ c.with_arg-command-3.result c.with_arg-command-4.result c.with_arg-command-4.ensures text c.asm_arg.ensures.rule
+    c.asm_arg.ensures.own in
+    next c.file_arg.result _ (file_rule (codes "IMAGE")) c.with_arg-command-4.result c.with_arg.result c.with_arg.ensures assembled
+    (search rules) c.file_arg.ensures.own

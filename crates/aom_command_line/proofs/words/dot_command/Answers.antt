@@ -9,5 +9,7 @@ pub returns : goal.returns
 returns c =
     let bare : HasForm (new_app (codes "dot")) c.about.result = record { shape = search rules; own = search rules } in
     let text = first c.text_arg.result _ _ c.arg-command.result c.arg-command.ensures bare c.text_arg.ensures.rule c.text_arg.ensures.own in
-    let assembled = next c.asm_arg.result _ _ c.arg-command.result c.with_arg-command.result c.with_arg-command.ensures text c.asm_arg.ensures.rule c.asm_arg.ensures.own in
-    next c.file_arg.result _ (file_rule (codes "IMAGE")) c.with_arg-command.result c.with_arg.result c.with_arg.ensures assembled (search rules) c.file_arg.ensures.own
+    let assembled = next c.asm_arg.result _ _ c.arg-command.result c.with_arg-command.result c.with_arg-command.ensures text c.asm_arg.ensures.rule
+    c.asm_arg.ensures.own in
+    next c.file_arg.result _ (file_rule (codes "IMAGE")) c.with_arg-command.result c.with_arg.result c.with_arg.ensures assembled
+    (search rules) c.file_arg.ensures.own

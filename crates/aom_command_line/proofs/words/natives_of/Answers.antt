@@ -9,13 +9,13 @@ pub returns-in_default-clause-named : goal.returns-in_default-clause-named
 returns-in_default-clause-named c = none_named _ c.new.result.items (no_words (found_of c.args.own.now) (codes "NATIVE") c.in_default.ensures) c.new.ensures.items
 
 pub returns-then-words-gt-MOST_NATIVES-clause-declines : goal.returns-then-words-gt-MOST_NATIVES-clause-declines
-returns-then-words-gt-MOST_NATIVES-clause-declines c =
-    subst NamesNoKinds (found_words (found_of c.args.own.now) (codes "NATIVE") c.in-Some.words.now c.in-Some.ensures) (too_many c.in-Some.words.now c.if-words-gt-MOST_NATIVES.true)
+returns-then-words-gt-MOST_NATIVES-clause-declines c = subst NamesNoKinds (found_words (found_of c.args.own.now)
+    (codes "NATIVE") c.in-Some.words.now c.in-Some.ensures) (too_many c.in-Some.words.now c.if-words-gt-MOST_NATIVES.true)
 
 pub returns-clause-named : goal.returns-clause-named
-returns-clause-named c =
-    subst (λ w. IfOk c.kinds_of.result (λ kinds. NamesKinds w kinds.items)) (found_words (found_of c.args.own.now) (codes "NATIVE") c.in-Some.words.now c.in-Some.ensures) c.kinds_of.ensures.named
+returns-clause-named c = subst (λ w. IfOk c.kinds_of.result (λ kinds. NamesKinds w kinds.items))
+    (found_words (found_of c.args.own.now) (codes "NATIVE") c.in-Some.words.now c.in-Some.ensures) c.kinds_of.ensures.named
 
 pub returns-clause-declines : goal.returns-clause-declines
-returns-clause-declines c =
-    subst (λ w. IfErr c.kinds_of.result (λ fault. DeclinesNatives w fault)) (found_words (found_of c.args.own.now) (codes "NATIVE") c.in-Some.words.now c.in-Some.ensures) c.kinds_of.ensures.declines
+returns-clause-declines c = subst (λ w. IfErr c.kinds_of.result (λ fault. DeclinesNatives w fault))
+    (found_words (found_of c.args.own.now) (codes "NATIVE") c.in-Some.words.now c.in-Some.ensures) c.kinds_of.ensures.declines

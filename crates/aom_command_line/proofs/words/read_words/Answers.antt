@@ -9,20 +9,23 @@ use Rattle.aom_command_line.proofs.words.read_words.Goals as goal
 pub returns-in-Ok-clause-asks : goal.returns-in-Ok-clause-asks
 returns-in-Ok-clause-asks c =
     let exact = c.in-Ok.ensures.matches (ap is_simple c.in_ok-command.ensures ∙ simple) in
-    let met : subcommand_rows_of c.in-Ok.matches ≡ subcommand_of form (texts_of c.args.words.items) = exact.1 ∙ ap₂ subcommand_of c.in_ok-command.ensures (ap texts_of c.as_slice.ensures.value) in
+    let met : subcommand_rows_of c.in-Ok.matches ≡ subcommand_of form (texts_of c.args.words.items) =
+    exact.1 ∙ ap₂ subcommand_of c.in_ok-command.ensures (ap texts_of c.as_slice.ensures.value) in
     subst (λ m. IfOk c.words_of-asked.result (λ asked. Asks m asked)) met c.words_of-asked.ensures.asks
 
 pub returns-in-Ok-clause-declines : goal.returns-in-Ok-clause-declines
 returns-in-Ok-clause-declines c =
     let exact = c.in-Ok.ensures.matches (ap is_simple c.in_ok-command.ensures ∙ simple) in
-    let met : subcommand_rows_of c.in-Ok.matches ≡ subcommand_of form (texts_of c.args.words.items) = exact.1 ∙ ap₂ subcommand_of c.in_ok-command.ensures (ap texts_of c.as_slice.ensures.value) in
+    let met : subcommand_rows_of c.in-Ok.matches ≡ subcommand_of form (texts_of c.args.words.items) =
+    exact.1 ∙ ap₂ subcommand_of c.in_ok-command.ensures (ap texts_of c.as_slice.ensures.value) in
     let with_met = subst (λ m. IfErr c.words_of-asked.result (λ fault. Declines true m fault)) met c.words_of-asked.ensures.declines in
-    IfErr-weaker c.words_of-asked.result _ _ (λ fault d. declines (takes form (texts_of c.args.words.items)) (subcommand_of form (texts_of c.args.words.items)) fault d) with_met
+    IfErr-weaker c.words_of-asked.result _ _
+    (λ fault d. declines (takes form (texts_of c.args.words.items)) (subcommand_of form (texts_of c.args.words.items)) fault d) with_met
 
 pub returns-clause-declines : goal.returns-clause-declines
 returns-clause-declines c =
-    says (takes form (texts_of c.args.words.items)) (subcommand_of form (texts_of c.args.words.items)) (kind_of c.in-Err.error) c.refusal_of-refusal.result c.refusal_of-refusal.ensures
-    (λ taken. c.in-Err.ensures.passes (ap₂ takes c.in_ok-command.ensures (ap texts_of c.as_slice.ensures.value) ∙ taken))
+    says (takes form (texts_of c.args.words.items)) (subcommand_of form (texts_of c.args.words.items)) (kind_of c.in-Err.error) c.refusal_of-refusal.result
+    c.refusal_of-refusal.ensures (λ taken. c.in-Err.ensures.passes (ap₂ takes c.in_ok-command.ensures (ap texts_of c.as_slice.ensures.value) ∙ taken))
 
 pub returns-clause-asks : goal.returns-clause-asks
 returns-clause-asks c = tt

@@ -9,7 +9,10 @@ pub returns : goal.returns
 returns c = λ form bare.
     let named : rule_of c.file_arg.result ≡ file_rule (codes "IMAGE") = search rules in
     let script_named : rule_of c.file_arg-2.result ≡ file_rule (codes "SCRIPT") = search rules in
-    let assembled = next c.asm_arg.result _ _ c.args.command c.with_arg-command.result c.with_arg-command.ensures bare c.asm_arg.ensures.rule c.asm_arg.ensures.own in
-    let image = next c.file_arg.result _ _ c.with_arg-command.result c.with_arg-command-2.result c.with_arg-command-2.ensures assembled named c.file_arg.ensures.own in
-    let script = next c.file_arg-2.result _ _ c.with_arg-command-2.result c.with_arg-command-3.result c.with_arg-command-3.ensures image script_named c.file_arg-2.ensures.own in
+    let assembled = next c.asm_arg.result _ _ c.args.command c.with_arg-command.result c.with_arg-command.ensures bare c.asm_arg.ensures.rule
+    c.asm_arg.ensures.own in
+    let image = next c.file_arg.result _ _ c.with_arg-command.result c.with_arg-command-2.result c.with_arg-command-2.ensures assembled named
+    c.file_arg.ensures.own in
+    let script = next c.file_arg-2.result _ _ c.with_arg-command-2.result c.with_arg-command-3.result c.with_arg-command-3.ensures image script_named
+    c.file_arg-2.ensures.own in
     next c.native_arg.result _ _ c.with_arg-command-3.result c.with_arg.result c.with_arg.ensures script c.native_arg.ensures.rule c.native_arg.ensures.own

@@ -19,17 +19,20 @@ returns-in_err-linked-clause-complete c =
 pub returns-in_err-accepted-clause-err : goal.returns-in_err-accepted-clause-err
 returns-in_err-accepted-clause-err c =
     let e = err_from_is_err_and c.from_residual-in_err-accepted.result c.from_residual-in_err-accepted.ensures.1 in
-    rw (e.1, e.2) (budget_refused _ _ _ _ c.in_ok-linked.ensures.ok.0 c.in_ok-linked.ensures.ok.1 c.in_ok-checked.ensures.ok c.typed.ensures c.in_err-accepted.ensures.refused)
+    rw (e.1, e.2) (budget_refused _ _ _ _ c.in_ok-linked.ensures.ok.0 c.in_ok-linked.ensures.ok.1 c.in_ok-checked.ensures.ok c.typed.ensures
+    c.in_err-accepted.ensures.refused)
 
 pub returns-in_err-checked-clause-err : goal.returns-in_err-checked-clause-err
 returns-in_err-checked-clause-err c =
     let e = err_from_is_err_and c.from_residual-in_err-checked.result c.from_residual-in_err-checked.ensures.1 in
-    rw (e.1, e.2) (refusal_stops _ _ _ c.in_ok-linked.ensures.ok.0 c.in_ok-linked.ensures.ok.1 c.in_ok-linked.ensures.only c.in_err-checked.ensures.refused c.in_err-checked.ensures.complete).refuses
+    rw (e.1, e.2) (refusal_stops _ _ _ c.in_ok-linked.ensures.ok.0 c.in_ok-linked.ensures.ok.1 c.in_ok-linked.ensures.only c.in_err-checked.ensures.refused
+    c.in_err-checked.ensures.complete).refuses
 
 pub returns-in_err-checked-clause-complete : goal.returns-in_err-checked-clause-complete
 returns-in_err-checked-clause-complete c =
     let e = err_from_is_err_and c.from_residual-in_err-checked.result c.from_residual-in_err-checked.ensures.1 in
-    rw (e.1, e.2) (refusal_stops _ _ _ c.in_ok-linked.ensures.ok.0 c.in_ok-linked.ensures.ok.1 c.in_ok-linked.ensures.only c.in_err-checked.ensures.refused c.in_err-checked.ensures.complete).complete
+    rw (e.1, e.2) (refusal_stops _ _ _ c.in_ok-linked.ensures.ok.0 c.in_ok-linked.ensures.ok.1 c.in_ok-linked.ensures.only c.in_err-checked.ensures.refused
+    c.in_err-checked.ensures.complete).complete
 
 pub returns-in_err-accepted-clause-complete : goal.returns-in_err-accepted-clause-complete
 returns-in_err-accepted-clause-complete c =

@@ -9,10 +9,9 @@ use Rattle.aom_commands.proofs.commands.run_text.Goals as goal
 pub returns-in-Ok : goal.returns-in-Ok
 returns-in-Ok g c =
     let is = c.facts.ensures in
-    λ bytes spelled.
-    untold_weaker _ _ c.end.result (λ errors status ends.
-    ended_so (named_by c.args.names) _ _ _ _ _ _ (acceptable_of is.linked is.typed is.budgets is.within is.high) c.runs_well.ensures spelled c.in-Ok.ensures.ok _ _
-    c.run_accepted.result status c.run_accepted.ensures.enough c.run_accepted.ensures.ok c.run_accepted.ensures.err ends
+    λ bytes spelled. untold_weaker _ _ c.end.result
+    (λ errors status ends. ended_so (named_by c.args.names) _ _ _ _ _ _ (acceptable_of is.linked is.typed is.budgets is.within is.high) c.runs_well.ensures
+    spelled c.in-Ok.ensures.ok _ _ c.run_accepted.result status c.run_accepted.ensures.enough c.run_accepted.ensures.ok c.run_accepted.ensures.err ends
     ) c.end.ensures
 
 pub returns-in-Err : goal.returns-in-Err

@@ -20,20 +20,21 @@ returns-in_err-machine-clause-err g c =
     (refuses_same c.args.trial.now.accepted.now (length c.args.boxes.items) (length c.args.trial.now.kinds.now) _ many c.in_err-machine.ensures.err))
 
 pub last_booted-last-requires-clause-new : goal.last_booted-last-requires-clause-new
-last_booted-last-requires-clause-new g c =
-    all_new _ (λ l. l.native) c.args.trial.now.kinds.now c.in_ok-machine.machine.natives.slots.items c.args.boxes.items c.in_ok-machine.ensures.boxes c.requires.new
+last_booted-last-requires-clause-new g c = all_new _ (λ l. l.native) c.args.trial.now.kinds.now c.in_ok-machine.machine.natives.slots.items c.args.boxes.items
+    c.in_ok-machine.ensures.boxes c.requires.new
 
 pub returns-clause-ok : goal.returns-clause-ok
 returns-clause-ok g c =
     let many = c.in_ok-machine.ensures.natives ∙ as_many _ c.args.trial.now.kinds.now c.args.boxes.items c.requires.new in
-    subst (λ n. IfOk c.last_booted-last.result (λ last. (text : List ℕ) × IsLast c.args.trial.now.accepted.now (outside_of c.args.trial.now.script.now c.args.trial.now.limit n) last text
-    × (kept_text c.last_booted-last.new.kept.keeps c.last_booted-last.new.kept.text.items ≡ after
-    (kept_text c.args.kept.now.keeps c.args.kept.now.text.items) text))) many c.last_booted-last.ensures.ok
+    subst (λ n. IfOk c.last_booted-last.result (λ last. (text : List ℕ) × IsLast c.args.trial.now.accepted.now
+    (outside_of c.args.trial.now.script.now c.args.trial.now.limit n) last text × (kept_text c.last_booted-last.new.kept.keeps
+    c.last_booted-last.new.kept.text.items ≡ after (kept_text c.args.kept.now.keeps c.args.kept.now.text.items) text))) many c.last_booted-last.ensures.ok
 
 pub returns-clause-enough : goal.returns-clause-enough
 returns-clause-enough g c =
     let many = as_many _ c.args.trial.now.kinds.now c.args.boxes.items c.requires.new in
-    IfOk-weaker c.last_booted-last.result _ _ (λ _ _. subst (λ n. HasNatives c.args.trial.now.accepted.now n) many c.in_ok-machine.ensures.enough) c.last_booted-last.ensures.ok
+    IfOk-weaker c.last_booted-last.result _ _ (λ _ _. subst (λ n. HasNatives c.args.trial.now.accepted.now n) many c.in_ok-machine.ensures.enough)
+    c.last_booted-last.ensures.ok
 
 pub returns-clause-err : goal.returns-clause-err
 returns-clause-err g c =

@@ -6,15 +6,14 @@ use Rattle.aom_commands.proofs.Figuring.{told_so}
 use Rattle.aom_commands.proofs.pricing.price_figures.Goals as goal
 
 pub returns-in-Ok : goal.returns-in-Ok
-returns-in-Ok c =
-    IfOk-weaker c.accepted_beside.result _ _ (λ priced is. rw is.1 (
-      c.in_ok-text.text.items,
-      told_so c.args.names.now c.args.checked.now _ c.args.figures.now _ c.requires c.in_ok-text.ensures c.linked.ensures,
-      c.in-Ok.ensures.budgets,
-      c.in-Ok.ensures.depths,
-      c.in-Ok.ensures.heights,
-      is.0 ∙ ap (λ t. accepted_text ++ t) c.deref.ensures.value,
-    )) c.accepted_beside.ensures
+returns-in-Ok c = IfOk-weaker c.accepted_beside.result _ _ (λ priced is. rw is.1 (
+  c.in_ok-text.text.items,
+  told_so c.args.names.now c.args.checked.now _ c.args.figures.now _ c.requires c.in_ok-text.ensures c.linked.ensures,
+  c.in-Ok.ensures.budgets,
+  c.in-Ok.ensures.depths,
+  c.in-Ok.ensures.heights,
+  is.0 ∙ ap (λ t. accepted_text ++ t) c.deref.ensures.value,
+)) c.accepted_beside.ensures
 
 pub returns-in-Err : goal.returns-in-Err
 returns-in-Err c = (told_so c.args.names.now c.args.checked.now _ c.args.figures.now _ c.requires c.in_ok-text.ensures c.linked.ensures, c.in-Err.ensures.err)

@@ -12,10 +12,10 @@ returns-in-Ok-clause-ok g c = heard_done c.args.debugger.now c.obey.new.self c.a
 pub returns-in-WriteFault-clause-err : goal.returns-in-WriteFault-clause-err
 returns-in-WriteFault-clause-err g c = (
   refl,
-  heard_cut c.args.debugger.now c.obey.new.self c.args.command c.requires.well (g.W.Sink.out c.args.out.now) (g.W.Sink.out c.obey.new.out) (g.W.Sink.failed c.obey.new.out)
-      (subst (λ f. Obeys c.args.command c.args.debugger.now c.obey.new.self
-      (record { before = g.W.Sink.out c.args.out.now; now = g.W.Sink.out c.obey.new.out; failed = g.W.Sink.failed c.obey.new.out })
-      (Err f)) c.in-WriteFault.is c.in-Err.ensures.answer),
+  heard_cut c.args.debugger.now c.obey.new.self c.args.command c.requires.well (g.W.Sink.out c.args.out.now)
+      (g.W.Sink.out c.obey.new.out) (g.W.Sink.failed c.obey.new.out) (subst (λ f. Obeys c.args.command c.args.debugger.now c.obey.new.self
+      (record { before = g.W.Sink.out c.args.out.now; now = g.W.Sink.out c.obey.new.out; failed = g.W.Sink.failed c.obey.new.out }) (Err f)) c.in-WriteFault.is
+      c.in-Err.ensures.answer),
 )
 
 pub returns-in_default-clause-ok : goal.returns-in_default-clause-ok
@@ -39,5 +39,4 @@ returns-in_default-clause-err g c =
       cut.0,
       heard_refused_part c.args.debugger.now c.obey.new.self c.args.command c.requires.well before mid
           (g.W.Sink.failed c.obey.new.out) c.in-Err.fault c.in_default.not-WriteFault c.in-Err.ensures.answer now then cut.1,
-    ))
-    c.tell_fault.ensures.err
+    )) c.tell_fault.ensures.err

@@ -12,7 +12,8 @@ some_taken buffer count long within is some = let l = length-take count buffer i
 
 pub loop-init : goal.loop-init
 loop-init g c = record {
-  talked = talked_first c.args.debugger.now c.new-pending.result (g.R.Reader.given c.args.reader.now) (g.W.Sink.out c.args.out.now) c.requires.well c.new-pending.ensures;
+  talked = talked_first c.args.debugger.now c.new-pending.result (g.R.Reader.given c.args.reader.now)
+      (g.W.Sink.out c.args.out.now) c.requires.well c.new-pending.ensures;
   lives = refl;
   long = refl;
   well = c.requires.well;
@@ -37,13 +38,12 @@ loop-preserved g c =
     }
 
 pub returns-in-None-clause-err : goal.returns-in-None-clause-err
-returns-in-None-clause-err g c =
-    inl (
-      refl,
-      talked_fails c.args.debugger.now c.loop.debugger c.loop.pending c.loop.counter (g.R.Reader.given c.args.reader.now) (g.R.Reader.given c.loop.reader)
-          (g.W.Sink.out c.args.out.now) (g.W.Sink.out c.loop.out) c.loop.invariant.talked c.args.reads (g.R.Reader.given c.get.new.self) (g.R.Reader.ended
-          c.get.new.self) (g.R.Reader.failed c.args.reader.now) (g.R.Reader.failed c.get.new.self) c.in-None.ensures.fails.0 c.in-None.ensures.fails.1,
-    )
+returns-in-None-clause-err g c = inl (
+  refl,
+  talked_fails c.args.debugger.now c.loop.debugger c.loop.pending c.loop.counter (g.R.Reader.given c.args.reader.now) (g.R.Reader.given c.loop.reader)
+      (g.W.Sink.out c.args.out.now) (g.W.Sink.out c.loop.out) c.loop.invariant.talked c.args.reads (g.R.Reader.given c.get.new.self) (g.R.Reader.ended
+      c.get.new.self) (g.R.Reader.failed c.args.reader.now) (g.R.Reader.failed c.get.new.self) c.in-None.ensures.fails.0 c.in-None.ensures.fails.1,
+)
 
 pub returns-in-Some-eq0-clause-ok : goal.returns-in-Some-eq0-clause-ok
 returns-in-Some-eq0-clause-ok g c =
@@ -79,10 +79,9 @@ returns-in_err-hear-in-Some-clause-err g c =
     ))
 
 pub returns-clause-err : goal.returns-clause-err
-returns-clause-err g c =
-    inl (
-      refl,
-      talked_stops c.args.debugger.now c.loop.debugger c.loop.pending c.loop.counter
-          (g.R.Reader.given c.args.reader.now) (g.R.Reader.given c.loop.reader) (g.W.Sink.out c.args.out.now) (g.W.Sink.out c.loop.out) c.loop.invariant.talked
-          c.args.reads (g.R.Reader.ended c.loop.reader) (g.R.Reader.failed c.args.reader.now) (g.R.Reader.failed c.loop.reader) c.loop-test.false,
-    )
+returns-clause-err g c = inl (
+  refl,
+  talked_stops c.args.debugger.now c.loop.debugger c.loop.pending c.loop.counter
+      (g.R.Reader.given c.args.reader.now) (g.R.Reader.given c.loop.reader) (g.W.Sink.out c.args.out.now) (g.W.Sink.out c.loop.out) c.loop.invariant.talked
+      c.args.reads (g.R.Reader.ended c.loop.reader) (g.R.Reader.failed c.args.reader.now) (g.R.Reader.failed c.loop.reader) c.loop-test.false,
+)

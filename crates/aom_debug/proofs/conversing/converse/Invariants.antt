@@ -7,7 +7,8 @@ use Rattle.aom_debug.proofs.conversing.converse.Given as goal
 
 abbrev pub invariant-loop : goal.invariant-loop
 invariant-loop g l = record {
-  talked : Talked l.fn.debugger l.debugger l.pending l.counter (g.R.Reader.given l.fn.reader) (g.R.Reader.given l.reader) (g.W.Sink.out l.fn.out) (g.W.Sink.out l.out);
+  talked : Talked l.fn.debugger l.debugger l.pending l.counter (g.R.Reader.given l.fn.reader) (g.R.Reader.given l.reader)
+      (g.W.Sink.out l.fn.out) (g.W.Sink.out l.out);
   lives : g.R.Reader.failed l.reader ≡ g.R.Reader.failed l.fn.reader;
   long : length l.buffer ≡ 4096;
   well : l.debugger.has_failed ≡ false;

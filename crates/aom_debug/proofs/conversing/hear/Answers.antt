@@ -25,26 +25,22 @@ loop-byte-preserved g c =
     let mid = g.W.Sink.out c.loop-byte.out in
     let far = c.loop-byte.invariant in
     elim c.if-byte-eq10.branch [
-      | then-byte-eq10+in_ok-obey w ↦
-          rw (w.debugger-is, w.pending-is, w.out-is)
-          (record {
-            goes = goes_line c.args.debugger.now c.loop-byte.debugger first c.loop-byte.pending here mid (take i bytes) (take (i + 1) bytes) byte
-                (up_to bytes i c.loop-byte-test.true) far.goes w.obey.new.debugger w.take_named-said.new.pending (g.W.Sink.out w.obey.new.out)
-                (g.W.Sink.failed w.obey.new.out) w.take_named-said.result (eq-eqb byte 10 w.if-byte-eq10.true)
-                w.take_named-said.ensures.anew w.take_named-said.ensures.said w.obey.ensures.keeps w.in_ok-obey.ensures.ok;
-            well = w.in_ok-obey.ensures.ok.well;
-            ready = w.obey.ensures.keeps.ready;
-            agree = w.obey.ensures.agree;
-          })
-      | else-byte-eq10 w ↦
-          rw (w.debugger-is, w.pending-is, w.out-is)
-          (record {
-            goes = goes_byte c.args.debugger.now c.loop-byte.debugger first c.loop-byte.pending here mid (take i bytes)
-                (take (i + 1) bytes) byte (up_to bytes i c.loop-byte-test.true) far.goes w.add.new.self (ne_eqb byte 10 w.if-byte-eq10.false) w.add.ensures;
-            well = far.well;
-            ready = far.ready;
-            agree = far.agree;
-          })
+      | then-byte-eq10+in_ok-obey w ↦ rw (w.debugger-is, w.pending-is, w.out-is) (record {
+        goes = goes_line c.args.debugger.now c.loop-byte.debugger first c.loop-byte.pending here mid (take i bytes) (take (i + 1) bytes) byte
+            (up_to bytes i c.loop-byte-test.true) far.goes w.obey.new.debugger w.take_named-said.new.pending (g.W.Sink.out w.obey.new.out)
+            (g.W.Sink.failed w.obey.new.out) w.take_named-said.result (eq-eqb byte 10 w.if-byte-eq10.true)
+            w.take_named-said.ensures.anew w.take_named-said.ensures.said w.obey.ensures.keeps w.in_ok-obey.ensures.ok;
+        well = w.in_ok-obey.ensures.ok.well;
+        ready = w.obey.ensures.keeps.ready;
+        agree = w.obey.ensures.agree;
+      })
+      | else-byte-eq10 w ↦ rw (w.debugger-is, w.pending-is, w.out-is) (record {
+        goes = goes_byte c.args.debugger.now c.loop-byte.debugger first c.loop-byte.pending here mid (take i bytes)
+            (take (i + 1) bytes) byte (up_to bytes i c.loop-byte-test.true) far.goes w.add.new.self (ne_eqb byte 10 w.if-byte-eq10.false) w.add.ensures;
+        well = far.well;
+        ready = far.ready;
+        agree = far.agree;
+      })
     ]
 
 pub returns-in_err-obey-clause-err : goal.returns-in_err-obey-clause-err

@@ -4,7 +4,8 @@ use Rattle.aom_debug.proofs.Heeding.{heard_fault, heard_fault_part, heard_nothin
 use Rattle.aom_debug.proofs.conversing.obey.Goals as goal
 
 pub returns-in-None-clause-ok : goal.returns-in-None-clause-ok
-returns-in-None-clause-ok g c = rw (c.in-Ok.is, c.in-None.is) (heard_nothing c.args.debugger.now (g.W.Sink.out c.args.out.now) (g.W.Sink.failed c.args.out.now) c.requires.well)
+returns-in-None-clause-ok g c =
+    rw (c.in-Ok.is, c.in-None.is) (heard_nothing c.args.debugger.now (g.W.Sink.out c.args.out.now) (g.W.Sink.failed c.args.out.now) c.requires.well)
 
 pub returns-in-Some-clause-ok : goal.returns-in-Some-clause-ok
 returns-in-Some-clause-ok g c = rw (c.in-Ok.is, c.in-Some.is) c.command_done.ensures.ok
@@ -17,4 +18,6 @@ returns-in-Err-clause-ok g c = rw c.in-Err.is (IfOk-weaker c.tell_fault.result _
     (g.W.Sink.out c.args.out.now) (g.W.Sink.out c.tell_fault.new.out) (g.W.Sink.failed c.tell_fault.new.out) c.requires.well out) c.tell_fault.ensures.ok)
 
 pub returns-in-Err-clause-err : goal.returns-in-Err-clause-err
-returns-in-Err-clause-err g c = rw c.in-Err.is (IfErr-weaker c.tell_fault.result _ _ (λ why cut. (cut.0, heard_fault_part c.args.debugger.now c.in-Err.fault (g.W.Sink.out c.args.out.now) (g.W.Sink.out c.tell_fault.new.out) (g.W.Sink.failed c.tell_fault.new.out) cut.1)) c.tell_fault.ensures.err)
+returns-in-Err-clause-err g c = rw c.in-Err.is (IfErr-weaker c.tell_fault.result _ _
+    (λ why cut. (cut.0, heard_fault_part c.args.debugger.now c.in-Err.fault (g.W.Sink.out c.args.out.now) (g.W.Sink.out c.tell_fault.new.out) (g.W.Sink.failed c.tell_fault.new.out) cut.1))
+    c.tell_fault.ensures.err)

@@ -15,15 +15,20 @@ returns-in-Err g c = λ bytes text spelled denotes errors status told. unbegun c
 
 pub returns-in-Ok : goal.returns-in-Ok
 returns-in-Ok g c =
-    let given : Given = record { before = g.R.Reader.given c.args.reader.now; now = g.R.Reader.given c.converse-told.new.reader; ended = g.R.Reader.ended c.converse-told.new.reader; had_failed = g.R.Reader.failed c.args.reader.now; failed = g.R.Reader.failed c.converse-told.new.reader } in
+    let given : Given = record {
+      before = g.R.Reader.given c.args.reader.now;
+      now = g.R.Reader.given c.converse-told.new.reader;
+      ended = g.R.Reader.ended c.converse-told.new.reader;
+      had_failed = g.R.Reader.failed c.args.reader.now;
+      failed = g.R.Reader.failed c.converse-told.new.reader;
+    } in
     let out : Sent = record { before = g.W.Sink.out c.args.out.now; now = g.W.Sink.out c.converse-told.new.out; failed = g.W.Sink.failed c.converse-told.new.out } in
     let natives = length c.args.boxes.items in
     let acceptable = acceptable_of c.facts.ensures.linked c.facts.ensures.typed c.facts.ensures.budgets c.facts.ensures.within c.facts.ensures.high in
     let d = c.in-Ok.debugger in
     let begun = c.in-Ok.ensures.begun in
-    λ bytes text spelled denotes.
-    by_done (Untold (DebugAnswersBy c.args.names bytes text c.args.limit natives c.args.reads given out))
+    λ bytes text spelled denotes. by_done (Untold (DebugAnswersBy c.args.names bytes text c.args.limit natives c.args.reads given out))
     c.converse-told.result c.done.result c.done.ensures.ok c.done.ensures.err c.converse-told.ensures.ok c.converse-told.ensures.err
-    (λ holds errors silent. held_of c.args.names bytes text c.args.limit natives c.args.reads c.args.accepted.now c.args.script acceptable spelled denotes given out errors d begun holds silent)
-    (λ fault why errors status told. broken_of c.args.names bytes
+    (λ holds errors silent. held_of c.args.names bytes text c.args.limit natives c.args.reads c.args.accepted.now
+    c.args.script acceptable spelled denotes given out errors d begun holds silent) (λ fault why errors status told. broken_of c.args.names bytes
     text c.args.limit natives c.args.reads c.args.accepted.now c.args.script acceptable spelled denotes given out errors d begun fault status why told)

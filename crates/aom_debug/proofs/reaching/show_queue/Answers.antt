@@ -9,4 +9,5 @@ pub returns-clause-ok : goal.returns-clause-ok
 returns-clause-ok g c = IfOk-weaker c.tell_queue.result _ _ (λ done tells. tells c.args.machine.now.core.image) (rw c.parts.ensures.parts at c.tell_queue.ensures.ok)
 
 pub returns-clause-err : goal.returns-clause-err
-returns-clause-err g c = IfErr-weaker c.tell_queue.result _ _ (λ fault part. part c.args.machine.now.core.image) (rw c.parts.ensures.parts at c.tell_queue.ensures.err)
+returns-clause-err g c =
+    IfErr-weaker c.tell_queue.result _ _ (λ fault part. part c.args.machine.now.core.image) (rw c.parts.ensures.parts at c.tell_queue.ensures.err)

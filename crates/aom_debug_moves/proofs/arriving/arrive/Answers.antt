@@ -54,7 +54,8 @@ returns-in_err-turn_out-in-Turned-clause-went g c =
     let i = c.loop-mover.invariant in
     let m = c.loop-mover.mover.machine in
     let off = c.in_err-turn_out-in-Turned.ensures.went in
-    let cut = heard_as i.keeps (λ q o. Breaks (Reaches q o) m (g.W.Sink.out c.loop-mover.out) (g.W.Sink.out c.turn_out.new.out) c.turn_out.new.mover.machine) off.1 in
+    let cut = heard_as i.keeps
+    (λ q o. Breaks (Reaches q o) m (g.W.Sink.out c.loop-mover.out) (g.W.Sink.out c.turn_out.new.out) c.turn_out.new.mover.machine) off.1 in
     rw c.from_residual.ensures (off.0, arrives_cut _ (outside_of c.args.mover.now) c.args.mover.now.machine m c.turn_out.new.mover.machine _ _ _ i.so_far cut)
 
 pub turn_out-requires-clause-agree : goal.turn_out-requires-clause-agree

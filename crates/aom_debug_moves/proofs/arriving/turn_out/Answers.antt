@@ -23,7 +23,8 @@ returns-clause-keeps g c =
     let ready = c.requires.ready in
     let turns = c.take_turns in
     let heard = hearing a.turn.refused a.limit (natives_of a.machine) c.events-events.result.now in
-    let same = turn_cleared a.machine turns.new.machine heard turns.result a.turn turns.new.turn ready.none turns.ensures.turns ready.stands c.send.new.turn c.send.ensures.clear in
+    let same = turn_cleared a.machine turns.new.machine heard turns.result a.turn turns.new.turn ready.none turns.ensures.turns ready.stands
+    c.send.new.turn c.send.ensures.clear in
     keeps_with a ready turns.new.machine c.send.new.turn c.send.new.page turns.ensures.image turns.ensures.natives same
     (stands_turned a.machine turns.new.machine heard turns.result a.turn turns.new.turn ready.none turns.ensures.turns ready.stands)
 
@@ -36,9 +37,9 @@ returns-clause-went g c =
     let out = g.W.Sink.out c.send.new.out in
     let takes = subst (λ es. TakesTurns a.machine (hearing a.turn.refused a.limit
     (natives_of a.machine) es) turns.result a.turn turns.new.turn turns.new.machine) c.events-events.ensures turns.ensures.turns in
-    went_if a new before out (g.W.Sink.failed c.send.new.out) c.progress-progress.result c.send.result c.then_some.result c.then_some.ensures c.progress-progress.ensures
-    (λ all. sends_turn a.machine turns.new.machine (outside_of a) turns.result a.turn turns.new.turn c.requires.ready.none takes before out (c.send.ensures.whole all))
-    (λ part. (
+    went_if a new before out (g.W.Sink.failed c.send.new.out) c.progress-progress.result c.send.result
+    c.then_some.result c.then_some.ensures c.progress-progress.ensures (λ all. sends_turn a.machine turns.new.machine
+    (outside_of a) turns.result a.turn turns.new.turn c.requires.ready.none takes before out (c.send.ensures.whole all)) (λ part. (
       c.send.ensures.fails part,
       breaks_turn a.machine turns.new.machine
           (outside_of a) turns.result a.turn turns.new.turn c.requires.ready.none takes before out c.send.ensures.prefix.0 c.send.ensures.prefix.1,

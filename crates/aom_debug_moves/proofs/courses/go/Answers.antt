@@ -15,7 +15,8 @@ returns-clause-went g c =
     let p = a.machine.core.image in
     let before = g.W.Sink.out c.args.out.now in
     let out = g.W.Sink.out c.follow.new.out in
-    let ends = heard_as c.follow.ensures.keeps (λ q o. Sends (Where (is_at_limit o) (EndsByLimit q o)) m.machine out out n.machine) (c.cut_at_limit.ensures.ends out) in
+    let ends = heard_as c.follow.ensures.keeps (λ q o. Sends (Where (is_at_limit o) (EndsByLimit q o)) m.machine out out n.machine)
+    (c.cut_at_limit.ensures.ends out) in
     let way = way_of p (outside_of a) c.args.breakpoints.now c.args.course a.recent m.recent in
     let all = sends_then a.machine m.machine n.machine before out out way _ c.in_ok-follow.ensures.went.0 ends in
     (rw c.cut_at_limit.ensures.recent all, c.cut_at_limit.ensures.far)

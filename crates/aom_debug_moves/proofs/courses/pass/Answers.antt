@@ -20,7 +20,8 @@ returns-in-Running-clause-went g c =
     let some = c.in_ok-other.ensures.went in
     let stays = λ (s : State). stays_at p c.args.until c.args.breakpoints.now s in
     let rests = c.is_there-rests in
-    let unless = begun_as keeps (λ q r. Sends (WalksUnless rests.result q r (λ (s : State). stays_at q c.args.until c.args.breakpoints.now s) a.recent n.recent) m.machine mid out n.machine) in
+    let unless = begun_as keeps (λ q r. Sends (WalksUnless rests.result q r (λ (s : State). stays_at q c.args.until c.args.breakpoints.now s) a.recent n.recent)
+    m.machine mid out n.machine) in
     let walks = walked_on p a.turn.refused stays a.recent n.recent m.machine n.machine mid out rests.result
     (λ s st. rests.ensures s st ∙ ap (λ q. stays_at q c.args.until c.args.breakpoints.now s) keeps.image) in
     went_as a m n _ _ _ _ c.walk_unless.result

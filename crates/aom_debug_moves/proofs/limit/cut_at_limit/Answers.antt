@@ -8,7 +8,8 @@ pub returns-clause-keeps : goal.returns-clause-keeps
 returns-clause-keeps g c =
     let a = c.args.mover.now in
     elim c.if-is_at_limit.branch [
-      | then-is_at_limit w ↦ rw w.mover-is (cut_keeps a c.is_at_limit.result w.if-is_at_limit.true c.is_at_limit.ensures w.cut.new.self w.cut.ensures.image w.cut.ensures.cut c.requires.ready)
+      | then-is_at_limit w ↦ rw w.mover-is
+          (cut_keeps a c.is_at_limit.result w.if-is_at_limit.true c.is_at_limit.ensures w.cut.new.self w.cut.ensures.image w.cut.ensures.cut c.requires.ready)
       | else-is_at_limit w ↦ rw w.mover-is (keeps_all a c.requires.ready)
     ]
 
@@ -16,6 +17,7 @@ pub returns-clause-ends : goal.returns-clause-ends
 returns-clause-ends g c =
     let a = c.args.mover.now in
     elim c.if-is_at_limit.branch [
-      | then-is_at_limit w ↦ rw w.mover-is (cut_ends a c.is_at_limit.result w.if-is_at_limit.true c.is_at_limit.ensures w.cut.new.self w.cut.ensures.image w.cut.ensures.cut)
+      | then-is_at_limit w ↦ rw w.mover-is
+          (cut_ends a c.is_at_limit.result w.if-is_at_limit.true c.is_at_limit.ensures w.cut.new.self w.cut.ensures.image w.cut.ensures.cut)
       | else-is_at_limit w ↦ rw w.mover-is (not_cut a c.is_at_limit.result w.if-is_at_limit.false c.is_at_limit.ensures)
     ]

@@ -15,12 +15,11 @@ returns-in-Some-clause-first c = record {
 }
 
 pub returns-in-None-clause-first : goal.returns-in-None-clause-first
-returns-in-None-clause-first c =
-    record {
-      number = ap (λ o. first_number o c.args.number) (sym c.in-None.is ∙ c.first_session.ensures.value);
-      below = let st = c.requires.stands in
-          let small = lives_below c.args.linked.now c.args.parts.now st.0 st.1.sound.formed st.1.agrees c.args.number c.requires.lives in omega (arith, small);
-    }
+returns-in-None-clause-first c = record {
+  number = ap (λ o. first_number o c.args.number) (sym c.in-None.is ∙ c.first_session.ensures.value);
+  below = let st = c.requires.stands in
+      let small = lives_below c.args.linked.now c.args.parts.now st.0 st.1.sound.formed st.1.agrees c.args.number c.requires.lives in omega (arith, small);
+}
 
 pub returns-in-Some-clause-lives : goal.returns-in-Some-clause-lives
 returns-in-Some-clause-lives c = first_lives c.args.linked.now _ c.requires.stands.0 c.requires.stands.1 _ _ c.requires.lives (returns-in-Some-clause-first c)

@@ -5,7 +5,8 @@ use Rattle.aom_debug_moves.proofs.MachineStateLemmas.{same_length}
 use Rattle.aom_debug_moves.proofs.over.depth_of.Goals as goal
 
 pub returns-in-Step : goal.returns-in-Step
-returns-in-Step g c = λ s st. rw c.in-Step.is (c.len.ensures ∙ ap (λ (m : Parts). length m.stack.tasks) c.parts.ensures.parts ∙ same_length _ _ st.stands.agrees.tasks)
+returns-in-Step g c = λ s st. rw c.in-Step.is
+    (c.len.ensures ∙ ap (λ (m : Parts). length m.stack.tasks) c.parts.ensures.parts ∙ same_length _ _ st.stands.agrees.tasks)
 
 pub returns-in-Method : goal.returns-in-Method
 returns-in-Method g c = λ s st.

@@ -19,7 +19,8 @@ returns-in-Running-clause-went g c =
     let marks = c.args.breakpoints.now in
     let depth = c.depth_of-depth.result in
     let some = c.in_ok-other.ensures.went in
-    let walks = begun_as c.arrive.ensures.keeps (λ q r. Sends (WalksThere q r (λ v. stays_at q (Depth depth) marks v) a.recent n.recent) m.machine mid out n.machine) in
+    let walks = begun_as c.arrive.ensures.keeps
+    (λ q r. Sends (WalksThere q r (λ v. stays_at q (Depth depth) marks v) a.recent n.recent) m.machine mid out n.machine) in
     let over = walks_over p a.turn.refused c.args.scope marks a.recent n.recent depth m.machine n.machine mid out c.depth_of-depth.ensures in
     went_as a m n _ _ _ _ c.walk.result
     (λ x. in_dispatch _ _ (WalksOver p a.turn.refused c.args.scope marks) a.recent n.recent a.machine m.machine n.machine _ _ _ some.0

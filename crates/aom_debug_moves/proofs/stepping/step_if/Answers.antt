@@ -16,7 +16,8 @@ returns-clause-keeps g c =
     let step = c.step-progress in
     let steps = stepped_of a.machine step.new.self step.result a.turn step.new.turn step.ensures.steps in
     let same = cleared a.machine step.new.self step.result a.turn step.new.turn ready.none steps ready.stands c.send.new.turn c.send.ensures.clear in
-    keeps_with a ready _ _ _ step.ensures.image step.ensures.natives same (stands_after a.machine step.new.self step.result a.turn step.new.turn ready.none steps ready.stands)
+    keeps_with a ready _ _ _ step.ensures.image step.ensures.natives same
+    (stands_after a.machine step.new.self step.result a.turn step.new.turn ready.none steps ready.stands)
 
 pub returns-clause-went : goal.returns-clause-went
 returns-clause-went g c =

@@ -20,7 +20,8 @@ returns-in_err-step_if-2-clause-went g c =
     let mid = g.W.Sink.out c.step_if.new.out in
     let out = g.W.Sink.out c.step_if-2.new.out in
     let due = Where (root_is_due p) (StepsOnce p refused) in
-    let first = sends_where c.starts_end-begins.result (root_is_due p) (StepsOnce p refused) a.machine m.machine before mid c.starts_end-begins.ensures c.in_ok-step_if.ensures.went.0 in
+    let first = sends_where c.starts_end-begins.result (root_is_due p) (StepsOnce p refused) a.machine m.machine before mid c.starts_end-begins.ensures
+    c.in_ok-step_if.ensures.went.0 in
     let off = c.in_err-step_if-2.ensures.went in
     let cut = begun_as c.step_if.ensures.keeps (λ q r. Breaks (Moving q r) m.machine mid out n.machine) off.1 in
     let all = breaks_then a.machine m.machine n.machine before mid out due (Moving p refused) first
@@ -43,7 +44,8 @@ returns-clause-went g c =
     let due = Where (root_is_due p) once in
     let on = c.stays_there-goes_on in
     let keeps = keeps_on (keeps_noting c.step_if.ensures.keeps c.note_next.new.recent) c.step_if-2.ensures.keeps in
-    let first = sends_where c.starts_end-begins.result (root_is_due p) once a.machine m.machine before mid c.starts_end-begins.ensures c.in_ok-step_if.ensures.went.0 in
+    let first = sends_where c.starts_end-begins.result
+    (root_is_due p) once a.machine m.machine before mid c.starts_end-begins.ensures c.in_ok-step_if.ensures.went.0 in
     let step = begun_as c.step_if.ensures.keeps (λ q r. Sends (StepsOnce q r) m.machine mid then n.machine) c.in_ok-step_if-2.ensures.went.0 in
     let made = Then once (Where (pauses p) once) in
     let notes = Notes p a.recent l.recent made in
@@ -51,21 +53,17 @@ returns-clause-went g c =
     let last = begun_as keeps (λ q r. Sends (IfSo on.result (StepsOnce q r)) n.machine then out l.machine) y in
     let there = sends_where on.result (pauses p) once n.machine l.machine then out (λ s st. on.ensures s st ∙ ap (λ q. pauses q s) keeps.image) last in
     let later = sends_then m.machine n.machine l.machine mid then out once (Where (pauses p) once) step there in
-    let noting =
-    sends_as m.machine l.machine mid out made notes
-    (λ s st ls u z. (
+    let noting = sends_as m.machine l.machine mid out made notes (λ s st ls u z. (
       c.step_if-3.ensures.recent ∙ c.step_if-2.ensures.recent ∙ c.note_next.ensures s st ∙ ap (λ q. noted
           (spot_of (next_of q s)) m.recent) c.step_if.ensures.keeps.image ∙ ap (λ spots. noted (spot_of (next_of p s)) spots) c.step_if.ensures.recent,
       z,
-    )) later
-    in
+    )) later in
     sends_then a.machine m.machine l.machine before mid out due notes first noting) (λ y.
     let cut = begun_as keeps (λ q r. Breaks (Moving q r) n.machine then out l.machine) y in
     let later = breaks_then m.machine n.machine l.machine mid then out once
     (Moving p refused) step (Moving p refused) (λ s ls v ks u f k. moving_both p refused s ls v ks u (moving_of p refused s ls v f) k) cut in
     breaks_then a.machine m.machine l.machine before mid out due (Moving p refused) first
-    (Moving p refused) (λ s ls v ks u f k. moving_both p refused s ls v ks u (moving_if (root_is_due p s) p refused s ls v f) k) later)
-    c.step_if-3.ensures.went
+    (Moving p refused) (λ s ls v ks u f k. moving_both p refused s ls v ks u (moving_if (root_is_due p s) p refused s ls v f) k) later) c.step_if-3.ensures.went
 
 pub returns-clause-falls : goal.returns-clause-falls
 returns-clause-falls g c = if_any c.step_if-3.result (λ running.

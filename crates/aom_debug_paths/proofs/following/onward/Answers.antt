@@ -13,4 +13,5 @@ returns-in-Object-clause-held c = λ s o st is.
     (held_so s (branch_place cell c.args.branch) h (subst (λ r. HoldsSo s r h) c.branch_owner.ensures.place (c.held_at.ensures s st)))
 
 pub returns-in-Object-clause-alive : goal.returns-in-Object-clause-alive
-returns-in-Object-clause-alive c = let st = c.requires.stands in is_alive c.args.accepted.now c.args.parts.now st (place_of c.branch_owner.result) c.held_at.result (c.held_at.ensures st.0 st.1)
+returns-in-Object-clause-alive c = let st = c.requires.stands in
+    is_alive c.args.accepted.now c.args.parts.now st (place_of c.branch_owner.result) c.held_at.result (c.held_at.ensures st.0 st.1)

@@ -17,7 +17,9 @@ returns-in-Some-clause-held c = λ s st.
     (held_so s r c.held_at.result (c.held_at.ensures s st))
 
 pub returns-in-None-clause-held : goal.returns-in-None-clause-held
-returns-in-None-clause-held c = λ s st. ap (held_in s.cells) (sym (ap (option_map (λ x. place_of x)) (sym c.in-None.is) ∙ c.outer_owner.ensures.place c.args.accepted.now s st))
+returns-in-None-clause-held c =
+    λ s st. ap (held_in s.cells) (sym (ap (option_map (λ x. place_of x)) (sym c.in-None.is) ∙ c.outer_owner.ensures.place c.args.accepted.now s st))
 
 pub returns-in-Some-clause-alive : goal.returns-in-Some-clause-alive
-returns-in-Some-clause-alive c = let st = c.requires.stands in is_alive c.args.accepted.now c.args.parts.now st (place_of c.in-Some.owner) c.held_at.result (c.held_at.ensures st.0 st.1)
+returns-in-Some-clause-alive c = let st = c.requires.stands in
+    is_alive c.args.accepted.now c.args.parts.now st (place_of c.in-Some.owner) c.held_at.result (c.held_at.ensures st.0 st.1)

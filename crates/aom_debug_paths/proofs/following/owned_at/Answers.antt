@@ -7,7 +7,8 @@ use Rattle.aom_debug_paths.proofs.following.owned_at.Goals as goal
 pub loop-branch-init : goal.loop-branch-init
 loop-branch-init c = record {
   alive = c.outer_holding-holding.ensures.alive;
-  held = λ s st. subst (λ o. IsHeld s (held_in s.cells (outer_place s o)) c.outer_holding-holding.result) c.outer.ensures (c.outer_holding-holding.ensures.held s st);
+  held = λ s st. subst (λ o. IsHeld s (held_in s.cells (outer_place s o)) c.outer_holding-holding.result) c.outer.ensures
+      (c.outer_holding-holding.ensures.held s st);
 }
 
 pub loop-branch-preserved : goal.loop-branch-preserved
@@ -26,6 +27,5 @@ returns-clause-alive c = c.loop-branch.invariant.alive
 pub returns-clause-held : goal.returns-clause-held
 returns-clause-held c = λ s st.
     let w = c.args.path.now in
-    held_same s _ _ c.loop-branch.holding
-    (all_branches s (held_in s.cells (outer_place s w.outer)) w.branches c.branches-branch-items.result.now c.branches-branch-items.ensures c.loop-branch.branch-index c.loop-branch-test.false)
-    (c.loop-branch.invariant.held s st)
+    held_same s _ _ c.loop-branch.holding (all_branches s (held_in s.cells (outer_place s w.outer)) w.branches c.branches-branch-items.result.now
+    c.branches-branch-items.ensures c.loop-branch.branch-index c.loop-branch-test.false) (c.loop-branch.invariant.held s st)

@@ -28,11 +28,12 @@ returns-in_err-tell_any-clause-err g c =
 pub loop-word-preserved : goal.loop-word-preserved
 loop-word-preserved g c =
     let w = c.loop-word.word in
-    λ p. tells_next of_answer (record { image = p; parts = c.args.parts.now }) (told c.args.cell) w _ _ _ (listed c.word_answer.result) (c.loop-word.invariant p)
-    (λ s st. ap listed (c.word_answer.ensures p s st)) c.in_ok-tell_any.ensures.ok
+    λ p. tells_next of_answer (record { image = p; parts = c.args.parts.now }) (told c.args.cell) w _ _ _ (listed c.word_answer.result)
+    (c.loop-word.invariant p) (λ s st. ap listed (c.word_answer.ensures p s st)) c.in_ok-tell_any.ensures.ok
 
 pub returns-clause-ok : goal.returns-clause-ok
 returns-clause-ok g c =
     let most = c.loop-word.auto.word-end in
     let least = c.loop-word-test.false in
-    λ p. tells_all of_answer (record { image = p; parts = c.args.parts.now }) (told c.args.cell) (λ s. c.args.count) c.loop-word.word _ _ (c.loop-word.invariant p) (λ s st. omega (arith, most, least))
+    λ p. tells_all of_answer (record { image = p; parts = c.args.parts.now }) (told c.args.cell) (λ s. c.args.count) c.loop-word.word _ _
+    (c.loop-word.invariant p) (λ s st. omega (arith, most, least))

@@ -5,4 +5,5 @@ use Rattle.aom_debug_paths.specs.Paths.{word_lines}
 use Rattle.aom_debug_paths.proofs.words.tell_count.Given as goal
 
 abbrev pub invariant-loop-word : goal.invariant-loop-word
-invariant-loop-word g l = (p : Image) → Tells (record { image = p; parts = l.parts }) (λ s. answers_text (word_lines s.cells l.cell l.word)) (g.W.Sink.out l.initial.out) (g.W.Sink.out l.out)
+invariant-loop-word g l = (p : Image) →
+    Tells (record { image = p; parts = l.parts }) (λ s. answers_text (word_lines s.cells l.cell l.word)) (g.W.Sink.out l.initial.out) (g.W.Sink.out l.out)

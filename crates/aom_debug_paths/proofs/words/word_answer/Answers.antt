@@ -8,4 +8,5 @@ use Rattle.aom_debug_paths.proofs.words.word_answer.Goals as goal
 pub returns : goal.returns
 returns c = λ p s st.
     let fits : FitsSigned w32 c.word.result = search rules in
-    rw (to_z-of_z w32 c.word.result fits) (ap (λ v. Some (Word c.args.word v)) (c.word.ensures ∙ word_told p c.args.parts.now s st c.args.cell c.requires.lives c.args.word))
+    rw (to_z-of_z w32 c.word.result fits)
+    (ap (λ v. Some (Word c.args.word v)) (c.word.ensures ∙ word_told p c.args.parts.now s st c.args.cell c.requires.lives c.args.word))

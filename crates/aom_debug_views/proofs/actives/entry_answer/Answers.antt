@@ -17,7 +17,8 @@ returns-then-is_server c = λ p s st has.
     let priority = c.args.entry.priority in
     let ranked : FitsSigned w32 priority = search rules in
     let many = c.queued-queued.ensures ∙ ap (λ n. length (queue_at m.clients n)) c.number-then-is_server.ensures.value in
-    rw (to_z-of_z w32 priority ranked) (server_told p m s st _ _ _ _ has (sym c.if-is_server.ensures) many (c.in_ok-class.ensures ∙ ap (class_at m.cells) c.number.ensures.value))
+    rw (to_z-of_z w32 priority ranked)
+    (server_told p m s st _ _ _ _ has (sym c.if-is_server.ensures) many (c.in_ok-class.ensures ∙ ap (class_at m.cells) c.number.ensures.value))
 
 pub returns-in_err-state : goal.returns-in_err-state
 returns-in_err-state c = λ p s st _. rw c.from_residual-in_err-state.ensures (unasked_told p _ s st _ c.in_err-state.ensures (sym c.if-is_server.ensures))
@@ -31,4 +32,5 @@ returns c = λ p s st has.
     let ranked : FitsSigned w32 priority = search rules in
     let ended : FitsSigned w32 status = search rules in
     let class : Some c.in_ok-class.class ≡ class_at m.cells id = c.in_ok-class.ensures ∙ ap (class_at m.cells) c.number.ensures.value in
-    rw (to_z-of_z w32 priority ranked, to_z-of_z w32 status ended, c.phase_of.ensures) (enlisted_told p m s st id _ _ _ _ has c.in_ok-state.ensures c.status-status.ensures class)
+    rw (to_z-of_z w32 priority ranked, to_z-of_z w32 status ended, c.phase_of.ensures)
+    (enlisted_told p m s st id _ _ _ _ has c.in_ok-state.ensures c.status-status.ensures class)

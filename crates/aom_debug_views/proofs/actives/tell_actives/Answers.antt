@@ -28,9 +28,9 @@ returns-in_err-tell_any_by-clause-err g c =
     let error = err_from_is_err_and c.from_residual.result c.from_residual.ensures.1 in
     let m = c.args.parts.now in
     let many = length-map m.active.roster.entries (λ (e : ScheduleEntry). e.id) in
-    rw (error.1, error.2) (λ p. actives_cut (record { image = p; parts = m }) c.count-place-end.ensures.all _ _ _ _ _ (tells_part
-    (of_answer c.args.names.now) (record { image = p; parts = m }) (told p m) (λ s. length (names_of m)) _ _ _ _ _ _ _ (c.loop-place.invariant p)
-    (λ s st. ap listed (c.place_answer.ensures p s st)) (λ s st. omega (arith, c.loop-place-test.true, c.count-place-end.ensures.value, many)) c.in_err-tell_any_by.ensures.err))
+    rw (error.1, error.2) (λ p. actives_cut (record { image = p; parts = m }) c.count-place-end.ensures.all _ _ _ _ _ (tells_part (of_answer c.args.names.now)
+    (record { image = p; parts = m }) (told p m) (λ s. length (names_of m)) _ _ _ _ _ _ _ (c.loop-place.invariant p) (λ s st. ap listed
+    (c.place_answer.ensures p s st)) (λ s st. omega (arith, c.loop-place-test.true, c.count-place-end.ensures.value, many)) c.in_err-tell_any_by.ensures.err))
 
 pub loop-place-preserved : goal.loop-place-preserved
 loop-place-preserved g c =

@@ -7,4 +7,5 @@ use Rattle.aom_debug_views.specs.Telling.{answers_by, gathered, listed}
 use Rattle.aom_debug_views.proofs.breaks.tell_breaks.Given as goal
 
 abbrev pub invariant-loop-index : goal.invariant-loop-index
-invariant-loop-index g l = g.W.Sink.out l.out ≡ after (g.W.Sink.out l.initial.out) (answers_by l.names (gathered (λ k. listed (option_map (λ spot. Break spot) (slice_get l.breakpoints k))) l.index))
+invariant-loop-index g l = g.W.Sink.out l.out ≡ after (g.W.Sink.out l.initial.out)
+    (answers_by l.names (gathered (λ k. listed (option_map (λ spot. Break spot) (slice_get l.breakpoints k))) l.index))

@@ -27,7 +27,8 @@ pub returns-clause-ok : goal.returns-clause-ok
 returns-clause-ok g c =
     let m = c.args.parts.now in
     let n = c.count.result in
-    let many : c.len.result ≡ length c.args.linked.now.classes = c.len.ensures ∙ ap length c.classes.ensures.value ∙ ap (λ (x : Image). length x.classes) c.image.ensures in
+    let many : c.len.result ≡ length c.args.linked.now.classes = c.len.ensures ∙ ap length c.classes.ensures.value
+    ∙ ap (λ (x : Image). length x.classes) c.image.ensures in
     IfOk-weaker c.tell_classes.result _ _ (λ _ told p. tells_both (of_answer c.args.names.now) (record { image = p; parts = m })
     (all_cells c.args.names.now m n c.count.ensures.value p) (λ s. first_classes s.cells (length c.args.linked.now.classes)) _ _ _
     (count_told c.args.names.now m n c.count.ensures.value p _ _ c.in_ok-tell_by.ensures.ok) (rw many at told p)) c.tell_classes.ensures.ok
@@ -36,7 +37,8 @@ pub returns-clause-err : goal.returns-clause-err
 returns-clause-err g c =
     let m = c.args.parts.now in
     let n = c.count.result in
-    let many : c.len.result ≡ length c.args.linked.now.classes = c.len.ensures ∙ ap length c.classes.ensures.value ∙ ap (λ (x : Image). length x.classes) c.image.ensures in
+    let many : c.len.result ≡ length c.args.linked.now.classes = c.len.ensures ∙ ap length c.classes.ensures.value
+    ∙ ap (λ (x : Image). length x.classes) c.image.ensures in
     IfErr-weaker c.tell_classes.result _ _ (λ fault cut p. cut_later (of_answer c.args.names.now) (record { image = p; parts = m })
     (all_cells c.args.names.now m n c.count.ensures.value p) (λ s. first_classes s.cells (length c.args.linked.now.classes)) _ _ _ _ _
     (count_told c.args.names.now m n c.count.ensures.value p _ _ c.in_ok-tell_by.ensures.ok) (rw many at cut p)) c.tell_classes.ensures.err

@@ -20,8 +20,8 @@ told s class = listed (class_answer class (count_class class s.cells))
 pub returns-in_err-tell_any_by-clause-err : goal.returns-in_err-tell_any_by-clause-err
 returns-in_err-tell_any_by-clause-err g c =
     let error = err_from_is_err_and c.from_residual.result c.from_residual.ensures.1 in
-    rw (error.1, error.2) (λ p. tells_part (of_answer c.args.names.now) (record { image = p; parts = c.args.parts.now }) told (λ s. c.args.classes) _ _ _ _ _ _ _ (c.loop-class.invariant p)
-    (λ s st. ap listed (c.class_answer.ensures p s st)) (λ s st. c.loop-class-test.true) c.in_err-tell_any_by.ensures.err)
+    rw (error.1, error.2) (λ p. tells_part (of_answer c.args.names.now) (record { image = p; parts = c.args.parts.now }) told (λ s. c.args.classes) _ _ _ _ _ _
+    _ (c.loop-class.invariant p) (λ s st. ap listed (c.class_answer.ensures p s st)) (λ s st. c.loop-class-test.true) c.in_err-tell_any_by.ensures.err)
 
 pub loop-class-preserved : goal.loop-class-preserved
 loop-class-preserved g c = λ p. tells_next (of_answer c.args.names.now) (record { image = p; parts = c.args.parts.now }) told _ _ _ _ _

@@ -23,10 +23,9 @@ pub returns-in_err-tell_any_by-clause-err : goal.returns-in_err-tell_any_by-clau
 returns-in_err-tell_any_by-clause-err g c =
     let error = err_from_is_err_and c.from_residual.result c.from_residual.ensures.1 in
     let parts = c.args.parts.now in
-    rw (error.1, error.2) (λ p. tells_part (of_answer c.args.names.now) (record { image = p; parts = parts }) told (λ s. length s.items) _ _ _ _ _ _ _ (c.loop-height.invariant p)
-    (λ s st. ap listed (c.item_answer.ensures p s st))
-    (λ s st. let within = c.loop-height-test.true in let count = c.len-height-end.ensures.value in let many = as_many_items p parts s st in omega (arith, within, count, many))
-    c.in_err-tell_any_by.ensures.err)
+    rw (error.1, error.2) (λ p. tells_part (of_answer c.args.names.now) (record { image = p; parts = parts }) told (λ s. length s.items) _ _ _ _ _ _ _
+    (c.loop-height.invariant p) (λ s st. ap listed (c.item_answer.ensures p s st)) (λ s st. let within = c.loop-height-test.true in
+    let count = c.len-height-end.ensures.value in let many = as_many_items p parts s st in omega (arith, within, count, many)) c.in_err-tell_any_by.ensures.err)
 
 pub loop-height-preserved : goal.loop-height-preserved
 loop-height-preserved g c = λ p. tells_next (of_answer c.args.names.now) (record { image = p; parts = c.args.parts.now }) told _ _ _ _ _

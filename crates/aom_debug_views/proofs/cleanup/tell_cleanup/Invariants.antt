@@ -5,4 +5,5 @@ use Rattle.aom_debug_views.specs.Telling.{Tells, answers_by}
 use Rattle.aom_debug_views.proofs.cleanup.tell_cleanup.Given as goal
 
 abbrev pub invariant-loop-height : goal.invariant-loop-height
-invariant-loop-height g l = (p : Image) → Tells (record { image = p; parts = l.parts }) (λ s. answers_by l.names (lowest_items s l.height)) (g.W.Sink.out l.initial.out) (g.W.Sink.out l.out)
+invariant-loop-height g l = (p : Image) →
+    Tells (record { image = p; parts = l.parts }) (λ s. answers_by l.names (lowest_items s l.height)) (g.W.Sink.out l.initial.out) (g.W.Sink.out l.out)

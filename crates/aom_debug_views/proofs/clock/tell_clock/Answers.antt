@@ -14,14 +14,12 @@ returns-clause-ok g c = IfOk-weaker c.tell.result _ _
     c.tell.ensures.ok
 
 pub returns-clause-err : goal.returns-clause-err
-returns-clause-err g c = IfErr-weaker c.tell.result _ _
-    (λ fault cut p. record {
-      told = cut.told;
-      fails = cut.fails;
-      out = λ s st. (
-        cut.sent,
-        cut.out ∙ ap (λ n. after (g.W.Sink.out c.args.out.now) (take cut.sent (ended (answer_text (Clock n)))))
-            (c.clock.ensures ∙ ap (λ (r : Counters). r.clock) st.agrees.rest),
-      );
-    })
-    c.tell.ensures.err
+returns-clause-err g c = IfErr-weaker c.tell.result _ _ (λ fault cut p. record {
+  told = cut.told;
+  fails = cut.fails;
+  out = λ s st. (
+    cut.sent,
+    cut.out ∙ ap (λ n. after (g.W.Sink.out c.args.out.now) (take cut.sent (ended (answer_text (Clock n)))))
+        (c.clock.ensures ∙ ap (λ (r : Counters). r.clock) st.agrees.rest),
+  );
+}) c.tell.ensures.err

@@ -23,8 +23,8 @@ pub returns-in_err-tell_any_by-clause-err : goal.returns-in_err-tell_any_by-clau
 returns-in_err-tell_any_by-clause-err g c =
     let error = err_from_is_err_and c.from_residual.result c.from_residual.ensures.1 in
     let answer = c.loop_answer.ensures ∙ ap (loop_answer c.loop-number.number) c.counter.ensures in
-    rw (error.1, error.2) (λ m sh depth shown. tells_part (of_answer c.args.names.now) m (told depth) (λ s. 4) _ _ _ _ _ _ _ (c.loop-number.invariant m sh depth shown)
-    (λ s st. loop_told m sh c.args.frame.now depth _ shown s st _ answer) (λ s st. c.loop-number-test.true) c.in_err-tell_any_by.ensures.err)
+    rw (error.1, error.2) (λ m sh depth shown. tells_part (of_answer c.args.names.now) m (told depth) (λ s. 4) _ _ _ _ _ _ _ (c.loop-number.invariant m sh depth
+    shown) (λ s st. loop_told m sh c.args.frame.now depth _ shown s st _ answer) (λ s st. c.loop-number-test.true) c.in_err-tell_any_by.ensures.err)
 
 pub loop-number-preserved : goal.loop-number-preserved
 loop-number-preserved g c =
@@ -36,4 +36,5 @@ pub returns-clause-ok : goal.returns-clause-ok
 returns-clause-ok g c =
     let most = c.loop-number.auto.number-end in
     let least = c.loop-number-test.false in
-    λ m sh depth shown. tells_all (of_answer c.args.names.now) m (told depth) (λ s. 4) c.loop-number.number _ _ (c.loop-number.invariant m sh depth shown) (λ s st. omega (arith, most, least))
+    λ m sh depth shown. tells_all (of_answer c.args.names.now) m (told depth) (λ s. 4) c.loop-number.number _ _ (c.loop-number.invariant m sh depth shown)
+    (λ s st. omega (arith, most, least))

@@ -18,7 +18,8 @@ returns-in_default-clause-ok g c = λ t strongest. record {
       let p = c.args.checked.now in
       let k = c.args.depth in
       let none = sym (frames_told p c.args.parts.now s st k) ∙ ap is_some (sym c.in_default.ensures) in
-      none_sent _ ∙ ap (λ xs. after (g.W.Sink.out c.args.out.now) (answers_by c.args.names.now xs)) (sym (no_lines (λ i. kinds_of t (over s.tasks k) i) s k (over s.tasks k) none));
+      none_sent _ ∙ ap (λ xs. after (g.W.Sink.out c.args.out.now) (answers_by c.args.names.now xs))
+      (sym (no_lines (λ i. kinds_of t (over s.tasks k) i) s k (over s.tasks k) none));
 }
 
 pub shape-requires : goal.shape-requires

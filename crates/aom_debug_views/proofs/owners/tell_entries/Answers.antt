@@ -35,7 +35,8 @@ returns-in_err-tell_place-clause-err g c =
     (subst (λ n. Shows (record { image = p; parts = m }) n (Entry k)) (sym c.item_number.ensures) (entry_shows p m k)) in
     part_further (owned_line c.args.names.now) (record { image = p; parts = m }) hangs (λ s. length s.items) k _ _ _ _ _ (c.loop-height.invariant.out p)
     (λ s st. let many = as_many_items p m s st in omega (arith, c.loop-height-test.true, c.len-height-end.ensures.value, many))
-    (part_same (record { image = p; parts = m }) _ (λ s. owners_text c.args.names.now (hangs s k)) (numbered c.args.names.now p m c.loop-height.entries k c.loop-height.invariant.count) _ _ _ _ cut))
+    (part_same (record { image = p; parts = m }) _ (λ s. owners_text c.args.names.now (hangs s k))
+    (numbered c.args.names.now p m c.loop-height.entries k c.loop-height.invariant.count) _ _ _ _ cut))
 
 pub loop-height-preserved : goal.loop-height-preserved
 loop-height-preserved g c =

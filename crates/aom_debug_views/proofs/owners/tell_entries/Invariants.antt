@@ -13,5 +13,6 @@ abbrev pub invariant-loop-height : goal.invariant-loop-height
 invariant-loop-height g l = record {
   few : l.entries ≤ l.height;
   count : (p : Image) (s : State) → StandsFor (record { image = p; parts = l.parts }) s → l.entries ≡ counted (λ k. is_entry (over s.items k)) l.height;
-  out : (p : Image) → Tells (record { image = p; parts = l.parts }) (λ s. owners_text l.names (entries_map s l.height)) (g.W.Sink.out l.initial.out) (g.W.Sink.out l.out);
+  out : (p : Image) →
+      Tells (record { image = p; parts = l.parts }) (λ s. owners_text l.names (entries_map s l.height)) (g.W.Sink.out l.initial.out) (g.W.Sink.out l.out);
 }

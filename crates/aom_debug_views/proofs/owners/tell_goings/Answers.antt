@@ -32,9 +32,9 @@ returns-in_err-tell_place-clause-err g c =
     rw (error.1, error.2) (λ p.
     let cut = c.in_err-tell_place.ensures.err p (In_going c.loop-depth.goings) (Going k) c.going.ensures.text
     (subst (λ n. Shows (record { image = p; parts = m }) n (Going k)) (sym c.going_number.ensures) (going_shows p m k)) in
-    part_further (owned_line c.args.names.now) (record { image = p; parts = m }) hangs (λ s. length s.tasks) k _ _ _ _ _
-    (c.loop-depth.invariant.out p) (λ s st. let many = as_many_tasks p m s st in omega (arith, c.loop-depth-test.true, c.len-depth-end.ensures, many))
-    (part_same (record { image = p; parts = m }) _ (λ s. owners_text c.args.names.now (hangs s k)) (numbered c.args.names.now p m c.loop-depth.goings k c.loop-depth.invariant.count) _ _ _ _ cut))
+    part_further (owned_line c.args.names.now) (record { image = p; parts = m }) hangs (λ s. length s.tasks) k _ _ _ _ _ (c.loop-depth.invariant.out p) (λ s st.
+    let many = as_many_tasks p m s st in omega (arith, c.loop-depth-test.true, c.len-depth-end.ensures, many)) (part_same (record { image = p; parts = m }) _
+    (λ s. owners_text c.args.names.now (hangs s k)) (numbered c.args.names.now p m c.loop-depth.goings k c.loop-depth.invariant.count) _ _ _ _ cut))
 
 pub loop-depth-preserved : goal.loop-depth-preserved
 loop-depth-preserved g c =

@@ -13,5 +13,6 @@ abbrev pub invariant-loop-depth : goal.invariant-loop-depth
 invariant-loop-depth g l = record {
   few : l.goings ≤ l.depth;
   count : (p : Image) (s : State) → StandsFor (record { image = p; parts = l.parts }) s → l.goings ≡ counted (λ k. is_going (over s.tasks k)) l.depth;
-  out : (p : Image) → Tells (record { image = p; parts = l.parts }) (λ s. owners_text l.names (goings_map s l.depth)) (g.W.Sink.out l.initial.out) (g.W.Sink.out l.out);
+  out : (p : Image) →
+      Tells (record { image = p; parts = l.parts }) (λ s. owners_text l.names (goings_map s l.depth)) (g.W.Sink.out l.initial.out) (g.W.Sink.out l.out);
 }

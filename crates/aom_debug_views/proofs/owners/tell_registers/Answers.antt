@@ -28,8 +28,8 @@ returns-in_err-tell_task-clause-err g c =
     let within = c.loop-depth-test.true in
     let count = c.len-depth-end.ensures in
     rw (error.1, error.2) (part_further (owned_line c.args.names.now) m hangs (λ s. length s.tasks) k _ _ _ _ _ c.loop-depth.invariant.out
-    (λ s st. let many = as_many_tasks m.image m.parts s st in omega (arith, within, count, many))
-    (part_same m _ (λ s. owners_text c.args.names.now (hangs s k)) (numbered c.args.names.now m c.loop-depth.frames k c.loop-depth.invariant.count) _ _ _ _ c.in_err-tell_task.ensures.err))
+    (λ s st. let many = as_many_tasks m.image m.parts s st in omega (arith, within, count, many)) (part_same m _ (λ s. owners_text c.args.names.now (hangs s k))
+    (numbered c.args.names.now m c.loop-depth.frames k c.loop-depth.invariant.count) _ _ _ _ c.in_err-tell_task.ensures.err))
 
 pub loop-depth-preserved : goal.loop-depth-preserved
 loop-depth-preserved g c =

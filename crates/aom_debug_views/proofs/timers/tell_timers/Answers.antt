@@ -27,9 +27,9 @@ returns-in_err-tell_any_by-clause-err g c =
     let error = err_from_is_err_and c.from_residual.result c.from_residual.ensures.1 in
     let m = c.args.parts.now in
     let many = length-map m.active.pending.timers (λ (t : Timer). t.id) in
-    rw (error.1, error.2) (λ p. timers_cut (record { image = p; parts = m }) c.timers-place-end.ensures.each _ _ _ _ _
-    (tells_part (of_answer c.args.names.now) (record { image = p; parts = m }) (told m) (λ s. length (names_of m)) _ _ _ _ _ _ _ (c.loop-place.invariant p)
-    (λ s st. ap listed (c.place_answer.ensures p s st)) (λ s st. omega (arith, c.loop-place-test.true, c.timers-place-end.ensures.value, many)) c.in_err-tell_any_by.ensures.err))
+    rw (error.1, error.2) (λ p. timers_cut (record { image = p; parts = m }) c.timers-place-end.ensures.each _ _ _ _ _ (tells_part (of_answer c.args.names.now)
+    (record { image = p; parts = m }) (told m) (λ s. length (names_of m)) _ _ _ _ _ _ _ (c.loop-place.invariant p) (λ s st. ap listed
+    (c.place_answer.ensures p s st)) (λ s st. omega (arith, c.loop-place-test.true, c.timers-place-end.ensures.value, many)) c.in_err-tell_any_by.ensures.err))
 
 pub loop-place-preserved : goal.loop-place-preserved
 loop-place-preserved g c =

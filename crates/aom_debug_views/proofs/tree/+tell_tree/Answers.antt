@@ -16,12 +16,14 @@ use Rattle.aom_debug_views.proofs.Trees.{tree_told, uncelled_cut, uncelled_told,
 use Rattle.aom_debug_views.proofs.tree.+tell_tree.Goals as goal
 
 -- a way that was entered and cut again is as it was
-back_again : (first way entered after now b : List ℕ) (n : ℕ) → now ≡ take n after → n ≡ length first → after ≡ entered → entered ≡ way ++ b → way ≡ first → now ≡ first
+back_again : (first way entered after now b : List ℕ) (n : ℕ) → now ≡ take n after → n ≡ length first → after ≡ entered → entered ≡ way ++ b →
+    way ≡ first → now ≡ first
 back_again first way entered after now b n cut long same text begun =
     cut ∙ ap (λ k. take k after) long ∙ ap (λ (t : List ℕ). take (length first) t) (same ∙ text ∙ ap (λ (t : List ℕ). t ++ b) begun) ∙ take-append_seam first b
 
 -- the clients that were told, one more, and those behind it
-one_behind : (done xs : List ℕ) (next : Option ℕ) (c : ℕ) → IsOnce xs → IsIn c xs → next ≡ Some c → done ++ from next xs ≡ xs → (done ++ c ∷ []) ++ from (client_after c xs) xs ≡ xs
+one_behind : (done xs : List ℕ) (next : Option ℕ) (c : ℕ) → IsOnce xs → IsIn c xs → next ≡ Some c → done ++ from next xs ≡ xs →
+    (done ++ c ∷ []) ++ from (client_after c xs) xs ≡ xs
 one_behind done xs next c once inside is all = append_assoc done (c ∷ []) (from (client_after c xs) xs)
     ∙ ap (λ ys. done ++ ys) (sym (from-next c xs once inside)) ∙ ap (λ o. done ++ from o xs) (sym is) ∙ all
 
@@ -30,14 +32,14 @@ deeper : (n : ℕ) → n ≢ 0 → n ≡ suc (n - 1)
 deeper n some = omega (arith, some)
 
 pub returns-in_default-clause-ok : goal.returns-in_default-clause-ok
-returns-in_default-clause-ok g t c = IfOk-weaker c.tell_message.result _ _ (λ done put p w r is shows.
-    uncelled_told p c.args.parts.now c.args.names.now c.args.number (c.args.depth - 1) c.args.depth w r c.args.way.now shows (λ l. false≢true (c.in_default.ensures.lives.1 l)) is
-    (deeper c.args.depth c.if-depth-eq0.false) _ _ put) c.tell_message.ensures.ok
+returns-in_default-clause-ok g t c = IfOk-weaker c.tell_message.result _ _
+    (λ done put p w r is shows. uncelled_told p c.args.parts.now c.args.names.now c.args.number (c.args.depth - 1) c.args.depth w r c.args.way.now shows
+    (λ l. false≢true (c.in_default.ensures.lives.1 l)) is (deeper c.args.depth c.if-depth-eq0.false) _ _ put) c.tell_message.ensures.ok
 
 pub returns-in_default-clause-err : goal.returns-in_default-clause-err
-returns-in_default-clause-err g t c = IfErr-weaker c.tell_message.result _ _ (λ fault cut p w r is shows.
-    uncelled_cut p c.args.parts.now c.args.names.now c.args.number (c.args.depth - 1) c.args.depth w r c.args.way.now shows (λ l. false≢true (c.in_default.ensures.lives.1 l)) is
-    (deeper c.args.depth c.if-depth-eq0.false) _ _ fault _ cut) c.tell_message.ensures.err
+returns-in_default-clause-err g t c = IfErr-weaker c.tell_message.result _ _
+    (λ fault cut p w r is shows. uncelled_cut p c.args.parts.now c.args.names.now c.args.number (c.args.depth - 1) c.args.depth w r c.args.way.now shows
+    (λ l. false≢true (c.in_default.ensures.lives.1 l)) is (deeper c.args.depth c.if-depth-eq0.false) _ _ fault _ cut) c.tell_message.ensures.err
 
 pub returns-in_err-tell_owned-clause-err : goal.returns-in_err-tell_owned-clause-err
 returns-in_err-tell_owned-clause-err g t c =
@@ -75,8 +77,8 @@ loop-field-preserved g t c =
           (By_field at)) c.len-length.result c.cut.ensures c.len-length.ensures c.in_ok-tell_tree.ensures.same c.enter.ensures.text c.loop-field.invariant.same;
       out = λ p w is.
           let here = way_further w (By_field at) c.loop-field.way c.enter.new.way (c.loop-field.invariant.same ∙ is) c.enter.ensures.text in
-          tells_further (owned_line c.args.names.now) (record { image = p; parts = m }) (below p m id (c.args.depth - 1) w) at _ _ _ (c.loop-field.invariant.out p w is)
-          (c.in_ok-tell_tree.ensures.ok p (further w (By_field at)) (Field id at) here (field_shows p m id at c.field.result c.field.ensures));
+          tells_further (owned_line c.args.names.now) (record { image = p; parts = m }) (below p m id (c.args.depth - 1) w) at _ _ _ (c.loop-field.invariant.out
+          p w is) (c.in_ok-tell_tree.ensures.ok p (further w (By_field at)) (Field id at) here (field_shows p m id at c.field.result c.field.ensures));
     }
 
 -- ---- the sessions
@@ -112,7 +114,8 @@ returns-in_err-tell_tree-2-clause-err g t c =
     let begun = c.tell_owned.ensures.same ∙ is in
     let at_seats = c.loop-field.invariant.same ∙ begun in
     let here = way_further w (By_session client) c.loop-next.way c.enter_session.new.way (i.same ∙ at_seats) c.enter_session.ensures.text in
-    let cut = c.in_err-tell_tree-2.ensures.err p (further w (By_session client)) (Elsewhere (Session id client)) here (session_shows p m id client c.session_number.result c.session_number.ensures) in
+    let cut = c.in_err-tell_tree-2.ensures.err p (further w (By_session client)) (Elsewhere (Session id client)) here
+    (session_shows p m id client c.session_number.result c.session_number.ensures) in
     sessions_unsent p m c.args.names.now id c.class.result (c.args.depth - 1) c.args.depth w r c.args.way.now (subst
     (λ k. Shows (record { image = p; parts = m }) k r) (sym c.in-Some.ensures.value) shows) c.class.ensures is deep _ _ _ c.in_ok-tell_owned.ensures.ok
     (tells_all (owned_line c.args.names.now) (record { image = p; parts = m })
@@ -147,8 +150,8 @@ loop-next-preserved g t c =
         ap (λ o. (i.so_far.0 ++ client ∷ []) ++ from o xs) next ∙ all,
         (λ p w is.
             let here = way_further w (By_session client) c.loop-next.way c.enter_session.new.way (i.same ∙ is) c.enter_session.ensures.text in
-            seat_told p m c.args.names.now id (c.args.depth - 1) w i.so_far.0 client _ _ _ (i.so_far.2 p w is)
-            (c.in_ok-tell_tree-2.ensures.ok p (further w (By_session client)) (Elsewhere (Session id client)) here (session_shows p m id client c.session_number.result c.session_number.ensures))),
+            seat_told p m c.args.names.now id (c.args.depth - 1) w i.so_far.0 client _ _ _ (i.so_far.2 p w is) (c.in_ok-tell_tree-2.ensures.ok p (further w
+            (By_session client)) (Elsewhere (Session id client)) here (session_shows p m id client c.session_number.result c.session_number.ensures))),
       );
     }
 
@@ -198,7 +201,8 @@ pub field-requires-clause-lives : goal.field-requires-clause-lives
 field-requires-clause-lives g t c = rw c.in-Some.ensures.value (c.in-Some.ensures.lives.0 refl)
 
 pub enter_session-requires : goal.enter_session-requires
-enter_session-requires g t c = let same = ap length (c.loop-next.invariant.same ∙ c.loop-field.invariant.same ∙ c.tell_owned.ensures.same) in omega (arith, c.requires.room, same)
+enter_session-requires g t c = let same = ap length (c.loop-next.invariant.same ∙ c.loop-field.invariant.same ∙ c.tell_owned.ensures.same) in
+    omega (arith, c.requires.room, same)
 
 pub next_session-next-requires : goal.next_session-next-requires
 next_session-next-requires g t c = c.loop-next.invariant.inside c.in-Some-next.client c.in-Some-next.is

@@ -16,10 +16,8 @@ loop-rest-preserved c =
     let b = c.in_ok-branch.branch in
     let fits = sym c.further.ensures ∙ c.in_ok-path.was in
     record {
-      way =
-          sym (goes_on w c.in_ok-path.path b c.first_part.result.0.now (parts_of c.first_part.result.1) (sym c.read_branch.ensures ∙ c.in_ok-branch.was) fits)
-          ∙ ap (λ ps. onto w (branches_said ps)) (sym c.first_part.ensures.parts)
-          ∙ (rw c.in-Some.is at c.loop-rest.invariant.way);
+      way = sym (goes_on w c.in_ok-path.path b c.first_part.result.0.now (parts_of c.first_part.result.1) (sym c.read_branch.ensures ∙ c.in_ok-branch.was) fits)
+          ∙ ap (λ ps. onto w (branches_said ps)) (sym c.first_part.ensures.parts) ∙ (rw c.in-Some.is at c.loop-rest.invariant.way);
       fits = fits_still (further w b) c.in_ok-path.path fits;
     }
 

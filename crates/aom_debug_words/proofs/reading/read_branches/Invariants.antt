@@ -7,7 +7,8 @@ use Rattle.aom_debug_words.proofs.reading.read_branches.Given as goal
 
 abbrev pub invariant-loop-rest : goal.invariant-loop-rest
 invariant-loop-rest l = record {
-  way : onto l.path (branches_said (parts_in (option_map (λ r. r.now) l.rest))) ≡ path_from (Some l.fn.outer) (branches_said (parts_in (option_map (λ r. r.now) l.fn.rest)));
+  way : onto l.path (branches_said (parts_in (option_map (λ r. r.now) l.rest)))
+      ≡ path_from (Some l.fn.outer) (branches_said (parts_in (option_map (λ r. r.now) l.fn.rest)));
   fits : fitting l.path ≡ Some l.path;
 }
 

@@ -9,4 +9,5 @@ pub returns : goal.returns
 returns c = c.in_ok-statement.ensures.statement ∙ ap (λ ss. slice_get (filter (begins k.Class) ss) c.args.number) c.of.ensures
 
 pub returns-in_err-statement : goal.returns-in_err-statement
-returns-in_err-statement c = c.from_residual.ensures ∙ c.in_err-statement.ensures.statement ∙ ap (λ ss. slice_get (filter (begins k.Class) ss) c.args.number) c.of.ensures
+returns-in_err-statement c = c.from_residual.ensures ∙ c.in_err-statement.ensures.statement
+    ∙ ap (λ ss. slice_get (filter (begins k.Class) ss) c.args.number) c.of.ensures

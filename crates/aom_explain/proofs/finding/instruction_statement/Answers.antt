@@ -5,11 +5,9 @@ use Rattle.aom_explain.specs.Declarations.{begins, part}
 use Rattle.aom_explain.proofs.finding.instruction_statement.Goals as goal
 
 pub returns : goal.returns
-returns c =
-    c.at_place.ensures
+returns c = c.at_place.ensures
     ∙ ap (λ ss. slice_get ss c.args.place) (c.in_ok-behind.ensures.behind ∙ ap (λ ss. part (begins k.Method) ss (c.args.number + 1)) c.of.ensures)
 
 pub returns-in_err-behind : goal.returns-in_err-behind
-returns-in_err-behind c =
-    c.from_residual.ensures
+returns-in_err-behind c = c.from_residual.ensures
     ∙ ap (λ ss. slice_get ss c.args.place) (c.in_err-behind.ensures.behind ∙ ap (λ ss. part (begins k.Method) ss (c.args.number + 1)) c.of.ensures)

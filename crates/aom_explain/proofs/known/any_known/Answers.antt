@@ -9,8 +9,7 @@ pub loop-number-preserved : goal.loop-number-preserved
 loop-number-preserved c =
     let at = c.loop-number.number in
     c.or_set-any.ensures ∙ ap (λ b. b || not (is_unset c.kind_at.result)) c.loop-number.invariant
-    ∙ ap (λ k. known_below c.args.shape.now at || not (is_unset k)) c.kind_at.ensures
-    ∙ ap (known_below c.args.shape.now) (sym (add-one at))
+    ∙ ap (λ k. known_below c.args.shape.now at || not (is_unset k)) c.kind_at.ensures ∙ ap (known_below c.args.shape.now) (sym (add-one at))
 
 pub returns : goal.returns
 unfolding any_known

@@ -7,4 +7,5 @@ use Rattle.aom_explain.specs.Known.{field_part}
 use Rattle.aom_explain.proofs.known.put_field_parts.Given as goal
 
 abbrev pub invariant-loop-number : goal.invariant-loop-number
-invariant-loop-number l = l.out ≡ l.fn.out ++ by_number (λ f. field_part f (field_thing l.at.linked.now (holder_of l.at.linked.now l.at.method) f) (field l.at.shape.now f)) l.number
+invariant-loop-number l =
+    l.out ≡ l.fn.out ++ by_number (λ f. field_part f (field_thing l.at.linked.now (holder_of l.at.linked.now l.at.method) f) (field l.at.shape.now f)) l.number

@@ -3,4 +3,12 @@ use Rattle.aom_explain.proofs.Found.{class_lines_found, found_class, found_class
 use Rattle.aom_explain.proofs.laws.statements_declare.Goals as goal
 
 pub returns : goal.returns
-returns c = record { class_names = found_classes; method_names = found_methods; class_lines = class_lines_found; method_lines = method_lines_found; image = found_image; classes = found_class; methods = found_method }
+returns c = record {
+  class_names = found_classes;
+  method_names = found_methods;
+  class_lines = class_lines_found;
+  method_lines = method_lines_found;
+  image = found_image;
+  classes = found_class;
+  methods = found_method;
+}

@@ -9,7 +9,8 @@ pub returns-in_ok-put_heading-in-Some : goal.returns-in_ok-put_heading-in-Some
 returns-in_ok-put_heading-in-Some c =
     let found = rw (c.as_slice.ensures, c.methods.ensures.value, c.number.ensures.value) at c.in-Some.ensures.lookup in
     let method = c.in-Some.method.now in
-    let there : slice_get c.args.image.now.methods c.args.number ≡ Some method = slice_get-get_or c.args.image.now.methods c.args.number method found.3.0 ∙ ap (λ m. Some m) (sym found.1) in
+    let there : slice_get c.args.image.now.methods c.args.number ≡ Some method = slice_get-get_or c.args.image.now.methods c.args.number method found.3.0
+    ∙ ap (λ m. Some m) (sym found.1) in
     IfOk-weaker c.put_instruction.result _ _ (λ r written.
     written ∙ ap (λ t. t ++ instruction_text c.args.place method) c.in_ok-put_heading-in-Some.ensures
     ∙ append_assoc c.args.out.now (heading_text c.args.number method) (instruction_text c.args.place method)

@@ -8,4 +8,5 @@ pub returns-in-Err : goal.returns-in-Err
 returns-in-Err g c = refused refl c.in-Err.fault c.in-Err.ensures.err c.refuse_text.ensures
 
 pub returns-in-Ok : goal.returns-in-Ok
-returns-in-Ok g c = denotes c.in-Ok.ensures.makes (answered _ _ _ _ _ (rw c.in-Ok.ensures.text at c.try_check_by_names-found.ensures) (rw c.in-Ok.ensures.text at c.answer_by_text.ensures))
+returns-in-Ok g c = denotes c.in-Ok.ensures.makes
+    (answered _ _ _ _ _ (rw c.in-Ok.ensures.text at c.try_check_by_names-found.ensures) (rw c.in-Ok.ensures.text at c.answer_by_text.ensures))

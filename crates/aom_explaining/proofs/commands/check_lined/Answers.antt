@@ -8,4 +8,5 @@ pub returns-in-Err : goal.returns-in-Err
 returns-in-Err g c = refused refl c.in-Err.fault c.in-Err.ensures.err (c.line_text.ensures c.args.text.now)
 
 pub returns-in-Ok : goal.returns-in-Ok
-returns-in-Ok g c = denotes c.in-Ok.ensures.makes (lined _ _ _ _ _ (rw c.in-Ok.ensures.text at c.try_check_by_lines-found.ensures) (rw c.in-Ok.ensures.text at c.answer_lined.ensures))
+returns-in-Ok g c = denotes c.in-Ok.ensures.makes
+    (lined _ _ _ _ _ (rw c.in-Ok.ensures.text at c.try_check_by_lines-found.ensures) (rw c.in-Ok.ensures.text at c.answer_lined.ensures))

@@ -16,8 +16,10 @@ same_names {cs} {ds} {ms} {ns} {s} {t} classes methods text = ap (λ x. made cs 
 
 pub returns : goal.returns
 returns g c =
-    let classes : lent c.deref.result.now ≡ class_names c.args.text.now = ap lent c.deref.ensures.value ∙ c.in_ok-classes.ensures ∙ ap class_names c.bytes.ensures.value in
-    let methods : lent c.deref-2.result.now ≡ method_names c.args.text.now = ap lent c.deref-2.ensures.value ∙ c.in_ok-methods.ensures ∙ ap method_names c.bytes-2.ensures.value in
+    let classes : lent c.deref.result.now ≡ class_names c.args.text.now = ap lent c.deref.ensures.value ∙ c.in_ok-classes.ensures
+    ∙ ap class_names c.bytes.ensures.value in
+    let methods : lent c.deref-2.result.now ≡ method_names c.args.text.now = ap lent c.deref-2.ensures.value ∙ c.in_ok-methods.ensures
+    ∙ ap method_names c.bytes-2.ensures.value in
     let same : c.new-names.result ≡ names_of c.args.text.now = c.new-names.ensures ∙ same_names classes methods c.bytes-3.ensures.value in
     subst (λ names. Untold (DebugAnswersBy names c.args.image.now c.args.script.now c.args.limit (length c.args.boxes.items) c.args.reads (record {
       before = g.R.Reader.given c.args.reader.now;

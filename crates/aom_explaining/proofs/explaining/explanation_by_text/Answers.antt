@@ -6,6 +6,7 @@ use Rattle.aom_explaining.proofs.explaining.explanation_by_text.Goals as goal
 
 pub returns : goal.returns
 returns c =
-    let begun : c.put_entry.new.out ≡ entry_text (texts_of c.args.fault.now) = c.in_ok-put_entry.ensures ∙ ap₂ (λ t e. t ++ entry_text e) c.new-out.ensures c.entry_of.ensures in
+    let begun : c.put_entry.new.out ≡ entry_text (texts_of c.args.fault.now) = c.in_ok-put_entry.ensures
+    ∙ ap₂ (λ t e. t ++ entry_text e) c.new-out.ensures c.entry_of.ensures in
     subst (λ said. ExplainsByText c.args.image.now c.args.text.now c.args.script.now c.args.fault.now said) (sym c.into_text.ensures)
     (subst (λ before. AddsBeside c.args.image.now c.args.text.now c.args.script.now c.args.fault.now before c.put_beside.new.out) begun c.in_ok-put_beside.ensures)

@@ -15,8 +15,10 @@ made classes methods = record { classes = classes; methods = methods; places = N
 pub returns : goal.returns
 unfolding made
 returns g c =
-    let classes : lent c.deref.result.now ≡ class_names c.args.text.now = ap lent c.deref.ensures.value ∙ c.in_ok-classes.ensures ∙ ap class_names c.bytes.ensures.value in
-    let methods : lent c.deref-2.result.now ≡ method_names c.args.text.now = ap lent c.deref-2.ensures.value ∙ c.in_ok-methods.ensures ∙ ap method_names c.bytes-2.ensures.value in
+    let classes : lent c.deref.result.now ≡ class_names c.args.text.now = ap lent c.deref.ensures.value ∙ c.in_ok-classes.ensures
+    ∙ ap class_names c.bytes.ensures.value in
+    let methods : lent c.deref-2.result.now ≡ method_names c.args.text.now = ap lent c.deref-2.ensures.value ∙ c.in_ok-methods.ensures
+    ∙ ap method_names c.bytes-2.ensures.value in
     let same : c.new.result ≡ text_names c.args.text.now = c.new.ensures ∙ ap₂ made classes methods in
     subst (λ names. Untold (ChecksBy names c.args.prices c.args.image.now (record {
       before = g.W.Sink.out c.args.out.now;

@@ -9,7 +9,8 @@ use Rattle.aom_explaining.proofs.naming.try_run_by_names.Goals as goal
 
 pub returns : goal.returns
 returns g c =
-    let same : lent c.deref.result.now ≡ class_names c.args.text.now = ap lent c.deref.ensures.value ∙ c.in_ok-names.ensures ∙ ap class_names c.bytes.ensures.value in
+    let same : lent c.deref.result.now ≡ class_names c.args.text.now = ap lent c.deref.ensures.value ∙ c.in_ok-names.ensures
+    ∙ ap class_names c.bytes.ensures.value in
     subst (λ names. Untold (RunAnswersBy (named_text (class_word names)) c.args.image.now c.args.script.now c.args.limit (length c.args.boxes.items) (record {
       before = g.W.Sink.out c.args.out.now;
       now = g.W.Sink.out c.try_run_named.new.out;

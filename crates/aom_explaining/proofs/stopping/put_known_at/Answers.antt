@@ -4,5 +4,5 @@ use Rattle.aom_explaining.proofs.Knowing.{not_linked}
 use Rattle.aom_explaining.proofs.stopping.put_known_at.Goals as goal
 
 pub returns-in-Err : goal.returns-in-Err
-returns-in-Err c =
-    IfOk-weaker c.not_linked.result _ _ (λ done other. not_linked c.args.image c.args.method c.args.place c.args.why c.args.out.now c.in-Err.fault c.in-Err.ensures.err other) c.not_linked.ensures
+returns-in-Err c = IfOk-weaker c.not_linked.result _ _
+    (λ done other. not_linked c.args.image c.args.method c.args.place c.args.why c.args.out.now c.in-Err.fault c.in-Err.ensures.err other) c.not_linked.ensures

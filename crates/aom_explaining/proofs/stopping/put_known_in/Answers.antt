@@ -11,7 +11,8 @@ returns-then-len-number c =
     let shown : c.methods.result.now ≡ c.args.linked.now.methods = c.methods.ensures.value ∙ ap (λ (p : Image). p.methods) c.image.ensures in
     let count : c.len.result ≡ length c.args.linked.now.methods = c.len.ensures ∙ ap (λ (xs : List Method). length xs) shown in
     let past : length c.args.linked.now.methods ≤ c.args.method = omega (arith, c.if-len-number.true, count, c.number.ensures.value) in
-    no_method c.args.linked.now c.args.method c.args.place c.args.why c.args.out.now (λ there. omega (arith, past, method_within c.args.linked.now c.args.method there))
+    no_method c.args.linked.now c.args.method c.args.place c.args.why c.args.out.now
+    (λ there. omega (arith, past, method_within c.args.linked.now c.args.method there))
 
 pub stop_of-requires : goal.stop_of-requires
 stop_of-requires c =

@@ -5,7 +5,8 @@ use Rattle.aom_explaining.proofs.Knowing.{has_instr, has_no_instr, none_needs, r
 use Rattle.aom_explaining.proofs.stopping.ways_differ.Goals as goal
 
 pub returns-then-height-ge-MOST_ENTRIES : goal.returns-then-height-ge-MOST_ENTRIES
-returns-then-height-ge-MOST_ENTRIES c = too_many c.args.linked.now c.args.method c.args.place c.args.shape.now c.args.why (omega (arith, c.if-height-ge-MOST_ENTRIES.true, c.height.ensures))
+returns-then-height-ge-MOST_ENTRIES c =
+    too_many c.args.linked.now c.args.method c.args.place c.args.shape.now c.args.why (omega (arith, c.if-height-ge-MOST_ENTRIES.true, c.height.ensures))
 
 pub returns-then-len-place : goal.returns-then-len-place
 returns-then-len-place c =
@@ -19,7 +20,8 @@ rule-requires-clause-instr c =
 pub returns-in-Ok : goal.returns-in-Ok
 returns-in-Ok c =
     let there = has_instr c.args.linked.now c.args.method c.args.place c.method.result.now c.method.ensures (omega (arith, c.if-len-place.false, c.len.ensures)) in
-    rule_differs c.args.linked.now c.args.method c.args.place c.args.shape.now c.args.why (omega (arith, c.if-height-ge-MOST_ENTRIES.false, c.height.ensures)) (Ok _) there c.in-Ok.ensures
+    rule_differs c.args.linked.now c.args.method c.args.place c.args.shape.now c.args.why (omega (arith, c.if-height-ge-MOST_ENTRIES.false, c.height.ensures))
+    (Ok _) there c.in-Ok.ensures
 
 pub returns-in-Err : goal.returns-in-Err
 returns-in-Err c =

@@ -6,7 +6,8 @@ pub returns-in-Ok : goal.returns-in-Ok
 returns-in-Ok g c =
     let written = c.write_text.ensures in
     record {
-      ok = made_ok c.args.said c.in-Ok.said _ c.in-Ok.is (says_same _ _ _ c.deref.ensures.value (record { count = written.prefix.0; part = written.prefix.2; whole = written.whole }));
+      ok = made_ok c.args.said c.in-Ok.said _ c.in-Ok.is
+          (says_same _ _ _ c.deref.ensures.value (record { count = written.prefix.0; part = written.prefix.2; whole = written.whole }));
       err = made_no_err c.args.said c.in-Ok.said _ c.in-Ok.is;
     }
 

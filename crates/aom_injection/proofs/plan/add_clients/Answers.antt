@@ -18,5 +18,6 @@ loop-client-preserved c =
           rw w.victims-is
           (ap (λ (xs : List Victim). xs ++ map Client (filter p (below (n + 1) 64))) w.in_ok-push.ensures.items
           ∙ taken_on Client done _ n 64 p c.loop-client-test.true (sym c.is_named.ensures ∙ w.if-is_named.true) c.loop-client.invariant)
-      | else-is_named w ↦ rw w.victims-is (passed_on Client done _ n 64 p c.loop-client-test.true (sym c.is_named.ensures ∙ w.if-is_named.false) c.loop-client.invariant)
+      | else-is_named w ↦ rw w.victims-is
+          (passed_on Client done _ n 64 p c.loop-client-test.true (sym c.is_named.ensures ∙ w.if-is_named.false) c.loop-client.invariant)
     ]

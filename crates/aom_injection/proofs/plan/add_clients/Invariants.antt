@@ -6,7 +6,8 @@ use Rattle.aom_injection.specs.declared.injection.Victim.TheVariants.{Client}
 use Rattle.aom_injection.proofs.plan.add_clients.Given as goal
 
 abbrev pub invariant-loop-client : goal.invariant-loop-client
-invariant-loop-client l = l.victims.items ++ map Client (filter (is_named l.script.timed) (below l.client 64)) ≡ l.fn.victims.items ++ map Client (filter (is_named l.script.timed) (below 0 64))
+invariant-loop-client l = l.victims.items ++ map Client (filter (is_named l.script.timed) (below l.client 64)) ≡ l.fn.victims.items ++ map Client
+    (filter (is_named l.script.timed) (below 0 64))
 
 abbrev pub decreases-loop-client : goal.decreases-loop-client
 decreases-loop-client l = 64 - l.client

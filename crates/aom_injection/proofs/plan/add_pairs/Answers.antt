@@ -32,4 +32,5 @@ returns-then-is_some c =
 pub returns : goal.returns
 returns c =
     let i = c.loop-number.invariant in
-    pairs_end c.loop-number.pairs.items _ c.min-last.result c.loop-number.number (c.min-end.result + 1) c.args.most (omega (arith, c.loop-number-test.false)) i.few i.far
+    pairs_end c.loop-number.pairs.items _ c.min-last.result c.loop-number.number (c.min-end.result + 1) c.args.most
+    (omega (arith, c.loop-number-test.false)) i.few i.far

@@ -21,7 +21,8 @@ loop-index-preserved c =
     }
 
 pub note-requires : goal.note-requires
-note-requires c = let few = c.methods.ensures.well_formed.methods.count in omega (arith, few, rw (c.as_slice-method-items.ensures ∙ c.methods.ensures.value) at c.loop-index-test.true)
+note-requires c = let few = c.methods.ensures.well_formed.methods.count in
+    omega (arith, few, rw (c.as_slice-method-items.ensures ∙ c.methods.ensures.value) at c.loop-index-test.true)
 
 pub returns : goal.returns
 unfolding overrider_of

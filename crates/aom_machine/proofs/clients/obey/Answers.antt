@@ -30,10 +30,9 @@ pub returns-in-Ok-clause-obeyed : goal.returns-in-Ok-clause-obeyed
 returns-in-Ok-clause-obeyed c =
     let told = c.args.turn.now in
     let lines = told_none c.args.client told c.act-answer.result _ c.in-Ok.is in
-    rw (c.deliver.ensures, c.note_changed.ensures.rest)
-    (heard c.args.linked.now c.args.parts.now c.requires.between c.args.client
-    c.requires.client c.args.command c.asked_by-asked.result c.asked_by-asked.ensures.value c.queue_of-queue.result c.queue_of-queue.ensures.value
-    c.act-answer.new.clients c.act-answer.new.messages c.note_changed.new.parts.active told told c.act-answer.result lines c.act-answer.ensures c.note_changed.ensures.noted)
+    rw (c.deliver.ensures, c.note_changed.ensures.rest) (heard c.args.linked.now c.args.parts.now c.requires.between c.args.client c.requires.client
+    c.args.command c.asked_by-asked.result c.asked_by-asked.ensures.value c.queue_of-queue.result c.queue_of-queue.ensures.value c.act-answer.new.clients
+    c.act-answer.new.messages c.note_changed.new.parts.active told told c.act-answer.result lines c.act-answer.ensures c.note_changed.ensures.noted)
 
 pub returns-in-Ok-clause-timers : goal.returns-in-Ok-clause-timers
 returns-in-Ok-clause-timers c = hears_timers c.args.linked.now
@@ -46,10 +45,9 @@ returns-in-Err-clause-obeyed c =
     let fits : FitsSigned w32 c.code.result = search rules in
     let lines = told_one c.args.client told now c.act-answer.result c.in-Err.refusal
     (to_z w32 (of_z w32 c.code.result)) c.in-Err.is (to_z-of_z w32 c.code.result fits ∙ c.code.ensures) c.push.ensures in
-    rw (c.deliver.ensures, c.note_changed.ensures.rest)
-    (heard c.args.linked.now c.args.parts.now c.requires.between c.args.client
-    c.requires.client c.args.command c.asked_by-asked.result c.asked_by-asked.ensures.value c.queue_of-queue.result c.queue_of-queue.ensures.value
-    c.act-answer.new.clients c.act-answer.new.messages c.note_changed.new.parts.active told now c.act-answer.result lines c.act-answer.ensures c.note_changed.ensures.noted)
+    rw (c.deliver.ensures, c.note_changed.ensures.rest) (heard c.args.linked.now c.args.parts.now c.requires.between c.args.client c.requires.client
+    c.args.command c.asked_by-asked.result c.asked_by-asked.ensures.value c.queue_of-queue.result c.queue_of-queue.ensures.value c.act-answer.new.clients
+    c.act-answer.new.messages c.note_changed.new.parts.active told now c.act-answer.result lines c.act-answer.ensures c.note_changed.ensures.noted)
 
 pub returns-in-Err-clause-timers : goal.returns-in-Err-clause-timers
 returns-in-Err-clause-timers c = hears_timers c.args.linked.now

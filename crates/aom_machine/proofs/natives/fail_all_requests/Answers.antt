@@ -5,8 +5,8 @@ use Rattle.aom_machine.proofs.natives.fail_all_requests.Goals as goal
 use Rattle.aom_machine.proofs.natives.fail_all_requests.Goals.{then-is_engaged, else-is_engaged}
 
 pub is_engaged-requires-clause-lives : goal.is_engaged-requires-clause-lives
-is_engaged-requires-clause-lives c =
-    rw c.new-id.ensures (needs_life c.args.linked.now c.args.native c.args.parts.now c.loop-number.number c.loop-number.parts c.loop-number.invariant c.requires)
+is_engaged-requires-clause-lives c = rw c.new-id.ensures
+    (needs_life c.args.linked.now c.args.native c.args.parts.now c.loop-number.number c.loop-number.parts c.loop-number.invariant c.requires)
 
 pub fail_requests-requires : goal.fail_requests-requires
 fail_requests-requires c =

@@ -15,8 +15,10 @@ complete-requires c =
 
 pub returns-clause-requests : goal.returns-clause-requests
 returns-clause-requests c = λ asked queues stands. elim c.if-is_pending.branch [
-  | then-is_pending w ↦ rw w.parts-is (terminates c.args.parts.now.active w.complete.new.self c.args.id asked queues stands (sym (c.is_pending.ensures asked queues stands) ∙ w.if-is_pending.true) w.complete.ensures)
-  | else-is_pending w ↦ rw w.parts-is (spares c.args.parts.now.active c.args.id asked queues stands (sym (c.is_pending.ensures asked queues stands) ∙ w.if-is_pending.false))
+  | then-is_pending w ↦ rw w.parts-is (terminates c.args.parts.now.active w.complete.new.self c.args.id asked queues stands
+      (sym (c.is_pending.ensures asked queues stands) ∙ w.if-is_pending.true) w.complete.ensures)
+  | else-is_pending w ↦ rw w.parts-is
+      (spares c.args.parts.now.active c.args.id asked queues stands (sym (c.is_pending.ensures asked queues stands) ∙ w.if-is_pending.false))
 ]
 
 pub returns-clause-sessions : goal.returns-clause-sessions

@@ -26,7 +26,8 @@ serving-requires-clause-lives c =
     let stands = c.requires.lives.2 in
     let open_here = is_open c.args.parts.now.sessions c.args.id in
     let engaged : (is_owed (asked c.args.id) || open_here) ≡ true = elim c.else-not-is_pending.branch [
-      | else-not-is_pending-via-then-not-is_pending+else-not-is_open w ↦ ap (λ b. b || open_here) (sym (c.is_pending.ensures asked queues stands) ∙ w.if-not-is_pending.true) ∙ sym w.is_open.ensures ∙ w.if-not-is_open.false
+      | else-not-is_pending-via-then-not-is_pending+else-not-is_open w ↦ ap (λ b. b || open_here)
+          (sym (c.is_pending.ensures asked queues stands) ∙ w.if-not-is_pending.true) ∙ sym w.is_open.ensures ∙ w.if-not-is_open.false
       | else-not-is_pending-via-else-not-is_pending w ↦ ap (λ b. b || open_here) (sym (c.is_pending.ensures asked queues stands) ∙ w.if-not-is_pending.false)
     ] in
     rw c.number.ensures.value (c.requires.lives.3 engaged)
@@ -36,11 +37,13 @@ returns-in-Some c = λ asked queues stands.
     let class = class_at c.args.parts.now.cells c.args.id in
     let open_here = is_open c.args.parts.now.sessions c.args.id in
     let engaged : (is_owed (asked c.args.id) || open_here) ≡ true = elim c.else-not-is_pending.branch [
-      | else-not-is_pending-via-then-not-is_pending+else-not-is_open w ↦ ap (λ b. b || open_here) (sym (c.is_pending.ensures asked queues stands) ∙ w.if-not-is_pending.true) ∙ sym w.is_open.ensures ∙ w.if-not-is_open.false
+      | else-not-is_pending-via-then-not-is_pending+else-not-is_open w ↦ ap (λ b. b || open_here)
+          (sym (c.is_pending.ensures asked queues stands) ∙ w.if-not-is_pending.true) ∙ sym w.is_open.ensures ∙ w.if-not-is_open.false
       | else-not-is_pending-via-else-not-is_pending w ↦ ap (λ b. b || open_here) (sym (c.is_pending.ensures asked queues stands) ∙ w.if-not-is_pending.false)
     ] in
     let serves = rw c.number.ensures.value at c.serving.ensures in
-    served_class c.args.linked.now c.args.native c.in-Some.serving class (serves ∙ c.in-Some.is) ∙ sym (ap (λ b. b && serves_class c.args.linked.now c.args.native class) engaged)
+    served_class c.args.linked.now c.args.native c.in-Some.serving class (serves ∙ c.in-Some.is)
+    ∙ sym (ap (λ b. b && serves_class c.args.linked.now c.args.native class) engaged)
 
 pub returns-in-None : goal.returns-in-None
 returns-in-None c = λ asked queues stands.

@@ -5,5 +5,13 @@ pub returns : goal.returns
 returns c =
     let class = rw c.from-number.ensures at c.class-class.ensures in
     let read = rw c.new-message.ensures at c.tell_words.ensures.read in
-    let told = rw (c.new-message.ensures, c.begin-frame.ensures, c.from-number.ensures) at c.tell_words.ensures.told in
-    (c.in-Some.session, c.class-class.result, c.in-Some-role.method, sym c.session.ensures ∙ c.in-Some.is, class, sym c.role.ensures ∙ c.in-Some-role.is, read, rw (c.run_under.ensures, c.new.ensures, c.number-parts.ensures.value, c.new-message.ensures, c.from-number.ensures, told) refl)
+    let told = rw (c.new-message.ensures, c.begin-frame.ensures, c.from-number.ensures) at c.tell_words.ensures.told in (
+      c.in-Some.session,
+      c.class-class.result,
+      c.in-Some-role.method,
+      sym c.session.ensures ∙ c.in-Some.is,
+      class,
+      sym c.role.ensures ∙ c.in-Some-role.is,
+      read,
+      rw (c.run_under.ensures, c.new.ensures, c.number-parts.ensures.value, c.new-message.ensures, c.from-number.ensures, told) refl,
+    )

@@ -11,10 +11,12 @@ pub returns-then-number : goal.returns-then-number
 returns-then-number c = λ s st. null_wants c.args.linked.now c.args.parts.now s st c.requires.runs (sym c.this-number.ensures ∙ c.if-number.true)
 
 pub living-id-requires : goal.living-id-requires
-living-id-requires c = rw c.this-number.ensures (finds_home c.args.linked.now c.args.parts.now c.requires.stands c.requires.runs (λ e. c.if-number.false (c.this-number.ensures ∙ e)))
+living-id-requires c = rw c.this-number.ensures
+    (finds_home c.args.linked.now c.args.parts.now c.requires.stands c.requires.runs (λ e. c.if-number.false (c.this-number.ensures ∙ e)))
 
 pub serving-requires-clause-lives : goal.serving-requires-clause-lives
-serving-requires-clause-lives c = rw c.this-number.ensures (finds_home c.args.linked.now c.args.parts.now c.requires.stands c.requires.runs (λ e. c.if-number.false (c.this-number.ensures ∙ e)))
+serving-requires-clause-lives c = rw c.this-number.ensures
+    (finds_home c.args.linked.now c.args.parts.now c.requires.stands c.requires.runs (λ e. c.if-number.false (c.this-number.ensures ∙ e)))
 
 pub serving-requires-clause-small : goal.serving-requires-clause-small
 serving-requires-clause-small c = class_fits c.args.linked.now c.args.parts.now c.requires.stands.0 c.requires.stands.1.agrees _

@@ -10,7 +10,8 @@ pub method-method-requires : goal.method-method-requires
 method-method-requires c = rw c.method.ensures (finds_method c.args.linked.now (counting c.requires.1.counts c.args.parts.now) c.requires.1.stands c.requires.1.runs)
 
 pub end_cancel-requires : goal.end_cancel-requires
-end_cancel-requires c = is_cancelled c.args.linked.now c.args.parts.now c.requires.0 c.method-method.result.now c.requires.1 (rw c.method.ensures at c.method-method.ensures)
+end_cancel-requires c = is_cancelled c.args.linked.now c.args.parts.now c.requires.0 c.method-method.result.now c.requires.1
+    (rw c.method.ensures at c.method-method.ensures)
 
 pub returns-clause-gives : goal.returns-clause-gives
 returns-clause-gives c = sym (gives_here c.args.linked.now _ c.method-method.result.now (rw c.method.ensures at c.method-method.ensures))
@@ -23,7 +24,8 @@ pub returns-clause-rest : goal.returns-clause-rest
 returns-clause-rest c = rw c.end_method.ensures (dropped c.args.parts.now _ _ c.end_cancel.ensures.rest refl)
 
 pub returns-clause-returns : goal.returns-clause-returns
-returns-clause-returns c = rw (c.end_method.ensures, c.end_cancel.ensures.rest) (returns_to c.args.linked.now (counting c.requires.1.counts c.args.parts.now) c.requires.1.stands c.requires.1.runs)
+returns-clause-returns c = rw (c.end_method.ensures, c.end_cancel.ensures.rest)
+    (returns_to c.args.linked.now (counting c.requires.1.counts c.args.parts.now) c.requires.1.stands c.requires.1.runs)
 
 pub returns-clause-marked : goal.returns-clause-marked
 returns-clause-marked c = rw (c.end_method.ensures, c.end_cancel.ensures.rest) (finds_mark c.args.linked.now c.args.parts.now c.requires.0 c.requires.1)

@@ -24,6 +24,11 @@ enter_trap-requires-clause-within c =
     (traps_well c.args.linked.now c.args.parts.now c.args.on c.args.method c.args.first c.requires.0 c.requires.1).1
 
 pub returns : goal.returns
-returns c = λ refused to.
-    rw (c.mark.ensures, c.enter_trap.ensures, c.callee-whom.ensures, c.number.ensures.value, c.as_slice.ensures, sym (arguments_here c.args.linked.now c.args.method c.method-called.result.now c.method-called.ensures))
-    (trap_does c.args.linked.now c.args.parts.now refused c.args.on c.args.method c.args.first to)
+returns c = λ refused to. rw (
+  c.mark.ensures,
+  c.enter_trap.ensures,
+  c.callee-whom.ensures,
+  c.number.ensures.value,
+  c.as_slice.ensures,
+  sym (arguments_here c.args.linked.now c.args.method c.method-called.result.now c.method-called.ensures),
+) (trap_does c.args.linked.now c.args.parts.now refused c.args.on c.args.method c.args.first to)

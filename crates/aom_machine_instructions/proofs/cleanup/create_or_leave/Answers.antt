@@ -15,4 +15,5 @@ returns-clause-does c =
     (sym c.if-request_cell.false ∙ c.request_cell.ensures.refused) made)
 
 pub returns-clause-runs : goal.returns-clause-runs
-returns-clause-runs c = λ still. rw (c.bring.ensures.brought, c.new_cell-number.ensures.rest, c.request_cell.ensures.counted) (on_top_runs _ _ (on_top_runs _ _ c.requires.1.runs))
+returns-clause-runs c = λ still. rw (c.bring.ensures.brought, c.new_cell-number.ensures.rest, c.request_cell.ensures.counted)
+    (on_top_runs _ _ (on_top_runs _ _ c.requires.1.runs))

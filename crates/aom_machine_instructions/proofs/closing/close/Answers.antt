@@ -39,8 +39,7 @@ returns-in-Object c =
     let told = c.args.turn.now in
     let p = c.args.linked.now in
     let m = c.args.parts.now in
-    rw c.end_object.ensures
-    (elim c.in-Object.is [
+    rw c.end_object.ensures (elim c.in-Object.is [
       | inl w ↦ object_moves p m told c.requires.announced w.0 (c.requires.ending ∙ ap (λ d. Some d) w.1)
       | inr w ↦ asks_moves p m told c.requires.announced w.0 (c.requires.ending ∙ ap (λ d. Some d) w.1)
     ])
@@ -66,8 +65,8 @@ returns-in-Answered c =
     (to_z w32 (of_z w32 answer)) (c.requires.ending ∙ ap (λ d. Some d) c.in-Answered.is ∙ ap (λ w. Some (Answered x w)) (sym same)))
 
 pub end_stage-requires-clause-can : goal.end_stage-requires-clause-can
-end_stage-requires-clause-can c =
-    stage_can c.args.linked.now c.args.parts.now c.requires.stands c.requires.announced c.in-Server.subject c.in-Server.client c.in-Server.stage (c.requires.ending ∙ ap (λ d. Some d) c.in-Server.is)
+end_stage-requires-clause-can c = stage_can c.args.linked.now c.args.parts.now c.requires.stands c.requires.announced c.in-Server.subject c.in-Server.client
+    c.in-Server.stage (c.requires.ending ∙ ap (λ d. Some d) c.in-Server.is)
 
 pub redispatch-requires-clause-room : goal.redispatch-requires-clause-room
 redispatch-requires-clause-room c = stage_room c.in-Server.client c.in-Server.stage c.args.parts.now

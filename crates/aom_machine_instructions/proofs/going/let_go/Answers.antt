@@ -1,6 +1,7 @@
 use Rattle.std.proofs.Common.{arith}
 use Rattle.aom_machine_instructions.proofs.Finding.{class_fits}
-use Rattle.aom_machine_instructions.proofs.LetGo.{cells_taken, moves_none, moves_some, room_above, server_goes, server_queued, server_small, server_there, session_found, stack_taken}
+use Rattle.aom_machine_instructions.proofs.LetGo.{cells_taken, moves_none, moves_some, room_above, server_goes, server_queued, server_small, server_there}
+use Rattle.aom_machine_instructions.proofs.LetGo.{session_found, stack_taken}
 use Rattle.aom_machine_instructions.proofs.going.let_go.Goals as goal
 
 pub going_number-number-requires : goal.going_number-number-requires

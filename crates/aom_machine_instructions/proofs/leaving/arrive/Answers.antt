@@ -50,14 +50,17 @@ receive_code-requires-clause-runs c = c.is_running.ensures.0 c.if-is_running.tru
 pub receive_code-requires-clause-within : goal.receive_code-requires-clause-within
 receive_code-requires-clause-within c =
     let runs = rw (c.end_other-2.ensures, c.end_other.ensures) at (c.is_running.ensures.0 c.if-is_running.true) in
-    rw (c.end_other-2.ensures, c.end_other.ensures) (returns_within_through c.args.linked.now (below_first c.args.parts.now.stack.tasks) c.requires.below c.requires.trapped runs)
+    rw (c.end_other-2.ensures, c.end_other.ensures)
+    (returns_within_through c.args.linked.now (below_first c.args.parts.now.stack.tasks) c.requires.below c.requires.trapped runs)
 
 pub receive_code-requires-clause-coded : goal.receive_code-requires-clause-coded
 receive_code-requires-clause-coded c =
     let runs = rw (c.end_other-2.ensures, c.end_other.ensures) at (c.is_running.ensures.0 c.if-is_running.true) in
-    rw (c.end_other-2.ensures, c.end_other.ensures) (coded_through c.args.linked.now (below_first c.args.parts.now.stack.tasks) c.requires.below c.requires.trapped runs)
+    rw (c.end_other-2.ensures, c.end_other.ensures)
+    (coded_through c.args.linked.now (below_first c.args.parts.now.stack.tasks) c.requires.below c.requires.trapped runs)
 
 pub leave_dispatch-requires-clause-ending : goal.leave_dispatch-requires-clause-ending
 leave_dispatch-requires-clause-ending c =
     let stops : Runs _ → ⊥ = λ runs. false≢true (sym c.if-is_running.false ∙ c.is_running.ensures.1 (rw (c.end_other-2.ensures, c.end_other.ensures) runs)) in
-    rw (c.end_other-2.ensures, c.end_other.ensures) (ends_under c.args.linked.now (below_first c.args.parts.now.stack.tasks) c.requires.below c.requires.trapped stops)
+    rw (c.end_other-2.ensures, c.end_other.ensures)
+    (ends_under c.args.linked.now (below_first c.args.parts.now.stack.tasks) c.requires.below c.requires.trapped stops)

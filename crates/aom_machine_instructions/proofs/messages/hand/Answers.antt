@@ -21,4 +21,5 @@ pub returns : goal.returns
 returns c = λ refused.
     let told = rw (c.number.ensures.value, c.living-id.ensures.value, c.this.ensures) at c.class-class.ensures in
     let hands = rw (c.living-id.ensures.value, c.this.ensures) at c.hand_out-token.ensures in
-    rw c.bring.ensures.brought (hand_does c.args.parts.now refused c.args.to c.class-class.result c.bring.ensures.in_range told c.hand_out-token.result c.hand_out-token.new.parts hands)
+    rw c.bring.ensures.brought
+    (hand_does c.args.parts.now refused c.args.to c.class-class.result c.bring.ensures.in_range told c.hand_out-token.result c.hand_out-token.new.parts hands)

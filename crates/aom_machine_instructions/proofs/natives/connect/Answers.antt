@@ -17,5 +17,13 @@ pub returns : goal.returns
 returns c = λ refused.
     let fits : FitsSigned w32 c.connected-answer.result = search rules in
     let set = rw (c.opens-is_open.ensures, c.is_dead-is_dead.ensures, c.living-id.ensures.value, c.this.ensures) at c.set_session.ensures.set in
-    let writes = rw (to_z-of_z w32 c.connected-answer.result fits, c.connected-answer.ensures, c.is_dead-is_dead.ensures, c.living-id.ensures.value, c.this.ensures, c.set_session.ensures.rest) at c.write_word.ensures in
-    connect_does c.args.linked.now c.args.parts.now c.write_word.new.self refused c.native-native.result c.native-native.ensures c.args.to c.set_session.new.parts.sessions set writes
+    let writes = rw (
+      to_z-of_z w32 c.connected-answer.result fits,
+      c.connected-answer.ensures,
+      c.is_dead-is_dead.ensures,
+      c.living-id.ensures.value,
+      c.this.ensures,
+      c.set_session.ensures.rest,
+    ) at c.write_word.ensures in
+    connect_does c.args.linked.now c.args.parts.now c.write_word.new.self refused c.native-native.result c.native-native.ensures c.args.to
+    c.set_session.new.parts.sessions set writes

@@ -21,5 +21,6 @@ pub returns-then-parts-lt0 : goal.returns-then-parts-lt0
 returns-then-parts-lt0 c =
     let heard = c.args.parts.now.heard in
     let fits : FitsSigned w32 heard = search rules in
-    let told : begins_with (Some (to_z w32 (of_z w32 heard))) ≡ started (is_killed c.args.parts.now.sessions c.args.native) (is_open c.args.parts.now.sessions c.args.id) heard = search rules in
+    let told : begins_with (Some (to_z w32 (of_z w32 heard))) ≡ started (is_killed c.args.parts.now.sessions c.args.native)
+    (is_open c.args.parts.now.sessions c.args.id) heard = search rules in
     told ∙ ap (started (is_killed c.args.parts.now.sessions c.args.native) (is_open c.args.parts.now.sessions c.args.id)) (sym (int_wrap_fits w32 heard fits))

@@ -7,4 +7,5 @@ returns-then-register c = λ refused. rw (c.set_place.ensures, c.number.ensures.
     (jump_null_does c.args.parts.now refused c.args.from c.args.place (sym c.register.ensures.value ∙ c.if-register.true))
 
 pub returns-else-register : goal.returns-else-register
-returns-else-register c = λ refused. rw c.next.ensures (jump_object_does c.args.parts.now refused c.args.from c.args.place (λ e. c.if-register.false (c.register.ensures.value ∙ e)))
+returns-else-register c =
+    λ refused. rw c.next.ensures (jump_object_does c.args.parts.now refused c.args.from c.args.place (λ e. c.if-register.false (c.register.ensures.value ∙ e)))

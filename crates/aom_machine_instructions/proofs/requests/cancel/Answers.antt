@@ -6,7 +6,8 @@ pub cell-id-requires-clause-lives : goal.cell-id-requires-clause-lives
 cell-id-requires-clause-lives c = cancel_lives c.args.linked.now c.args.parts.now c.requires
 
 pub returns-then-not-is_active : goal.returns-then-not-is_active
-returns-then-not-is_active c = λ refused. rw c.next.ensures (cancel_idle_does c.args.parts.now refused (rw c.cell-id.ensures at (sym c.is_active.ensures ∙ c.if-not-is_active.true)) c.args.linked.now)
+returns-then-not-is_active c = λ refused. rw c.next.ensures
+    (cancel_idle_does c.args.parts.now refused (rw c.cell-id.ensures at (sym c.is_active.ensures ∙ c.if-not-is_active.true)) c.args.linked.now)
 
 pub cancelling-requires : goal.cancelling-requires
 cancelling-requires c = waits_active _ (sym c.is_active.ensures ∙ c.if-not-is_active.false)

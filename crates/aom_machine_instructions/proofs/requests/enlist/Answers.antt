@@ -14,7 +14,8 @@ pub enlist_server-requires-clause-fresh : goal.enlist_server-requires-clause-fre
 enlist_server-requires-clause-fresh c = rw (c.living-id.ensures.value, c.this.ensures) (enlist_fresh c.args.linked.now c.args.parts.now c.args.priority c.requires)
 
 pub push_last-requires-clause-free : goal.push_last-requires-clause-free
-push_last-requires-clause-free c = rw (c.number-then-is_server-2.ensures.value, c.living-id.ensures.value, c.this.ensures) (enlist_free c.args.linked.now c.args.parts.now c.args.priority c.requires)
+push_last-requires-clause-free c = rw (c.number-then-is_server-2.ensures.value, c.living-id.ensures.value, c.this.ensures)
+    (enlist_free c.args.linked.now c.args.parts.now c.args.priority c.requires)
 
 pub enlist-requires-clause-fresh : goal.enlist-requires-clause-fresh
 enlist-requires-clause-fresh c = rw (c.living-id.ensures.value, c.this.ensures) (enlist_fresh c.args.linked.now c.args.parts.now c.args.priority c.requires)
@@ -36,8 +37,7 @@ returns c = λ refused.
     ]
 
 pub next-requires-clause-runs : goal.next-requires-clause-runs
-next-requires-clause-runs c =
-    elim c.if-is_server.branch [ then-is_server w ↦ rw w.parts-is c.requires.runs | else-is_server w ↦ rw w.parts-is c.requires.runs ]
+next-requires-clause-runs c = elim c.if-is_server.branch [ then-is_server w ↦ rw w.parts-is c.requires.runs | else-is_server w ↦ rw w.parts-is c.requires.runs ]
 
 pub next-requires-clause-within : goal.next-requires-clause-within
 next-requires-clause-within c =

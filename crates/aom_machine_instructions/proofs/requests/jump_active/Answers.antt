@@ -6,4 +6,5 @@ pub cell-requires-clause-lives : goal.cell-requires-clause-lives
 cell-requires-clause-lives c = jump_active_lives c.requires.0 c.args.parts.now c.args.place c.requires.1
 
 pub returns : goal.returns
-returns c = λ refused. rw c.jump_if.ensures (jump_active_does c.args.parts.now refused c.args.place c.is_busy-busy.result (rw c.cell.ensures at (sym c.is_busy-busy.ensures)))
+returns c = λ refused. rw c.jump_if.ensures
+    (jump_active_does c.args.parts.now refused c.args.place c.is_busy-busy.result (rw c.cell.ensures at (sym c.is_busy-busy.ensures)))

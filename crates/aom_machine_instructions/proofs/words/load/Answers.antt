@@ -12,5 +12,5 @@ field_word-value-requires-clause-lives c = finds_loaded c.requires.0 c.args.part
 pub returns : goal.returns
 returns c = λ refused.
     let fits : FitsSigned w32 c.field_word-value.result = search rules in
-    load_does c.args.parts.now c.write_word.new.self refused c.args.to c.args.word
-    (subst (λ w. WritesWord c.args.to w c.args.parts.now c.write_word.new.self) (to_z-of_z w32 c.field_word-value.result fits ∙ c.field_word-value.ensures) c.write_word.ensures)
+    load_does c.args.parts.now c.write_word.new.self refused c.args.to c.args.word (subst (λ w. WritesWord c.args.to w c.args.parts.now c.write_word.new.self)
+    (to_z-of_z w32 c.field_word-value.result fits ∙ c.field_word-value.ensures) c.write_word.ensures)

@@ -8,9 +8,8 @@ pub loop-class-init : goal.loop-class-init
 loop-class-init c = λ k h. absurd (omega arith)
 
 pub loop-class-preserved : goal.loop-class-preserved
-loop-class-preserved c =
-    each_more (ClassOrdered c.args.image.now) c.args.classes.now c.loop-class.class c.index-classes-class.result c.loop-class.invariant c.loop-class-test.true c.index-classes-class.is
-    (c.is_class_ordered.ensures.0 c.if-not-is_class_ordered.false)
+loop-class-preserved c = each_more (ClassOrdered c.args.image.now) c.args.classes.now c.loop-class.class c.index-classes-class.result c.loop-class.invariant
+    c.loop-class-test.true c.index-classes-class.is (c.is_class_ordered.ensures.0 c.if-not-is_class_ordered.false)
 
 pub returns-then-not-is_class_ordered : goal.returns-then-not-is_class_ordered
 returns-then-not-is_class_ordered c = (

@@ -8,7 +8,8 @@ loop-ancestor-init c = refl
 
 pub returns-in_default : goal.returns-in_default
 returns-in_default c =
-    let other = is_other c.loop-ancestor.here c.args.ancestor (λ same. c.loop-ancestor-test.true (c.number.ensures.value ∙ same ∙ sym c.number-in-loop-ancestor.ensures.value)) in
+    let other = is_other c.loop-ancestor.here c.args.ancestor
+    (λ same. c.loop-ancestor-test.true (c.number.ensures.value ∙ same ∙ sym c.number-in-loop-ancestor.ensures.value)) in
     sym (c.loop-ancestor.invariant ∙ from_none c.args.image.now c.loop-ancestor.here c.args.ancestor other (sym c.parent_of.ensures ∙ c.in_default.is))
 
 pub loop-ancestor-smaller : goal.loop-ancestor-smaller
@@ -16,7 +17,8 @@ loop-ancestor-smaller c = parent_below c.args.image.now c.loop-ancestor.here c.i
 
 pub loop-ancestor-preserved : goal.loop-ancestor-preserved
 loop-ancestor-preserved c =
-    let other = is_other c.loop-ancestor.here c.args.ancestor (λ same. c.loop-ancestor-test.true (c.number.ensures.value ∙ same ∙ sym c.number-in-loop-ancestor.ensures.value)) in
+    let other = is_other c.loop-ancestor.here c.args.ancestor
+    (λ same. c.loop-ancestor-test.true (c.number.ensures.value ∙ same ∙ sym c.number-in-loop-ancestor.ensures.value)) in
     c.loop-ancestor.invariant ∙ from_parent c.args.image.now c.loop-ancestor.here c.in-Some.parent c.args.ancestor other (sym c.parent_of.ensures ∙ c.in-Some.is)
 
 pub returns : goal.returns

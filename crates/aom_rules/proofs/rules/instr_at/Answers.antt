@@ -25,10 +25,12 @@ pub bounds-as_slice-place : goal.bounds-as_slice-place
 bounds-as_slice-place c = below c.args.linked.now c.args.method c.args.place c.method.result.now c.method.ensures c.requires _ c.as_slice.ensures
 
 pub offset_bounds-as_slice-place : goal.offset_bounds-as_slice-place
-offset_bounds-as_slice-place c = omega (arith, below c.args.linked.now c.args.method c.args.place c.method.result.now c.method.ensures c.requires _ c.as_slice.ensures)
+offset_bounds-as_slice-place c =
+    omega (arith, below c.args.linked.now c.args.method c.args.place c.method.result.now c.method.ensures c.requires _ c.as_slice.ensures)
 
 pub returns-clause-value : goal.returns-clause-value
-returns-clause-value c = is_read c.args.linked.now c.args.method c.args.place c.method.result.now c.method.ensures c.requires _ c.as_slice.ensures _ c.index-as_slice-place.is
+returns-clause-value c =
+    is_read c.args.linked.now c.args.method c.args.place c.method.result.now c.method.ensures c.requires _ c.as_slice.ensures _ c.index-as_slice-place.is
 
 pub returns-clause-place : goal.returns-clause-place
 returns-clause-place c = omega (arith, below c.args.linked.now c.args.method c.args.place c.method.result.now c.method.ensures c.requires _ c.as_slice.ensures)

@@ -69,7 +69,8 @@ returns-in-Ask-clause-after g c =
 pub returns-in-Close-clause-after : goal.returns-in-Close-clause-after
 returns-in-Close-clause-after g c =
     let fits = rw c.in-Close.is at c.requires.fits in
-    rw c.in-Close.is (asked_alone (λ l. l.ids) _ _ _ c.in-Close.id _ _ refl (λ k m before. refl) c.close.ensures.ids fits.0 c.close.ensures.alive c.close.ensures.others)
+    rw c.in-Close.is
+    (asked_alone (λ l. l.ids) _ _ _ c.in-Close.id _ _ refl (λ k m before. refl) c.close.ensures.ids fits.0 c.close.ensures.alive c.close.ensures.others)
 
 pub start-requires-clause-fresh : goal.start-requires-clause-fresh
 start-requires-clause-fresh g c = let fits = rw c.in-Start.is at c.requires.fits in fits.1

@@ -7,17 +7,16 @@ use Rattle.aom_run.proofs.Stepped.{unnamed_step}
 use Rattle.aom_run.proofs.dispatches.fill.Goals as goal
 
 pub loop-progress-init : goal.loop-progress-init
-loop-progress-init g c =
-    record {
-      went = went_nowhere c.args.machine.now c.args.turn.now;
-      stands = c.requires.stands;
-      agree = c.requires.agree;
-      kept = image_all c.args.machine.now;
-      unnamed = unnamed_all _ _;
-      room = refl;
-      few = c.requires.room.0;
-      lower = omega arith;
-    }
+loop-progress-init g c = record {
+  went = went_nowhere c.args.machine.now c.args.turn.now;
+  stands = c.requires.stands;
+  agree = c.requires.agree;
+  kept = image_all c.args.machine.now;
+  unnamed = unnamed_all _ _;
+  room = refl;
+  few = c.requires.room.0;
+  lower = omega arith;
+}
 
 pub step_on-progress-requires : goal.step_on-progress-requires
 step_on-progress-requires g c =
@@ -68,7 +67,8 @@ loop-progress-preserved g c =
       stands = stands_on m new mid now progress i.stands steps;
       agree = c.step_on-progress.ensures.agree;
       kept = image_on i.kept c.step_on-progress.ensures.image c.step_on-progress.ensures.natives;
-      unnamed = unnamed_step c.args.machine.now c.loop-progress.machine c.step_on-progress.new.self i.kept.image i.unnamed i.stands c.step_on-progress.ensures.unasked;
+      unnamed = unnamed_step c.args.machine.now c.loop-progress.machine c.step_on-progress.new.self i.kept.image i.unnamed i.stands
+          c.step_on-progress.ensures.unasked;
       room = room_stays m new mid now progress i.stands steps ∙ i.room;
       few = omega (arith, count, test);
       lower = omega (arith, falls, lower);
@@ -80,7 +80,8 @@ returns-in_default g c =
     record {
       agree = c.step_on-progress.ensures.agree;
       kept = image_on i.kept c.step_on-progress.ensures.image c.step_on-progress.ensures.natives;
-      unnamed = unnamed_step c.args.machine.now c.loop-progress.machine c.step_on-progress.new.self i.kept.image i.unnamed i.stands c.step_on-progress.ensures.unasked;
+      unnamed = unnamed_step c.args.machine.now c.loop-progress.machine c.step_on-progress.new.self i.kept.image i.unnamed i.stands
+          c.step_on-progress.ensures.unasked;
       steps = filled c.args.machine.now c.loop-progress.machine c.step_on-progress.new.self _ _ _ _ i.went i.kept.image
           (steps_of c.loop-progress.machine c.step_on-progress.new.self _ _ _ c.step_on-progress.ensures.steps);
       falls = λ is. absurd (c.in_default.not-Running is);

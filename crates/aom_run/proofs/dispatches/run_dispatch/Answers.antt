@@ -10,16 +10,15 @@ use Rattle.aom_run.proofs.Underway.{cleared_same, cut_off, is_sent, still_stands
 use Rattle.aom_run.proofs.dispatches.run_dispatch.Goals as goal
 
 pub loop-progress-init : goal.loop-progress-init
-loop-progress-init g c =
-    record {
-      underway = underway (named_by c.args.names) c.args.machine.now c.args.turn.now (g.W.Sink.out c.args.out.now);
-      stands = c.requires.stands;
-      agree = c.requires.agree;
-      kept = image_all c.args.machine.now;
-      unnamed = unnamed_all _ _;
-      same = refl;
-      few = c.requires.room.0;
-    }
+loop-progress-init g c = record {
+  underway = underway (named_by c.args.names) c.args.machine.now c.args.turn.now (g.W.Sink.out c.args.out.now);
+  stands = c.requires.stands;
+  agree = c.requires.agree;
+  kept = image_all c.args.machine.now;
+  unnamed = unnamed_all _ _;
+  same = refl;
+  few = c.requires.room.0;
+}
 
 pub fill-progress-requires : goal.fill-progress-requires
 fill-progress-requires g c =
@@ -58,13 +57,15 @@ loop-progress-smaller g c = c.fill-progress.ensures.falls c.in-Running.is
 pub loop-progress-preserved : goal.loop-progress-preserved
 loop-progress-preserved g c =
     let i = c.loop-progress.invariant in
-    let out = c.put_lines.ensures.whole (sym c.has_failed.ensures ∙ c.if-has_failed.false) ∙ ap (λ ls. after (g.W.Sink.out c.loop-progress.out) (text_by (named_by c.args.names) ls)) c.lines.ensures in
+    let out = c.put_lines.ensures.whole (sym c.has_failed.ensures ∙ c.if-has_failed.false)
+    ∙ ap (λ ls. after (g.W.Sink.out c.loop-progress.out) (text_by (named_by c.args.names) ls)) c.lines.ensures in
     let none = ap (λ (t : LineBuffer). length t.lines) c.clear.ensures in
     record {
       underway = underway_still (named_by c.args.names) c.args.machine.now
           c.loop-progress.machine c.fill-progress.new.machine c.args.turn.now c.loop-progress.turn c.fill-progress.new.turn (g.W.Sink.out c.args.out.now)
           (g.W.Sink.out c.loop-progress.out) c.fill-progress.result i.underway i.kept.image i.same c.fill-progress.ensures.steps _ _ c.clear.ensures out;
-      stands = still_stands c.loop-progress.machine c.fill-progress.new.machine c.loop-progress.turn c.fill-progress.new.turn c.fill-progress.result i.stands c.fill-progress.ensures.steps;
+      stands = still_stands c.loop-progress.machine c.fill-progress.new.machine c.loop-progress.turn c.fill-progress.new.turn c.fill-progress.result i.stands
+          c.fill-progress.ensures.steps;
       agree = c.fill-progress.ensures.agree;
       kept = image_on i.kept c.fill-progress.ensures.kept.image c.fill-progress.ensures.kept.natives;
       unnamed = unnamed_on i.unnamed (subst (λ p. KeepsUnnamed p c.loop-progress.machine.natives.slots.items c.fill-progress.new.machine.natives.slots.items)
@@ -77,7 +78,8 @@ loop-progress-preserved g c =
 pub returns-in_default : goal.returns-in_default
 returns-in_default g c =
     let i = c.loop-progress.invariant in
-    let out = c.put_lines.ensures.whole (sym c.has_failed.ensures ∙ c.if-has_failed.false) ∙ ap (λ ls. after (g.W.Sink.out c.loop-progress.out) (text_by (named_by c.args.names) ls)) c.lines.ensures in
+    let out = c.put_lines.ensures.whole (sym c.has_failed.ensures ∙ c.if-has_failed.false)
+    ∙ ap (λ ls. after (g.W.Sink.out c.loop-progress.out) (text_by (named_by c.args.names) ls)) c.lines.ensures in
     record {
       agree = c.fill-progress.ensures.agree;
       kept = image_on i.kept c.fill-progress.ensures.kept.image c.fill-progress.ensures.kept.natives;

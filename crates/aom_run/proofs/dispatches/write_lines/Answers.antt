@@ -21,8 +21,7 @@ loop-line-preserved g c =
           let sent = ap g.W.Sink.out w.out-is ∙ w.write_text.ensures.whole live ∙ ap (λ t. after (g.W.Sink.out c.loop-line.out) t) w.as_bytes.ensures in
           page_sent _ _ _ _ _ _ c.loop-line.invariant sent (w.page-is ∙ w.clear-then-not-has_room.ensures)
       | else-not-has_room w ↦ still_paged _ _ _ _ _ _ c.loop-line.invariant (ap g.W.Sink.out w.out-is) w.page-is
-    ]
-    in
+    ] in
     line_added _ _ c.if-not-has_room.page _ lines at _ (omega arith) c.line-item.is paged c.add_line.ensures
 
 pub returns-clause-prefix : goal.returns-clause-prefix

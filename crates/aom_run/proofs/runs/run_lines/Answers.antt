@@ -37,11 +37,13 @@ loop-progress-init g c =
     let sent = c.in_ok-progress.ensures.some in
     let stands : Stands c.args.machine.now = (boot_state c.args.machine.now.core.image, c.requires.fresh) in
     record {
-      so_far = sent_on _ outside out out _ c.args.machine.now c.run_dispatch.new.machine c.clear.new.self c.run_dispatch.new.turn far refl (ap (λ (t : LineBuffer). t.refused) c.clear.ensures) _ sent;
+      so_far = sent_on _ outside out out _ c.args.machine.now c.run_dispatch.new.machine c.clear.new.self c.run_dispatch.new.turn far refl
+          (ap (λ (t : LineBuffer). t.refused) c.clear.ensures) _ sent;
       agree = c.run_dispatch.ensures.agree;
       image = c.run_dispatch.ensures.kept.image;
       natives = c.run_dispatch.ensures.kept.natives;
-      turn = sent_turn (named_by c.args.names) c.args.machine.now c.run_dispatch.new.machine _ _ _ _ _ stands sent ∙ ap (λ (t : LineBuffer). record t { lines = [] }) c.clear.ensures;
+      turn = sent_turn (named_by c.args.names) c.args.machine.now c.run_dispatch.new.machine _ _ _ _ _ stands sent
+          ∙ ap (λ (t : LineBuffer). record t { lines = [] }) c.clear.ensures;
       as_far = sent_far (named_by c.args.names) c.args.machine.now c.run_dispatch.new.machine _ _ _ _ _ stands sent;
       rests = sent_rests (named_by c.args.names) c.args.machine.now c.run_dispatch.new.machine _ _ _ _ _ stands sent;
     }
@@ -67,8 +69,7 @@ take_turns-requires g c =
     record {
       agree = i.agree;
       stands = (i.so_far.state, i.so_far.stands);
-      between = sym i.as_far
-          ∙ turned_now c.loop-progress.progress i.rests c.in_default.not-Ended;
+      between = sym i.as_far ∙ turned_now c.loop-progress.progress i.rests c.in_default.not-Ended;
       ranged = c.requires.ranged;
       room = omega (arith, none, kept, room);
     }
@@ -101,8 +102,7 @@ run_dispatch-requires-in-loop-progress g c =
     let room = c.requires.room in
     record {
       agree = c.take_turns.ensures.agree;
-      stands = turned_stands c.loop-progress.machine c.take_turns.new.machine
-          outside c.loop-progress.turn c.take_turns.new.turn stands turns;
+      stands = turned_stands c.loop-progress.machine c.take_turns.new.machine outside c.loop-progress.turn c.take_turns.new.turn stands turns;
       room = (omega (arith, few), omega (arith, kept, room, messages));
     }
 
@@ -128,9 +128,9 @@ pub loop-progress-smaller : goal.loop-progress-smaller
 loop-progress-smaller g c =
     let i = c.loop-progress.invariant in
     let fits = c.ranges.limit.fits in
-    fewer_left_by (named_by c.args.names) _ (omega (arith, fits)) c.loop-progress.machine c.take_turns.new.machine c.run_dispatch-in-loop-progress.new.machine _ _
-    c.run_dispatch-in-loop-progress.new.turn _ _ _ (i.so_far.state, i.so_far.stands) (sym i.as_far
-    ∙ turned_now c.loop-progress.progress i.rests c.in_default.not-Ended) c.in_default-take_turns.ensures.turns c.in_ok-progress-2.ensures.some
+    fewer_left_by (named_by c.args.names) _ (omega (arith, fits)) c.loop-progress.machine
+    c.take_turns.new.machine c.run_dispatch-in-loop-progress.new.machine _ _ c.run_dispatch-in-loop-progress.new.turn _ _ _ (i.so_far.state, i.so_far.stands)
+    (sym i.as_far ∙ turned_now c.loop-progress.progress i.rests c.in_default.not-Ended) c.in_default-take_turns.ensures.turns c.in_ok-progress-2.ensures.some
 
 pub loop-progress-preserved : goal.loop-progress-preserved
 loop-progress-preserved g c =
@@ -143,7 +143,8 @@ loop-progress-preserved g c =
     c.loop-progress.turn c.take_turns.new.turn c.args.turn.now i.so_far i.image i.turn i.natives c.in_default-take_turns.ensures.turns in
     let sent = c.in_ok-progress-2.ensures.some in
     record {
-      so_far = sent_on _ _ _ _ _ m new c.take_turns.new.turn c.run_dispatch-in-loop-progress.new.turn turned.0 image (ap (λ (t : LineBuffer). t.refused) turned.1) _ sent;
+      so_far = sent_on _ _ _ _ _ m new c.take_turns.new.turn c.run_dispatch-in-loop-progress.new.turn turned.0 image
+          (ap (λ (t : LineBuffer). t.refused) turned.1) _ sent;
       agree = c.run_dispatch-in-loop-progress.ensures.agree;
       image = c.run_dispatch-in-loop-progress.ensures.kept.image ∙ image;
       natives = c.run_dispatch-in-loop-progress.ensures.kept.natives ∙ c.take_turns.ensures.natives ∙ i.natives;

@@ -27,7 +27,9 @@ returns-in-None-clause-ran g c =
     subst cut c.events.ensures c.in-None.ensures.none
 
 pub returns-in-None-clause-determined : goal.returns-in-None-clause-determined
-returns-in-None-clause-determined g c = c.text_is_determined.ensures _ c.requires.fresh.stands.typing _ c.requires.fresh.stands.sound.wired c.requires.fresh.stands.sound.typed
+returns-in-None-clause-determined g c =
+    c.text_is_determined.ensures _ c.requires.fresh.stands.typing _ c.requires.fresh.stands.sound.wired c.requires.fresh.stands.sound.typed
 
 pub returns-in-Some-clause-determined : goal.returns-in-Some-clause-determined
-returns-in-Some-clause-determined g c = c.text_is_determined.ensures _ c.requires.fresh.stands.typing _ c.requires.fresh.stands.sound.wired c.requires.fresh.stands.sound.typed
+returns-in-Some-clause-determined g c =
+    c.text_is_determined.ensures _ c.requires.fresh.stands.typing _ c.requires.fresh.stands.sound.wired c.requires.fresh.stands.sound.typed

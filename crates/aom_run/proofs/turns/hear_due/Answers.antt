@@ -11,15 +11,14 @@ use Rattle.aom_run.proofs.Keeping.{keeps_on, times_all, times_on}
 use Rattle.aom_run.proofs.turns.hear_due.Goals as goal
 
 pub loop-event-init : goal.loop-event-init
-loop-event-init g c =
-    record {
-      settled = none_settles c.args.events.now c.args.machine.now;
-      kept = times_all c.args.machine.now c.requires.rests.0 c.requires.rests.1 c.requires.none_due;
-      agree = c.requires.agree;
-      untold = λ k none. refl;
-      turn = refl;
-      fewer = inl refl;
-    }
+loop-event-init g c = record {
+  settled = none_settles c.args.events.now c.args.machine.now;
+  kept = times_all c.args.machine.now c.requires.rests.0 c.requires.rests.1 c.requires.none_due;
+  agree = c.requires.agree;
+  untold = λ k none. refl;
+  turn = refl;
+  fewer = inl refl;
+}
 
 pub deliver-requires-clause-few : goal.deliver-requires-clause-few
 deliver-requires-clause-few g c =
@@ -43,8 +42,8 @@ returns-then-deliver-clause-heard g c =
     let e = c.deliver.ensures.delivered in
     let come = c.in-Some.ensures.some in
     let takes = subst (λ event. Delivered m event c.loop-event.turn now new) (sym come.1) e.delivered in
-    subst (λ t. TellsEnd c.args.events.now c.args.machine.now t now new) i.turn
-    (tells_after _ c.args.machine.now m i.kept.keeps.image i.kept.keeps.natives i.settled _ now new (heard_tells _ m new _ now i.kept.none_due come.0 takes e.rest))
+    subst (λ t. TellsEnd c.args.events.now c.args.machine.now t now new) i.turn (tells_after _ c.args.machine.now m i.kept.keeps.image i.kept.keeps.natives
+    i.settled _ now new (heard_tells _ m new _ now i.kept.none_due come.0 takes e.rest))
 
 pub returns-then-deliver-clause-kept : goal.returns-then-deliver-clause-kept
 returns-then-deliver-clause-kept g c =
@@ -87,7 +86,8 @@ loop-event-preserved g c =
       kept = times_on i.kept (keeps_on k (heard_stands events m new told now none come.0 takes e.rest k.stands)
           (heard_far events m new told now none come.0 takes e.rest k.stands) e.image e.natives.count) (e.none_due c.if-deliver.false none) e.timers;
       agree = c.deliver.ensures.agree;
-      untold = λ k none. e.natives.at k (subst (λ event. is_for_native event k ≡ false) come.1 (all_got (λ x. is_for_native x.event k ≡ false) _ _ _ none come.0.1)) ∙ i.untold k none;
+      untold = λ k none. e.natives.at k
+          (subst (λ event. is_for_native event k ≡ false) come.1 (all_got (λ x. is_for_native x.event k ≡ false) _ _ _ none come.0.1)) ∙ i.untold k none;
       turn = quiet ∙ i.turn;
       fewer = inr (less_to_come events old m new i.fewer (heard_fewer events m new told now none come.0 takes e.rest));
     }

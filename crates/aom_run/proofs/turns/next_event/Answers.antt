@@ -19,4 +19,5 @@ returns-in-None g c =
     let es = c.args.events.now in
     let k = c.delivered.result in
     let e = c.in-None.ensures.lookup in
-    sym (ap (event_at es) (sym (c.delivered.ensures ∙ ap (λ r. r.delivered) c.rest.ensures)) ∙ sym (event_got es k) ∙ slice_get_past es k (ltb-false k (length es) (sym e.0)))
+    sym (ap (event_at es) (sym (c.delivered.ensures ∙ ap (λ r. r.delivered) c.rest.ensures)) ∙ sym (event_got es k)
+    ∙ slice_get_past es k (ltb-false k (length es) (sym e.0)))

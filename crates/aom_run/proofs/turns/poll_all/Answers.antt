@@ -6,13 +6,12 @@ use Rattle.aom_run.proofs.Keeping.{keeps_on, times_all, times_on}
 use Rattle.aom_run.proofs.turns.poll_all.Goals as goal
 
 pub loop-init : goal.loop-init
-loop-init g c =
-    record {
-      settled = λ events come. none_settles events c.args.machine.now;
-      kept = times_all c.args.machine.now c.requires.rests.0 c.requires.rests.1 c.requires.none_due;
-      agree = c.requires.agree;
-      rest = refl;
-    }
+loop-init g c = record {
+  settled = λ events come. none_settles events c.args.machine.now;
+  kept = times_all c.args.machine.now c.requires.rests.0 c.requires.rests.1 c.requires.none_due;
+  agree = c.requires.agree;
+  rest = refl;
+}
 
 pub poll-requires : goal.poll-requires
 poll-requires g c = let k = c.loop.invariant.kept.keeps in record { agree = c.loop.invariant.agree; stands = k.stands; between = k.between }

@@ -15,8 +15,8 @@ returns-then-hear_due-clause-heard g c =
     let done = c.complete_due.ensures in
     let events = c.args.events.now in
     tells_after _ c.args.machine.now c.complete_due.new.machine done.kept.image done.kept.natives
-    (completed_settles _ c.args.machine.now c.complete_due.new.machine done.completed) _ _ c.hear_due.new.machine
-    (subst (λ b. HearsAll b c.args.events.now c.complete_due.new.machine c.args.turn.now c.hear_due.new.turn c.hear_due.new.machine) c.if-hear_due.true c.hear_due.ensures.heard)
+    (completed_settles _ c.args.machine.now c.complete_due.new.machine done.completed) _ _ c.hear_due.new.machine (subst (λ b. HearsAll b c.args.events.now
+    c.complete_due.new.machine c.args.turn.now c.hear_due.new.turn c.hear_due.new.machine) c.if-hear_due.true c.hear_due.ensures.heard)
 
 pub returns-then-hear_due-clause-kept : goal.returns-then-hear_due-clause-kept
 returns-then-hear_due-clause-kept g c = keeps_both c.complete_due.ensures.kept c.hear_due.ensures.kept
@@ -25,7 +25,8 @@ pub poll_all-requires : goal.poll_all-requires
 poll_all-requires g c =
     let done = c.complete_due.ensures in
     let heard = c.hear_due.ensures in
-    let all = subst (λ b. HearsAll b c.args.events.now c.complete_due.new.machine c.args.turn.now c.hear_due.new.turn c.hear_due.new.machine) c.if-hear_due.false heard.heard in
+    let all = subst (λ b. HearsAll b c.args.events.now c.complete_due.new.machine c.args.turn.now c.hear_due.new.turn c.hear_due.new.machine)
+    c.if-hear_due.false heard.heard in
     record {
       agree = heard.agree;
       rests = (heard.kept.stands, heard.kept.between);

@@ -75,7 +75,8 @@ wait-requires g c = (none_picked c.args.machine.now c.loop-limit.machine
 pub returns-in_default : goal.returns-in_default
 returns-in_default g c =
     let i = c.loop-limit.invariant in
-    let k = none_picked c.args.machine.now c.loop-limit.machine c.pick.new.self c.loop-limit.turn c.pick.new.turn c.pick.result c.loop-limit.invariant.rests c.if-pick.false c.pick.ensures.picked in
+    let k = none_picked c.args.machine.now c.loop-limit.machine c.pick.new.self c.loop-limit.turn c.pick.new.turn c.pick.result c.loop-limit.invariant.rests
+    c.if-pick.false c.pick.ensures.picked in
     let waited = waited_so c.pick.new.self c.wait.new.self c.wait.ensures.image c.wait.ensures.waited in
     let waits = waits_on c.args.machine.now c.pick.new.self c.args.events.now c.args.turn.now.refused c.args.limit k.0 k.2
     c.next_time.result c.next_time.ensures c.in_default.is c.args.turn.now (record { core = c.wait.new.self; natives = c.pick.new.self.natives }) waited in
@@ -114,7 +115,8 @@ settle-requires-in-loop-limit g c = let k = none_picked c.args.machine.now
 pub returns-then-settle-2 : goal.returns-then-settle-2
 returns-then-settle-2 g c =
     let i = c.loop-limit.invariant in
-    let k = none_picked c.args.machine.now c.loop-limit.machine c.pick.new.self c.loop-limit.turn c.pick.new.turn c.pick.result c.loop-limit.invariant.rests c.if-pick.false c.pick.ensures.picked in
+    let k = none_picked c.args.machine.now c.loop-limit.machine c.pick.new.self c.loop-limit.turn c.pick.new.turn c.pick.result c.loop-limit.invariant.rests
+    c.if-pick.false c.pick.ensures.picked in
     let e = c.set_clock.ensures in
     let done = c.settle-in-loop-limit.ensures in
     let new = c.settle-in-loop-limit.new.machine in
@@ -146,11 +148,13 @@ loop-limit-smaller g c = let k = none_picked c.args.machine.now
 pub loop-limit-preserved : goal.loop-limit-preserved
 loop-limit-preserved g c =
     let i = c.loop-limit.invariant in
-    let k = none_picked c.args.machine.now c.loop-limit.machine c.pick.new.self c.loop-limit.turn c.pick.new.turn c.pick.result c.loop-limit.invariant.rests c.if-pick.false c.pick.ensures.picked in
+    let k = none_picked c.args.machine.now c.loop-limit.machine c.pick.new.self c.loop-limit.turn c.pick.new.turn c.pick.result c.loop-limit.invariant.rests
+    c.if-pick.false c.pick.ensures.picked in
     let e = c.set_clock.ensures in
     let done = c.settle-in-loop-limit.ensures in
     let quiet = c.if-settle-2.false in
-    let all = subst (λ b. HearsAll b c.args.events.now c.set_clock.new.self c.pick.new.turn c.settle-in-loop-limit.new.turn c.settle-in-loop-limit.new.machine) quiet done.heard in
+    let all = subst (λ b. HearsAll b c.args.events.now c.set_clock.new.self c.pick.new.turn c.settle-in-loop-limit.new.turn c.settle-in-loop-limit.new.machine)
+    quiet done.heard in
     record {
       rests = rests_on c.args.machine.now c.pick.new.self c.args.events.now c.args.turn.now.refused c.args.limit k.0 k.2 c.next_time.result
           c.next_time.ensures c.in-Some.time c.in-Some.is c.set_clock.new.self e.image e.passed (as_many c.pick.new.self c.set_clock.new.self e.natives)

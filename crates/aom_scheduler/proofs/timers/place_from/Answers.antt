@@ -8,16 +8,15 @@ pub index-requires : goal.index-requires
 index-requires c = omega (arith, walk-within id_of c.args.id c.args.queue.now.items c.loop-id.at c.requires.set c.loop-id.invariant, c.args.queue.now.ok.0)
 
 pub overflow_add-at : goal.overflow_add-at
-overflow_add-at c =
-    record {
-      fits = omega (
-        arith,
-        walk-within id_of c.args.id c.args.queue.now.items c.loop-id.at c.requires.set c.loop-id.invariant,
-        c.args.queue.now.ok.0,
-        c.args.queue.now.small.0,
-        c.args.queue.now.small.1,
-      );
-    }
+overflow_add-at c = record {
+  fits = omega (
+    arith,
+    walk-within id_of c.args.id c.args.queue.now.items c.loop-id.at c.requires.set c.loop-id.invariant,
+    c.args.queue.now.ok.0,
+    c.args.queue.now.small.0,
+    c.args.queue.now.small.1,
+  );
+}
 
 pub loop-id-smaller : goal.loop-id-smaller
 loop-id-smaller c = omega (arith, walk-within id_of c.args.id c.args.queue.now.items c.loop-id.at c.requires.set c.loop-id.invariant)

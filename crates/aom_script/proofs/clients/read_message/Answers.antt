@@ -36,7 +36,7 @@ returns-in_default-6 c = too_few c.args.time.now c.args.client.now c.args.words 
 pub returns-in-Some-Some-Some-Some-Some : goal.returns-in-Some-Some-Some-Some-Some
 returns-in-Some-Some-Some-Some-Some c =
     let w = c.in-Some-Some-Some-Some-Some in
-    c.with_numbers.ensures
-    ∙ ap (λ m. command_numbers (number_of c.args.time.now) (number_of c.args.client.now) m) c.message_of-command.ensures
+    c.with_numbers.ensures ∙ ap (λ m. command_numbers (number_of c.args.time.now) (number_of c.args.client.now) m) c.message_of-command.ensures
     ∙ just_five c.args.time.now c.args.client.now c.args.words _ _ _ _ c.next.ensures.rest c.next-2.ensures.rest c.next-3.ensures.rest c.next-4.ensures.rest
-    w.function.now w.first.now w.second.now w.third.now w.fourth.now w.ensures.word w.ensures'.word w.ensures''.word w.ensures'''.word w.ensures''''.word _ c.next-5.ensures.rest c.if-is_empty.ensures
+    w.function.now w.first.now w.second.now w.third.now w.fourth.now w.ensures.word w.ensures'.word w.ensures''.word w.ensures'''.word w.ensures''''.word _
+    c.next-5.ensures.rest c.if-is_empty.ensures

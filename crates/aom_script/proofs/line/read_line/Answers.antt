@@ -8,9 +8,7 @@ use Rattle.aom_script.proofs.line.read_line.Goals as goal
 
 told : (number last : ℕ) (line : List ℕ) (reading : Reading) (said : Option ScriptLine) →
     Ok reading ≡ reading_of line → false ≡ is_back last reading → said ≡ said_by reading → counted number said ≡ line_says number last line
-told number last line reading said is on says =
-    ap (counted number) says
-    ∙ ap (λ (b : Bool). if b then Err TimeBack else counted number (said_by reading)) on
+told number last line reading said is on says = ap (counted number) says ∙ ap (λ (b : Bool). if b then Err TimeBack else counted number (said_by reading)) on
     ∙ ap (in_place number last) is
 
 within : (number : ℕ) (said : ScriptLine) → number ≤ 65536 → Ok said ≡ counted number (Some said)

@@ -9,4 +9,5 @@ timed : (ws left others : List (List ℕ)) (first second : List ℕ) → Some fi
 timed ws left others first second is_first is_left is_second are_others no_refusal = grind arith
 
 pub returns-else-is_refusal : goal.returns-else-is_refusal
-returns-else-is_refusal c = c.read_timed.ensures ∙ timed _ _ _ _ _ c.in-Some.ensures.word c.in-Some.ensures.rest c.in-Some-next.ensures.word c.in-Some-next.ensures.rest cc
+returns-else-is_refusal c =
+    c.read_timed.ensures ∙ timed _ _ _ _ _ c.in-Some.ensures.word c.in-Some.ensures.rest c.in-Some-next.ensures.word c.in-Some-next.ensures.rest cc

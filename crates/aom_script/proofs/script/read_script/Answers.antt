@@ -5,7 +5,8 @@ use Rattle.aom_script.specs.declared.fault.ScriptFault.{ScriptFault}
 use Rattle.aom_script.proofs.Timely.{timely}
 use Rattle.aom_script.proofs.script.read_script.Goals as goal
 
-of_lines : (lines : List (List ℕ)) (result : Result Script ScriptFault) → IfOk result (λ script. denoted_by lines ≡ Ok script) → IfOk result (λ script. IsTimely script.timed)
+of_lines : (lines : List (List ℕ)) (result : Result Script ScriptFault) → IfOk result (λ script. denoted_by lines ≡ Ok script) →
+    IfOk result (λ script. IsTimely script.timed)
 of_lines lines (Ok script) denotes = timely lines script denotes
 of_lines lines (Err fault) denotes = tt
 

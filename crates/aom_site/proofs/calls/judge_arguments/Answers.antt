@@ -6,8 +6,8 @@ use Rattle.aom_site.proofs.Arguments.{rule_within, rule_past, needs_passed, need
 use Rattle.aom_site.proofs.calls.judge_arguments.Goals as goal
 
 pub returns-then-first-arguments : goal.returns-then-first-arguments
-returns-then-first-arguments c =
-    sym (rule_past c.args.linked.now c.args.shape.now c.args.arguments.now c.args.first (omega (arith, c.if-first-arguments.true, c.number-first.ensures.value, c.number-first.ensures.in_range)))
+returns-then-first-arguments c = sym (rule_past c.args.linked.now c.args.shape.now c.args.arguments.now c.args.first
+    (omega (arith, c.if-first-arguments.true, c.number-first.ensures.value, c.number-first.ensures.in_range)))
 
 pub returns-in_err-judge_argument : goal.returns-in_err-judge_argument
 returns-in_err-judge_argument c =
@@ -15,7 +15,8 @@ returns-in_err-judge_argument c =
     let fits : c.number-first.result + length c.args.arguments.now ≤ 16 = omega (arith, c.if-first-arguments.false, c.number-first.ensures.in_range) in
     let failed = needs_failed c.args.linked.now c.args.shape.now c.args.arguments.now c.number-first.result c.loop-index.index c.index-arguments-index.result
     _ c.loop-index-test.true c.index-arguments-index.is (rw (← c.kind_at.ensures) (sym c.judge_argument.ensures ∙ c.in_err-judge_argument.was)) in
-    rw (p.1, p.2, ← c.number-first.ensures.value) (sym (rule_within c.args.linked.now c.args.shape.now c.args.arguments.now c.number-first.result fits ∙ c.loop-index.invariant ∙ failed))
+    rw (p.1, p.2, ← c.number-first.ensures.value)
+    (sym (rule_within c.args.linked.now c.args.shape.now c.args.arguments.now c.number-first.result fits ∙ c.loop-index.invariant ∙ failed))
 
 pub loop-index-init : goal.loop-index-init
 loop-index-init c =

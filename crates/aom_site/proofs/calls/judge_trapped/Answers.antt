@@ -6,8 +6,8 @@ use Rattle.aom_shape.specs.declared.why.Why.{Why}
 use Rattle.aom_shape.specs.declared.why.Why.TheVariants.{EntryState, RegisterKind}
 use Rattle.aom_site.proofs.calls.judge_trapped.Goals as goal
 
-same_needs : (b w u begins waits free : Bool) (r : Result (Unit {0}) Why) → b ≡ begins → w ≡ waits → u ≡ free
-    → r ≡ tested ((b, EntryState) ∷ (w, RegisterKind) ∷ (u, RegisterKind) ∷ []) → r ≡ tested ((begins, EntryState) ∷ (waits, RegisterKind) ∷ (free, RegisterKind) ∷ [])
+same_needs : (b w u begins waits free : Bool) (r : Result (Unit {0}) Why) → b ≡ begins → w ≡ waits → u ≡ free → r ≡ tested
+    ((b, EntryState) ∷ (w, RegisterKind) ∷ (u, RegisterKind) ∷ []) → r ≡ tested ((begins, EntryState) ∷ (waits, RegisterKind) ∷ (free, RegisterKind) ∷ [])
 same_needs b w u begins waits free r e f g h = rw (← e, ← f, ← g) h
 
 pub returns : goal.returns

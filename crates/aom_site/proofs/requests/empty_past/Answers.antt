@@ -16,8 +16,7 @@ loop-index-preserved c =
     let empty = sym c.is_empty_at.ensures ∙ c.if-not-is_empty_at.false in
     let next : suc index ≡ index + 1 = omega arith in
     c.loop-index.invariant ∙ past_step index c.args.declared.now c.args.fillings.now (omega (arith, c.loop-index-test.true))
-    ∙ ap (λ b. b && empty_past (suc index) c.args.declared.now c.args.fillings.now) empty
-    ∙ ap (λ n. empty_past n c.args.declared.now c.args.fillings.now) next
+    ∙ ap (λ b. b && empty_past (suc index) c.args.declared.now c.args.fillings.now) empty ∙ ap (λ n. empty_past n c.args.declared.now c.args.fillings.now) next
 
 pub returns : goal.returns
 returns c = sym (c.loop-index.invariant ∙ past_over c.loop-index.index c.args.declared.now c.args.fillings.now c.loop-index-test.false)

@@ -4,7 +4,8 @@ use Rattle.aom_site.proofs.Past.{filling_past, filling_there}
 use Rattle.aom_site.proofs.requests.is_empty_at.Goals as goal
 
 pub returns-in-Some : goal.returns-in-Some
-returns-in-Some c = c.is_empty.ensures ∙ ap is_empty (filling_there c.args.fillings.now c.args.index c.in-Some.filling.now c.in-Some.ensures.lookup.3.0 c.in-Some.ensures.lookup.1)
+returns-in-Some c = c.is_empty.ensures
+    ∙ ap is_empty (filling_there c.args.fillings.now c.args.index c.in-Some.filling.now c.in-Some.ensures.lookup.3.0 c.in-Some.ensures.lookup.1)
 
 pub returns-in-None : goal.returns-in-None
 returns-in-None c = sym (ap is_empty (filling_past c.args.fillings.now c.args.index c.in-None.ensures.lookup.3))

@@ -4,8 +4,8 @@ use Rattle.aom_site.proofs.ShapeLemmas.{words_none, words_some}
 use Rattle.aom_site.proofs.things.class_words.Goals as goal
 
 pub returns-in-None : goal.returns-in-None
-returns-in-None c =
-    words_none _ _ _ _ (c.as_slice.ensures ∙ c.classes.ensures.value ∙ ap (λ (p : Image). p.classes) c.image.ensures) c.number.ensures.value (omega (arith, c.in-None.ensures.lookup))
+returns-in-None c = words_none _ _ _ _ (c.as_slice.ensures ∙ c.classes.ensures.value ∙ ap (λ (p : Image). p.classes) c.image.ensures) c.number.ensures.value
+    (omega (arith, c.in-None.ensures.lookup))
 
 pub returns-in-Some : goal.returns-in-Some
 returns-in-Some c = words_some _ _ _ _ _ (c.as_slice.ensures ∙ c.classes.ensures.value ∙ ap (λ (p : Image). p.classes) c.image.ensures) c.number.ensures.value

@@ -6,7 +6,8 @@ use Rattle.std.proofs.lemmas.Result.{err_from_is_err_and}
 use Rattle.aom_verify.proofs.checked.sheet_of.Goals as goal
 
 pub returns-in-Ok-clause-ok : goal.returns-in-Ok-clause-ok
-returns-in-Ok-clause-ok c = settled _ _ _ _ _ c.place_count.ensures.some c.entry-entry.ensures.no_more c.entry-entry.ensures.no_less (rw c.in_ok-sheet.ensures at c.in-Ok.ensures.ok)
+returns-in-Ok-clause-ok c =
+    settled _ _ _ _ _ c.place_count.ensures.some c.entry-entry.ensures.no_more c.entry-entry.ensures.no_less (rw c.in_ok-sheet.ensures at c.in-Ok.ensures.ok)
 
 pub returns-in-Ok-clause-err : goal.returns-in-Ok-clause-err
 returns-in-Ok-clause-err c = tt
@@ -14,7 +15,8 @@ returns-in-Ok-clause-err c = tt
 pub returns-in-Err-clause-err : goal.returns-in-Err-clause-err
 returns-in-Err-clause-err c =
     let stopped = rw c.in_ok-sheet.ensures at c.in-Err.ensures.err in
-    rw c.refusal.ensures (stops_refused _ _ _ _ _ _ c.place_count.ensures.all c.place_count.ensures.some c.entry-entry.ensures.no_more c.entry-entry.ensures.no_less stopped)
+    rw c.refusal.ensures
+    (stops_refused _ _ _ _ _ _ c.place_count.ensures.all c.place_count.ensures.some c.entry-entry.ensures.no_more c.entry-entry.ensures.no_less stopped)
 
 pub new-requires : goal.new-requires
 new-requires c = c.place_count.ensures.some

@@ -19,7 +19,8 @@ returns-in_err-sheet-clause-err c =
     let shown : c.methods-methods.result.now ≡ c.args.linked.now.methods = c.methods-methods.ensures.value ∙ ap (λ (p : Image). p.methods) c.image.ensures in
     let count : c.len-index-end.result ≡ length c.args.linked.now.methods = c.len-index-end.ensures ∙ ap (λ (xs : List Method). length xs) shown in
     let some = within_method c.args.linked.now c.number_at.result (omega (arith, c.loop-index-test.true, count, c.number_at.ensures)) in
-    rw (p.1, p.2) (refuses _ _ _ some (λ k below. has_typing _ _ _ (c.loop-index.invariant.first.each k (omega (arith, below, c.number_at.ensures)))) c.in_err-sheet.ensures.err)
+    rw (p.1, p.2) (refuses _ _ _ some (λ k below. has_typing _ _ _ (c.loop-index.invariant.first.each k (omega (arith, below, c.number_at.ensures))))
+    c.in_err-sheet.ensures.err)
 
 pub loop-index-init : goal.loop-index-init
 loop-index-init c = record {

@@ -6,7 +6,8 @@ use Rattle.aom_verify.proofs.stop.stop_of.Goals as goal
 
 pub returns-in-Ok-clause-none : goal.returns-in-Ok-clause-none
 returns-in-Ok-clause-none c =
-    let strongest = settled _ _ _ _ _ c.place_count.ensures.some c.entry-entry.ensures.no_more c.entry-entry.ensures.no_less (rw c.in_ok-sheet.ensures at c.in-Ok.ensures.ok) in
+    let strongest = settled _ _ _ _ _ c.place_count.ensures.some c.entry-entry.ensures.no_more c.entry-entry.ensures.no_less
+    (rw c.in_ok-sheet.ensures at c.in-Ok.ensures.ok) in
     record { states = _; typed = strongest.typed }
 
 pub returns-in-Err-At-clause-some : goal.returns-in-Err-At-clause-some

@@ -6,8 +6,7 @@ use Rattle.aom_active.proofs.Firsts.{fewer_left}
 use Rattle.aom_active.proofs.active.ActiveObjects.due.Goals as goal
 
 pub returns-in_err-id-clause-completes : goal.returns-in_err-id-clause-completes
-returns-in_err-id-clause-completes c =
-    none_completes _ c.self.view_is c.self.invariant c.args.now c.due.new.self c.from_residual.result c.from_residual.ensures
+returns-in_err-id-clause-completes c = none_completes _ c.self.view_is c.self.invariant c.args.now c.due.new.self c.from_residual.result c.from_residual.ensures
     (sym c.due.ensures.value ∙ c.in_err-id.was) c.due.ensures.left
 
 pub invariant_of-self-2 : goal.invariant_of-self-2

@@ -17,7 +17,8 @@ use Rattle.aom_budget.proofs.accepted.Accepted.facts.Goals as goal
 pub returns-clause-affordable : goal.returns-clause-affordable
 returns-clause-affordable c =
     let linked : IsLinked c.self.inside.checked = subst IsLinked (c.linked-linked.ensures ∙ sym c.self.view_is) c.facts.ensures.linked in
-    let formed : WellFormed c.self.inside.checked = subst WellFormed (c.image.ensures ∙ (c.linked-linked.ensures ∙ sym c.self.view_is)) c.methods-formed.ensures.well_formed in
+    let formed : WellFormed c.self.inside.checked =
+    subst WellFormed (c.image.ensures ∙ (c.linked-linked.ensures ∙ sym c.self.view_is)) c.methods-formed.ensures.well_formed in
     subst (λ (p : Image). (t : Typing) × IsStrongest p t × (prices : Prices) × IsAffordable p t prices × CostsWithin p prices) c.self.view_is
     (affordable _ _ formed linked c.self.invariant.0 c.self.invariant.3.priced)
 

@@ -17,7 +17,8 @@ record KnownOf (p : Image) (header : Header) (prices : List ℕ) (cost : ℕ) : 
   declares : header.budget ≡ p.header.budget
   costs : cost ≡ main_by p prices
 
-known_of : (p l q : Image) (header : Header) (prices : List ℕ) (cost : ℕ) → q ≡ l → l ≡ p → IsLinked l → WellFormed q → header ≡ q.header → cost ≡ main_by l prices → KnownOf p header prices cost
+known_of : (p l q : Image) (header : Header) (prices : List ℕ) (cost : ℕ) → q ≡ l → l ≡ p → IsLinked l → WellFormed q → header ≡ q.header →
+    cost ≡ main_by l prices → KnownOf p header prices cost
 known_of p l q header prices cost image same linked formed is costs = record {
   linked = subst IsLinked same linked;
   formed = subst WellFormed (image ∙ same) formed;
@@ -28,20 +29,25 @@ known_of p l q header prices cost image same linked formed is costs = record {
 pub returns-in_err-within-clause-err : goal.returns-in_err-within-clause-err
 returns-in_err-within-clause-err c =
     let error = err_from_is_err_and c.from_residual.result c.from_residual.ensures.1 in
-    let k = known_of _ _ _ _ _ _ c.image.ensures c.linked-linked.ensures c.facts.ensures.linked c.header.ensures.well_formed c.header.ensures.value c.main_price.ensures in
-    rw (error.1, error.2) (refuses_main _ _ k.formed k.linked c.requires.priced _ (main_over _ _ _ _ _ k.declares k.costs c.in_err-within.ensures.err.0 c.in_err-within.ensures.err.1))
+    let k = known_of _ _ _ _ _ _ c.image.ensures c.linked-linked.ensures c.facts.ensures.linked c.header.ensures.well_formed
+    c.header.ensures.value c.main_price.ensures in
+    rw (error.1, error.2) (refuses_main _ _ k.formed k.linked c.requires.priced _
+    (main_over _ _ _ _ _ k.declares k.costs c.in_err-within.ensures.err.0 c.in_err-within.ensures.err.1))
 
 pub returns-in_err-keep_classes-clause-err : goal.returns-in_err-keep_classes-clause-err
 returns-in_err-keep_classes-clause-err c =
     let error = err_from_is_err_and c.from_residual-in_err-keep_classes.result c.from_residual-in_err-keep_classes.ensures.1 in
-    let k = known_of _ _ _ _ _ _ c.image.ensures c.linked-linked.ensures c.facts.ensures.linked c.header.ensures.well_formed c.header.ensures.value c.main_price.ensures in
+    let k = known_of _ _ _ _ _ _ c.image.ensures c.linked-linked.ensures c.facts.ensures.linked c.header.ensures.well_formed
+    c.header.ensures.value c.main_price.ensures in
     let main : IsWithin c.args.checked.now c.args.self.now.prices Main = main_within _ _ _ _ k.declares k.costs c.in_ok-within.ensures.ok in
-    let first : TellsFirst c.args.checked.now c.args.self.now.prices c.in_err-keep_classes.field-0.0 = rw c.linked-linked.ensures at c.in_err-keep_classes.ensures.err in
+    let first : TellsFirst c.args.checked.now c.args.self.now.prices c.in_err-keep_classes.field-0.0 =
+    rw c.linked-linked.ensures at c.in_err-keep_classes.ensures.err in
     rw (error.1, error.2) (refuses_class _ _ k.formed k.linked c.requires.priced _ main first)
 
 pub keep-requires-clause-budgets : goal.keep-requires-clause-budgets
 keep-requires-clause-budgets c =
-    let k = known_of _ _ _ _ _ _ c.image.ensures c.linked-linked.ensures c.facts.ensures.linked c.header.ensures.well_formed c.header.ensures.value c.main_price.ensures in
+    let k = known_of _ _ _ _ _ _ c.image.ensures c.linked-linked.ensures c.facts.ensures.linked c.header.ensures.well_formed
+    c.header.ensures.value c.main_price.ensures in
     let main : IsWithin c.args.checked.now c.args.self.now.prices Main = main_within _ _ _ _ k.declares k.costs c.in_ok-within.ensures.ok in
     let classes = rw c.linked-linked.ensures at c.in_ok-keep_classes.ensures.ok in
     budgets_within _ _ k.formed k.linked c.requires.priced main classes

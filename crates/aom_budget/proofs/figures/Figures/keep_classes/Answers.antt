@@ -27,8 +27,7 @@ pub loop-index-preserved : goal.loop-index-preserved
 loop-index-preserved c =
     let is : class_at c.args.linked.now c.loop-index.index ≡ Some c.class.result.now = rw c.class_number-class.ensures at c.class.ensures in
     let here : IsWithin c.args.linked.now c.args.self.now.prices (Class c.loop-index.index) = elim c.match-budget_of.branch [
-      | in-Some+in_ok-within w ↦
-          within_some _ _ _ _ is w.in-Some.declared w.class_price-price.result
+      | in-Some+in_ok-within w ↦ within_some _ _ _ _ is w.in-Some.declared w.class_price-price.result
           (sym c.budget_of.ensures ∙ w.in-Some.is) (rw c.class_number-class.ensures at w.class_price-price.ensures) w.in_ok-within.ensures.ok
       | in_default w ↦ within_none _ _ _ _ is (sym c.budget_of.ensures ∙ w.in_default.is)
     ] in

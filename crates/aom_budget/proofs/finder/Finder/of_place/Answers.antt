@@ -7,9 +7,9 @@ pub instr-instr-requires : goal.instr-instr-requires
 instr-instr-requires c = rw (c.requires.strongest.typed.each c.args.place c.in-Some.shape (sym c.view.ensures ∙ c.in-Some.is)).stands refl
 
 pub returns-in-Some-clause-depth : goal.returns-in-Some-clause-depth
-returns-in-Some-clause-depth c =
-    depth_found _ _ _ _ _ _ c.facts.ensures.linked c.requires.strongest (sym c.view.ensures ∙ c.in-Some.is) c.instr-instr.ensures _ _ c.requires.filled.deep c.depth_at.ensures
+returns-in-Some-clause-depth c = depth_found _ _ _ _ _ _ c.facts.ensures.linked c.requires.strongest
+    (sym c.view.ensures ∙ c.in-Some.is) c.instr-instr.ensures _ _ c.requires.filled.deep c.depth_at.ensures
 
 pub returns-in-Some-clause-height : goal.returns-in-Some-clause-height
-returns-in-Some-clause-height c =
-    height_found _ _ _ _ _ _ c.facts.ensures.linked c.requires.strongest (sym c.view.ensures ∙ c.in-Some.is) c.instr-instr.ensures _ _ c.requires.filled.high c.height_at.ensures
+returns-in-Some-clause-height c = height_found _ _ _ _ _ _ c.facts.ensures.linked c.requires.strongest
+    (sym c.view.ensures ∙ c.in-Some.is) c.instr-instr.ensures _ _ c.requires.filled.high c.height_at.ensures

@@ -30,9 +30,12 @@ returns-in-Destruct-clause-reached c =
     record {
       deep = set_size _ _ _ _ _ deep;
       high = set_size _ _ _ _ _ high;
-      called = called_now _ _ _ _ _ deep formed _ _ _ _ c.image-image.ensures shallow c.requires.reached.called c.raise_called.ensures.size c.raise_called.ensures.each;
-      entered = called_now _ _ _ _ _ high formed _ _ _ _ c.image-image.ensures flat c.requires.reached.entered c.raise_called-2.ensures.size c.raise_called-2.ensures.each;
-      cancelled = cancelled_still _ _ _ _ _ deep _ c.method.ensures _ (λ other. destructs_not c.method.result.now other c.in-Destruct.is) c.requires.reached.cancelled;
+      called = called_now _ _ _ _ _ deep formed _ _ _ _ c.image-image.ensures shallow c.requires.reached.called c.raise_called.ensures.size
+          c.raise_called.ensures.each;
+      entered = called_now _ _ _ _ _ high formed _ _ _ _ c.image-image.ensures flat c.requires.reached.entered c.raise_called-2.ensures.size
+          c.raise_called-2.ensures.each;
+      cancelled = cancelled_still _ _ _ _ _ deep _ c.method.ensures _
+          (λ other. destructs_not c.method.result.now other c.in-Destruct.is) c.requires.reached.cancelled;
       gone = c.raise_gone.ensures;
     }
 
@@ -46,8 +49,10 @@ returns-in-Cancel-clause-reached c =
     record {
       deep = set_size _ _ _ _ _ deep;
       high = set_size _ _ _ _ _ high;
-      called = called_now _ _ _ _ _ deep formed _ _ _ _ c.image-image.ensures shallow c.requires.reached.called c.raise_called.ensures.size c.raise_called.ensures.each;
-      entered = called_now _ _ _ _ _ high formed _ _ _ _ c.image-image.ensures flat c.requires.reached.entered c.raise_called-2.ensures.size c.raise_called-2.ensures.each;
+      called = called_now _ _ _ _ _ deep formed _ _ _ _ c.image-image.ensures shallow c.requires.reached.called c.raise_called.ensures.size
+          c.raise_called.ensures.each;
+      entered = called_now _ _ _ _ _ high formed _ _ _ _ c.image-image.ensures flat c.requires.reached.entered c.raise_called-2.ensures.size
+          c.raise_called-2.ensures.each;
       cancelled = c.raise_cancel_depths.ensures;
       gone = gone_still _ _ _ _ _ deep _ c.method.ensures _ (destructs_not c.method.result.now c.in-Cancel.is) c.requires.reached.gone;
     }
@@ -63,8 +68,10 @@ returns-in_default c =
       reached = record {
         deep = set_size _ _ _ _ _ deep;
         high = set_size _ _ _ _ _ high;
-        called = called_now _ _ _ _ _ deep formed _ _ _ _ c.image-image.ensures shallow c.requires.reached.called c.raise_called.ensures.size c.raise_called.ensures.each;
-        entered = called_now _ _ _ _ _ high formed _ _ _ _ c.image-image.ensures flat c.requires.reached.entered c.raise_called-2.ensures.size c.raise_called-2.ensures.each;
+        called = called_now _ _ _ _ _ deep formed _ _ _ _ c.image-image.ensures shallow c.requires.reached.called c.raise_called.ensures.size
+            c.raise_called.ensures.each;
+        entered = called_now _ _ _ _ _ high formed _ _ _ _ c.image-image.ensures flat c.requires.reached.entered c.raise_called-2.ensures.size
+            c.raise_called-2.ensures.each;
         cancelled = cancelled_still _ _ _ _ _ deep _ c.method.ensures _ c.in_default.not-Cancel c.requires.reached.cancelled;
         gone = gone_still _ _ _ _ _ deep _ c.method.ensures _ c.in_default.not-Destruct c.requires.reached.gone;
       };

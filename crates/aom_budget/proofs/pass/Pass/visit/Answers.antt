@@ -45,9 +45,11 @@ returns-in-Next-clause-passing c =
 pub returns-in-Loop-clause-passing : goal.returns-in-Loop-clause-passing
 returns-in-Loop-clause-passing c =
     let looped = linked_is_looped c.args.linked.now (rw c.image.ensures at c.methods-formed.ensures.well_formed) c.facts.ensures.linked in
-    let stands : instr_at c.args.linked.now c.args.method c.args.place ≡ Some (Loop c.in-Loop.field-0 c.in-Loop.rounds) = c.instr-instr.ensures ∙ ap (λ i. Some i) c.in-Loop.is in
+    let stands : instr_at c.args.linked.now c.args.method c.args.place ≡ Some (Loop c.in-Loop.field-0 c.in-Loop.rounds) =
+    c.instr-instr.ensures ∙ ap (λ i. Some i) c.in-Loop.is in
     let room : c.args.place < length c.args.self.now.around.items = omega (arith, c.requires.place, c.requires.passing.around_size) in
-    let outer : c.index.result.now ≡ at None c.args.self.now.around.items c.args.place = c.index.ensures ∙ at_within None c.index.result.now c.args.self.now.around.items c.args.place room in
+    let outer : c.index.result.now ≡ at None c.args.self.now.around.items c.args.place =
+    c.index.ensures ∙ at_within None c.index.result.now c.args.self.now.around.items c.args.place room in
     rw (c.note-in-Loop.ensures.innermost, outer, c.note-in-Loop.ensures.around)
     (visit_loop _ _ _ _ looped c.facts.ensures.linked c.requires.strongest _ _ _ _ _ c.requires.passing
     c.low.ensures c.low-2.ensures _ _ c.note-in-Loop.ensures.others c.note-in-Loop.ensures.size _ _ stands c.note-in-Loop.ensures.after

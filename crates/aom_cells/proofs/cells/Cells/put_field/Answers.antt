@@ -11,7 +11,8 @@ returns-clause-changed c = changes_written _ _ _ _ _ _ _
     (λ cell. with_field cell c.args.field c.args.number) c.self.view_is c.number.ensures.value c.index_mut.ensures.value c.set_field.ensures.changed
 
 pub returns-clause-here : goal.returns-clause-here
-returns-clause-here c = read_written (λ cell. field_of cell c.args.field) _ c.self.inside.limit _ _ _ _ c.number.ensures.value c.index_mut.ensures.value ∙ c.set_field.ensures.here
+returns-clause-here c = read_written (λ cell. field_of cell c.args.field) _ c.self.inside.limit _ _ _ _ c.number.ensures.value c.index_mut.ensures.value
+    ∙ c.set_field.ensures.here
 
 pub returns-clause-count : goal.returns-clause-count
 returns-clause-count c = count_written _ _ _ _ _ _ c.self.view_is c.index_mut.ensures.value

@@ -22,7 +22,8 @@ returns-then-has_cell-clause-value c =
     let xs = sessions_at s c.args.server in
     let once : IsOnce xs = subst (λ (s : State). IsOnce (sessions_at s c.args.server)) c.self.view_is (c.in_order.ensures.once c.args.server) in
     let some : has_cell (client_at s c.in-Some.client) ≡ true = ap has_cell (sym c.client.ensures.value) ∙ sym c.has_cell.ensures ∙ c.if-has_cell.true in
-    sym (found s c.in-Some.client xs once (c.loop-next.invariant.inside c.in-Some.client c.in-Some.is) some) ∙ ap (λ o. first_there s (from o xs)) (sym c.in-Some.is) ∙ c.loop-next.invariant.rest
+    sym (found s c.in-Some.client xs once (c.loop-next.invariant.inside c.in-Some.client c.in-Some.is) some)
+    ∙ ap (λ o. first_there s (from o xs)) (sym c.in-Some.is) ∙ c.loop-next.invariant.rest
 
 pub loop-next-smaller : goal.loop-next-smaller
 loop-next-smaller c =
@@ -55,7 +56,9 @@ pub returns-then-has_cell-clause-below : goal.returns-then-has_cell-clause-below
 returns-then-has_cell-clause-below c = c.loop-next.invariant.below c.in-Some.client c.in-Some.is
 
 pub next_session-next-requires : goal.next_session-next-requires
-next_session-next-requires c = has-there _ _ _ _ _ _ c.self.invariant _ c.self.view_is c.args.server c.in-Some.client (c.loop-next.invariant.inside c.in-Some.client c.in-Some.is)
+next_session-next-requires c =
+    has-there _ _ _ _ _ _ c.self.invariant _ c.self.view_is c.args.server c.in-Some.client (c.loop-next.invariant.inside c.in-Some.client c.in-Some.is)
 
 pub returns-clause-value : goal.returns-clause-value
-returns-clause-value c = ap (λ o. first_there c.args.self.now (from o (sessions_at c.args.self.now c.args.server))) (sym c.in_default.is) ∙ c.loop-next.invariant.rest
+returns-clause-value c = ap (λ o. first_there c.args.self.now (from o (sessions_at c.args.self.now c.args.server))) (sym c.in_default.is)
+    ∙ c.loop-next.invariant.rest

@@ -16,7 +16,8 @@ returns-clause-below c = (served _ _ _ _ _ _ c.self.invariant _ c.self.view_is c
 pub invariant_of-self : goal.invariant_of-self
 invariant_of-self c =
     let v = c.self.inside.places in
-    let places = written v.len v.items _ c.hold.new.places v.ok.0 c.hold.auto.places c.deref_mut.ensures.value ∙ c.hold.ensures ∙ ap (if_taken held_by c.take-taken.result) c.deref_mut.ensures.value in
+    let places = written v.len v.items _ c.hold.new.places v.ok.0 c.hold.auto.places c.deref_mut.ensures.value ∙ c.hold.ensures
+    ∙ ap (if_taken held_by c.take-taken.result) c.deref_mut.ensures.value in
     kept-as _ _ _ _ _ _ _ _ _ _ _ _ refl places refl c.take-taken.ensures.listed refl refl
     (served _ _ _ _ _ _ c.self.invariant _ c.self.view_is c.args.server
     c.requires _ c.take-taken.ensures.rest _ _ c.take-taken.ensures.taken c.deref.ensures.value c.take-taken.ensures.below c.take-taken.ensures.free).kept
@@ -24,7 +25,8 @@ invariant_of-self c =
 pub returns-clause-after : goal.returns-clause-after
 returns-clause-after c =
     let v = c.self.inside.places in
-    let places = written v.len v.items _ c.hold.new.places v.ok.0 c.hold.auto.places c.deref_mut.ensures.value ∙ c.hold.ensures ∙ ap (if_taken held_by c.take-taken.result) c.deref_mut.ensures.value in
+    let places = written v.len v.items _ c.hold.new.places v.ok.0 c.hold.auto.places c.deref_mut.ensures.value ∙ c.hold.ensures
+    ∙ ap (if_taken held_by c.take-taken.result) c.deref_mut.ensures.value in
     state-as _ _ _ _ _ c.take-taken.new.queues _ c.self.inside.sessions _ c.self.inside.sent refl places refl refl refl
     ∙ (served _ _ _ _ _ _ c.self.invariant _ c.self.view_is c.args.server
     c.requires _ c.take-taken.ensures.rest _ _ c.take-taken.ensures.taken c.deref.ensures.value c.take-taken.ensures.below c.take-taken.ensures.free).seen

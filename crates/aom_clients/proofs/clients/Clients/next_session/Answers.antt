@@ -4,7 +4,8 @@ use Rattle.aom_clients.proofs.Answering.{next-small, after-is}
 use Rattle.aom_clients.proofs.Steps.{is-there}
 
 pub returns-in_err-next-clause-value : goal.returns-in_err-next-clause-value
-returns-in_err-next-clause-value c = c.from_residual.ensures ∙ c.in_err-next.ensures ∙ after-is _ _ _ _ _ _ c.self.invariant _ c.self.view_is c.args.server c.args.client
+returns-in_err-next-clause-value c = c.from_residual.ensures ∙ c.in_err-next.ensures
+    ∙ after-is _ _ _ _ _ _ c.self.invariant _ c.self.view_is c.args.server c.args.client
 
 pub overflow_cast-result : goal.overflow_cast-result
 overflow_cast-result c =

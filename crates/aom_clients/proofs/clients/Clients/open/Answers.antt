@@ -23,8 +23,8 @@ invariant_of-self c =
     let queue : c.remove.new.self ≡ record q { lists = map (without (1024 + c.args.client)) q.lists } =
     c.remove.ensures.removed ∙ ap (λ n. record q { lists = map (without n) q.lists }) c.connect_node.ensures in
     let was = client-is _ _ _ _ _ _ c.self.invariant _ c.self.view_is c.args.client ∙ c.requires.connecting in
-    kept-as _ _ _ _ _ _ _ _ _ _ _ _ refl refl queue c.remove-2.ensures.removed c.push_last.ensures refl
-    (opened-kept _ _ _ _ _ _ c.self.invariant _ c.self.view_is c.args.client c.requires.client (ap is_connecting was) c.args.server c.args.session c.args.slots was)
+    kept-as _ _ _ _ _ _ _ _ _ _ _ _ refl refl queue c.remove-2.ensures.removed c.push_last.ensures refl (opened-kept _ _ _ _ _ _ c.self.invariant _
+    c.self.view_is c.args.client c.requires.client (ap is_connecting was) c.args.server c.args.session c.args.slots was)
 
 pub returns : goal.returns
 returns c =
@@ -32,5 +32,5 @@ returns c =
     let queue : c.remove.new.self ≡ record q { lists = map (without (1024 + c.args.client)) q.lists } =
     c.remove.ensures.removed ∙ ap (λ n. record q { lists = map (without n) q.lists }) c.connect_node.ensures in
     let was = client-is _ _ _ _ _ _ c.self.invariant _ c.self.view_is c.args.client ∙ c.requires.connecting in
-    state-as _ _ _ _ _ _ _ _ _ c.self.inside.sent refl refl queue c.push_last.ensures refl
-    ∙ opened-seen _ _ _ _ _ _ c.self.invariant _ c.self.view_is c.args.client c.requires.client (ap is_connecting was) c.args.server c.args.session c.args.slots was
+    state-as _ _ _ _ _ _ _ _ _ c.self.inside.sent refl refl queue c.push_last.ensures refl ∙ opened-seen _ _ _ _ _ _ c.self.invariant _ c.self.view_is
+    c.args.client c.requires.client (ap is_connecting was) c.args.server c.args.session c.args.slots was

@@ -9,6 +9,5 @@ pub queue_message-requires-clause-slot : goal.queue_message-requires-clause-slot
 queue_message-requires-clause-slot c =
     let s = c.args.self.now in
     let b = has_slot (length (sent_at s c.args.client)) (client_at s c.args.client) in
-    slot-taken b c.in-Some-place.place
-    (ap (λ x. sending_to (row x).send b (Some c.in-Some-place.place)) c.in-Open.ensures.value ∙ ap (sending_to (row (client_at s c.args.client)).send b) (sym c.in-Some-place.is)
-    ∙ sym c.send_refusal.ensures ∙ c.in_default.is)
+    slot-taken b c.in-Some-place.place (ap (λ x. sending_to (row x).send b (Some c.in-Some-place.place)) c.in-Open.ensures.value
+    ∙ ap (sending_to (row (client_at s c.args.client)).send b) (sym c.in-Some-place.is) ∙ sym c.send_refusal.ensures ∙ c.in_default.is)

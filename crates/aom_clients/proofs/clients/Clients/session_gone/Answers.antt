@@ -16,42 +16,40 @@ invariant_of-self c =
 
 pub returns-in_err-client-clause-after : goal.returns-in_err-client-clause-after
 returns-in_err-client-clause-after c =
-    let none = sessions-none _ _ c.self.inside.queues c.self.inside.connects c.self.inside.sessions c.self.inside.sent _ c.self.view_is c.args.server c.in_err-client.ensures.first in
+    let none = sessions-none _ _ c.self.inside.queues c.self.inside.connects c.self.inside.sessions c.self.inside.sent _ c.self.view_is c.args.server
+    c.in_err-client.ensures.first in
     let same = c.take_first.ensures.rest ∙ none-taken c.self.inside.sessions c.args.server c.in_err-client.ensures.first in
     state-as _ _ _ _ _ c.self.inside.queues _ c.take_first.new.self _ c.self.inside.sent refl refl refl same refl ∙ c.self.view_is
     ∙ sym (ap (λ cs. session_gone c.args.server cs c.args.self.now) none)
 
 pub overflow_cast-client : goal.overflow_cast-client
-overflow_cast-client c =
-    omega (
-      arith,
-      session-below _ _ _ _ _ _ c.self.invariant _ c.self.view_is c.args.server _ c.requires.server c.requires.empty c.in_ok-client.ensures.first _
-          c.take_first.ensures.rest c.in_ok-client.ensures.free,
-    )
+overflow_cast-client c = omega (
+  arith,
+  session-below _ _ _ _ _ _ c.self.invariant _ c.self.view_is c.args.server _ c.requires.server c.requires.empty c.in_ok-client.ensures.first _
+      c.take_first.ensures.rest c.in_ok-client.ensures.free,
+)
 
 pub release-requires-clause-client : goal.release-requires-clause-client
-release-requires-clause-client c =
-    session-below _ _ _ _ _ _ c.self.invariant _ c.self.view_is c.args.server _ c.requires.server c.requires.empty c.in_ok-client.ensures.first _ c.take_first.ensures.rest c.in_ok-client.ensures.free
+release-requires-clause-client c = session-below _ _ _ _ _ _ c.self.invariant _ c.self.view_is c.args.server _ c.requires.server c.requires.empty
+    c.in_ok-client.ensures.first _ c.take_first.ensures.rest c.in_ok-client.ensures.free
 
 pub index-requires : goal.index-requires
-index-requires c =
-    omega (
-      arith,
-      session-below _ _ _ _ _ _ c.self.invariant _ c.self.view_is c.args.server _ c.requires.server c.requires.empty c.in_ok-client.ensures.first _
-          c.take_first.ensures.rest c.in_ok-client.ensures.free,
-      c.self.invariant.sized.clients_long,
-      c.self.inside.clients.ok.0,
-    )
+index-requires c = omega (
+  arith,
+  session-below _ _ _ _ _ _ c.self.invariant _ c.self.view_is c.args.server _ c.requires.server c.requires.empty c.in_ok-client.ensures.first _
+      c.take_first.ensures.rest c.in_ok-client.ensures.free,
+  c.self.invariant.sized.clients_long,
+  c.self.inside.clients.ok.0,
+)
 
 pub index_mut-requires : goal.index_mut-requires
-index_mut-requires c =
-    omega (
-      arith,
-      session-below _ _ _ _ _ _ c.self.invariant _ c.self.view_is c.args.server _ c.requires.server c.requires.empty c.in_ok-client.ensures.first _
-          c.take_first.ensures.rest c.in_ok-client.ensures.free,
-      c.self.invariant.sized.clients_long,
-      c.self.inside.clients.ok.0,
-    )
+index_mut-requires c = omega (
+  arith,
+  session-below _ _ _ _ _ _ c.self.invariant _ c.self.view_is c.args.server _ c.requires.server c.requires.empty c.in_ok-client.ensures.first _
+      c.take_first.ensures.rest c.in_ok-client.ensures.free,
+  c.self.invariant.sized.clients_long,
+  c.self.inside.clients.ok.0,
+)
 
 pub invariant_of-self-2 : goal.invariant_of-self-2
 invariant_of-self-2 c =
@@ -86,5 +84,5 @@ returns-clause-after c =
     _ c.self.view_is c.args.server _ c.requires.server c.requires.empty c.in_ok-client.ensures.first _ c.take_first.ensures.rest c.in_ok-client.ensures.free
 
 pub returns-clause-below : goal.returns-clause-below
-returns-clause-below c =
-    session-below _ _ _ _ _ _ c.self.invariant _ c.self.view_is c.args.server _ c.requires.server c.requires.empty c.in_ok-client.ensures.first _ c.take_first.ensures.rest c.in_ok-client.ensures.free
+returns-clause-below c = session-below _ _ _ _ _ _ c.self.invariant _ c.self.view_is c.args.server _ c.requires.server c.requires.empty
+    c.in_ok-client.ensures.first _ c.take_first.ensures.rest c.in_ok-client.ensures.free

@@ -17,8 +17,8 @@ pub overflow_add-index_mut : goal.overflow_add-index_mut
 overflow_add-index_mut c =
     let s = c.self.inside in
     let end : c.len.result + c.args.list ≡ length s.homes.items + c.args.list = omega (arith, c.len.ensures, s.homes.ok.0) in
-    let made = pushed _ _ _ _ _ c.self.view_is c.self.invariant c.args.list c.args.node c.index-last.result.now (c.len.result + c.args.list) c.index_mut-6.result.now
-    c.requires.list c.requires.node c.requires.free c.index-last.ensures end c.index_mut-6.ensures.value in
+    let made = pushed _ _ _ _ _ c.self.view_is c.self.invariant c.args.list c.args.node c.index-last.result.now (c.len.result + c.args.list)
+    c.index_mut-6.result.now c.requires.list c.requires.node c.requires.free c.index-last.ensures end c.index_mut-6.ensures.value in
     omega (arith, made.fits)
 
 pub invariant_of-self : goal.invariant_of-self

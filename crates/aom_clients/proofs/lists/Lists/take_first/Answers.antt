@@ -11,8 +11,7 @@ unlink-requires c =
 pub returns-clause-rest : goal.returns-clause-rest
 returns-clause-rest c =
     let first : first_of (list_at c.args.self.now c.args.list) ≡ Some c.in_ok-node.node = sym c.first.ensures ∙ c.in_ok-node.was in
-    c.unlink.ensures
-    ∙ ap (λ xs. with_list c.args.list xs c.args.self.now) (without-first _ c.in_ok-node.node (c.in_order.ensures.once c.args.list) first)
+    c.unlink.ensures ∙ ap (λ xs. with_list c.args.list xs c.args.self.now) (without-first _ c.in_ok-node.node (c.in_order.ensures.once c.args.list) first)
 
 pub returns-clause-free : goal.returns-clause-free
 returns-clause-free c =

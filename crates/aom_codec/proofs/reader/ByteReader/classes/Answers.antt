@@ -8,8 +8,8 @@ use Rattle.aom_codec.proofs.reader.ByteReader.classes.Goals as goal
 pub returns-in_err-class : goal.returns-in_err-class
 returns-in_err-class c =
     let p = err_from_is_err_and c.from_residual-in_err-class.result c.from_residual-in_err-class.ensures.1 in
-    rw (p.1, p.2) (λ ne. breaks (class c.args.version c.args.count c.args.natives) count_server c.loop.servers c.loop.classes.items c.args.count c.loop.counter c.loop.self
-    (read_many (class c.args.version c.args.count c.args.natives) count_server 0 c.args.count c.args.self.now)
+    rw (p.1, p.2) (λ ne. breaks (class c.args.version c.args.count c.args.natives) count_server c.loop.servers c.loop.classes.items c.args.count
+    c.loop.counter c.loop.self (read_many (class c.args.version c.args.count c.args.natives) count_server 0 c.args.count c.args.self.now)
     c.loop.invariant.reads c.in_err-class.field-0.0 c.loop-test.true (c.in_err-class.ensures ne))
 
 pub loop-preserved : goal.loop-preserved

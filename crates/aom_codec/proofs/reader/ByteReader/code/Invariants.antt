@@ -5,4 +5,5 @@ use Rattle.aom_codec.proofs.Loops.{StillReads}
 use Rattle.aom_codec.proofs.reader.ByteReader.code.Given as goal
 
 abbrev pub invariant-loop : goal.invariant-loop
-invariant-loop l = StillReads (always (instruction l.limits)) keep tt l.code.items (l.limits.places - l.counter) l.self (read_many (always (instruction l.limits)) keep tt l.limits.places l.fn.self)
+invariant-loop l = StillReads (always (instruction l.limits)) keep tt l.code.items (l.limits.places - l.counter) l.self
+    (read_many (always (instruction l.limits)) keep tt l.limits.places l.fn.self)

@@ -15,12 +15,14 @@ pub returns-in-Some-clause-agree : goal.returns-in-Some-clause-agree
 returns-in-Some-clause-agree g c = rw (marked_mover is_set with_spot c.in-Some.spot c.args.self.now c.set.new.self _ c.set.result c.set.ensures) c.requires.agree
 
 pub returns-in-Some-clause-keeps : goal.returns-in-Some-clause-keeps
-returns-in-Some-clause-keeps g c = rw (marked_mover is_set with_spot c.in-Some.spot c.args.self.now c.set.new.self _ c.set.result c.set.ensures) (keeps_all c.args.self.now.mover c.requires.ready)
+returns-in-Some-clause-keeps g c = rw (marked_mover is_set with_spot c.in-Some.spot c.args.self.now c.set.new.self _ c.set.result c.set.ensures)
+    (keeps_all c.args.self.now.mover c.requires.ready)
 
 pub returns-in-Some-clause-answer : goal.returns-in-Some-clause-answer
 returns-in-Some-clause-answer g c =
     let named = rw (c.linked.ensures, c.accepted.ensures) at c.spot_named.ensures in
-    marked_named is_set with_spot c.in-Some.spot c.args.self.now c.set.new.self _ c.args.method c.args.place c.if-self.false (sym named ∙ c.in-Some.is) c.set.result c.set.ensures
+    marked_named is_set with_spot c.in-Some.spot c.args.self.now c.set.new.self _ c.args.method c.args.place c.if-self.false
+    (sym named ∙ c.in-Some.is) c.set.result c.set.ensures
 
 pub returns-in-None-clause-agree : goal.returns-in-None-clause-agree
 returns-in-None-clause-agree g c = c.requires.agree

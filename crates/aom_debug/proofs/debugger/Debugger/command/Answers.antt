@@ -45,9 +45,11 @@ pub returns-then-self-clause-answer : goal.returns-then-self-clause-answer
 returns-then-self-clause-answer g c = heeds_failed c.args.self.now _ _ c.if-self.true (command_by c.args.self.now.names c.args.line.now)
 
 pub returns-in-Ok-None-clause-answer : goal.returns-in-Ok-None-clause-answer
-returns-in-Ok-None-clause-answer g c = rw (sym c.read_named.ensures, c.in-Ok-None.is, c.in-Ok-None.field-0-is) (c.if-self.false, refl, record { same = refl; silent = refl })
+returns-in-Ok-None-clause-answer g c =
+    rw (sym c.read_named.ensures, c.in-Ok-None.is, c.in-Ok-None.field-0-is) (c.if-self.false, refl, record { same = refl; silent = refl })
 
 pub returns-in-Err-clause-answer : goal.returns-in-Err-clause-answer
 returns-in-Err-clause-answer g c =
     let said = sym c.read_named.ensures ∙ c.in-Err.is in
-    rw said (passes_on c.args.self.now _ _ c.if-self.false c.in-Err.fault (λ ended. says_no_end c.args.self.now.names c.args.line.now (said ∙ ap (λ f. Err f) ended)))
+    rw said
+    (passes_on c.args.self.now _ _ c.if-self.false c.in-Err.fault (λ ended. says_no_end c.args.self.now.names c.args.line.now (said ∙ ap (λ f. Err f) ended)))

@@ -6,8 +6,8 @@ use Rattle.aom_debug.proofs.Declining.{kept_mover}
 use Rattle.aom_debug.proofs.debugger.Debugger.look.Goals as goal
 
 pub returns-clause-answer : goal.returns-clause-answer
-returns-clause-answer g c =
-    looked (Sees c.args.look) c.args.self.now c.kept.new.self (g.W.Sink.out c.args.out.now) (g.W.Sink.out c.show-told.new.out) (g.W.Sink.failed c.show-told.new.out) c.show-told.result c.kept.result
+returns-clause-answer g c = looked (Sees c.args.look) c.args.self.now c.kept.new.self
+    (g.W.Sink.out c.args.out.now) (g.W.Sink.out c.show-told.new.out) (g.W.Sink.failed c.show-told.new.out) c.show-told.result c.kept.result
     c.if-self.false c.kept.ensures.answer c.kept.ensures.ok c.kept.ensures.err c.show-told.ensures.ok c.show-told.ensures.err
 
 pub returns-then-self-clause-agree : goal.returns-then-self-clause-agree
@@ -20,4 +20,5 @@ pub returns-clause-agree : goal.returns-clause-agree
 returns-clause-agree g c = rw (kept_mover c.args.self.now c.kept.new.self c.show-told.result c.kept.ensures.ok c.kept.ensures.err) c.requires.agree
 
 pub returns-clause-keeps : goal.returns-clause-keeps
-returns-clause-keeps g c = rw (kept_mover c.args.self.now c.kept.new.self c.show-told.result c.kept.ensures.ok c.kept.ensures.err) (keeps_all c.args.self.now.mover c.requires.ready)
+returns-clause-keeps g c =
+    rw (kept_mover c.args.self.now c.kept.new.self c.show-told.result c.kept.ensures.ok c.kept.ensures.err) (keeps_all c.args.self.now.mover c.requires.ready)

@@ -7,10 +7,12 @@ pub returns-in-Cells-clause-ok : goal.returns-in-Cells-clause-ok
 returns-in-Cells-clause-ok g c = rw c.in-Cells.is (IfOk-weaker c.show_cells.result _ _ (λ done tells s st. (_, refl, tells.out s st.stands)) c.show_cells.ensures.ok)
 
 pub returns-in-Cells-clause-err : goal.returns-in-Cells-clause-err
-returns-in-Cells-clause-err g c = rw c.in-Cells.is (IfErr-weaker c.show_cells.result _ _ (λ fault part. (part.told, part.fails, (λ s st. (_, refl, part.out s st.stands)))) c.show_cells.ensures.err)
+returns-in-Cells-clause-err g c = rw c.in-Cells.is
+    (IfErr-weaker c.show_cells.result _ _ (λ fault part. (part.told, part.fails, (λ s st. (_, refl, part.out s st.stands)))) c.show_cells.ensures.err)
 
 pub returns-in-Owners-clause-ok : goal.returns-in-Owners-clause-ok
-returns-in-Owners-clause-ok g c = rw c.in-Owners.is (IfOk-weaker c.show_owners.result _ _ (λ done tells s st. (_, refl, tells.out s st.stands)) c.show_owners.ensures.ok)
+returns-in-Owners-clause-ok g c =
+    rw c.in-Owners.is (IfOk-weaker c.show_owners.result _ _ (λ done tells s st. (_, refl, tells.out s st.stands)) c.show_owners.ensures.ok)
 
 pub returns-in-Owners-clause-err : goal.returns-in-Owners-clause-err
 returns-in-Owners-clause-err g c = rw c.in-Owners.is
@@ -19,7 +21,8 @@ returns-in-Owners-clause-err g c = rw c.in-Owners.is
 pub returns-in-Cleanup-clause-ok : goal.returns-in-Cleanup-clause-ok
 returns-in-Cleanup-clause-ok g c =
     let p = c.args.self.now.mover.machine.core.image in
-    rw c.in-Cleanup.is (IfOk-weaker c.tell_cleanup.result _ _ (λ done tells s st. (_, refl, (tells p).out s st.stands)) (rw c.parts.ensures.parts at c.tell_cleanup.ensures.ok))
+    rw c.in-Cleanup.is
+    (IfOk-weaker c.tell_cleanup.result _ _ (λ done tells s st. (_, refl, (tells p).out s st.stands)) (rw c.parts.ensures.parts at c.tell_cleanup.ensures.ok))
 
 pub returns-in-Cleanup-clause-err : goal.returns-in-Cleanup-clause-err
 returns-in-Cleanup-clause-err g c =
@@ -57,7 +60,8 @@ returns-in-Breaks-clause-err g c = rw c.in-Breaks.is
 pub returns-in-Clock-clause-ok : goal.returns-in-Clock-clause-ok
 returns-in-Clock-clause-ok g c =
     let p = c.args.self.now.mover.machine.core.image in
-    rw c.in-Clock.is (IfOk-weaker c.tell_clock.result _ _ (λ done tells s st. (_, refl, (tells p).out s st.stands)) (rw c.parts-in-Clock.ensures.parts at c.tell_clock.ensures.ok))
+    rw c.in-Clock.is (IfOk-weaker c.tell_clock.result _ _ (λ done tells s st. (_, refl, (tells p).out s st.stands))
+    (rw c.parts-in-Clock.ensures.parts at c.tell_clock.ensures.ok))
 
 pub returns-in-Clock-clause-err : goal.returns-in-Clock-clause-err
 returns-in-Clock-clause-err g c =
@@ -79,14 +83,11 @@ returns-in-Frames-clause-ok g c = rw c.in-Frames.is (IfOk-weaker c.show_frames.r
 pub returns-in-Frames-clause-err : goal.returns-in-Frames-clause-err
 returns-in-Frames-clause-err g c =
     let here = c.show_frames.ensures.stands.1 in
-    rw c.in-Frames.is
-    (IfErr-weaker c.show_frames.result _ _
-    (λ fault part. (
+    rw c.in-Frames.is (IfErr-weaker c.show_frames.result _ _ (λ fault part. (
       (part here.typing here.sound.strongest).told,
       (part here.typing here.sound.strongest).fails,
       (λ s st. (_, (st.stands.typing, st.stands.sound.strongest, refl), (part st.stands.typing st.stands.sound.strongest).out s st.stands)),
-    ))
-    c.show_frames.ensures.err)
+    )) c.show_frames.ensures.err)
 
 pub returns-in-Timers-clause-ok : goal.returns-in-Timers-clause-ok
 returns-in-Timers-clause-ok g c =

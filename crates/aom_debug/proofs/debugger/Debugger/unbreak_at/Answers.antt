@@ -12,7 +12,8 @@ pub returns-then-self-clause-keeps : goal.returns-then-self-clause-keeps
 returns-then-self-clause-keeps g c = keeps_all c.args.self.now.mover c.requires.ready
 
 pub returns-in-Some-clause-agree : goal.returns-in-Some-clause-agree
-returns-in-Some-clause-agree g c = rw (marked_mover has_spot without_spot c.in-Some.spot c.args.self.now c.unset.new.self _ c.unset.result c.unset.ensures) c.requires.agree
+returns-in-Some-clause-agree g c =
+    rw (marked_mover has_spot without_spot c.in-Some.spot c.args.self.now c.unset.new.self _ c.unset.result c.unset.ensures) c.requires.agree
 
 pub returns-in-Some-clause-keeps : goal.returns-in-Some-clause-keeps
 returns-in-Some-clause-keeps g c = rw (marked_mover has_spot without_spot c.in-Some.spot c.args.self.now c.unset.new.self _ c.unset.result c.unset.ensures)
@@ -21,7 +22,8 @@ returns-in-Some-clause-keeps g c = rw (marked_mover has_spot without_spot c.in-S
 pub returns-in-Some-clause-answer : goal.returns-in-Some-clause-answer
 returns-in-Some-clause-answer g c =
     let named = rw (c.linked.ensures, c.accepted.ensures) at c.spot_named.ensures in
-    marked_named has_spot without_spot c.in-Some.spot c.args.self.now c.unset.new.self _ c.args.method c.args.place c.if-self.false (sym named ∙ c.in-Some.is) c.unset.result c.unset.ensures
+    marked_named has_spot without_spot c.in-Some.spot c.args.self.now c.unset.new.self _ c.args.method c.args.place c.if-self.false
+    (sym named ∙ c.in-Some.is) c.unset.result c.unset.ensures
 
 pub returns-in-None-clause-agree : goal.returns-in-None-clause-agree
 returns-in-None-clause-agree g c = c.requires.agree

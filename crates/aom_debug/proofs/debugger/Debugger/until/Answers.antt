@@ -13,7 +13,8 @@ pub returns-then-self-clause-keeps : goal.returns-then-self-clause-keeps
 returns-then-self-clause-keeps g c = keeps_all c.args.self.now.mover c.requires.ready
 
 pub returns-then-self-clause-answer : goal.returns-then-self-clause-answer
-returns-then-self-clause-answer g c = named_either c.args.self.now _ _ c.if-self.true (spot_named c.args.self.now.mover.machine.core.image c.args.method c.args.place)
+returns-then-self-clause-answer g c =
+    named_either c.args.self.now _ _ c.if-self.true (spot_named c.args.self.now.mover.machine.core.image c.args.method c.args.place)
 
 pub go_by-requires-clause-agree : goal.go_by-requires-clause-agree
 go_by-requires-clause-agree g c = c.requires.agree

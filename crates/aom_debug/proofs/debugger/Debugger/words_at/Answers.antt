@@ -25,7 +25,8 @@ pub returns-in-Some-clause-agree : goal.returns-in-Some-clause-agree
 returns-in-Some-clause-agree g c = rw (kept_mover c.args.self.now c.kept.new.self c.show_words-told.result c.kept.ensures.ok c.kept.ensures.err) c.requires.agree
 
 pub returns-in-Some-clause-keeps : goal.returns-in-Some-clause-keeps
-returns-in-Some-clause-keeps g c = rw (kept_mover c.args.self.now c.kept.new.self c.show_words-told.result c.kept.ensures.ok c.kept.ensures.err) (keeps_all c.args.self.now.mover c.requires.ready)
+returns-in-Some-clause-keeps g c = rw (kept_mover c.args.self.now c.kept.new.self c.show_words-told.result c.kept.ensures.ok c.kept.ensures.err)
+    (keeps_all c.args.self.now.mover c.requires.ready)
 
 pub returns-in-Some-clause-answer : goal.returns-in-Some-clause-answer
 returns-in-Some-clause-answer g c =
@@ -33,10 +34,10 @@ returns-in-Some-clause-answer g c =
     let w = c.args.path in
     let f = c.in-Some.found in
     let there : IsThere d w f = λ s st. subst (λ o. IsFound (owned_at s w) o) c.in-Some.is (c.object_in.ensures.found s st) in
-    looks_at (SeesWords w) (LacksWords w) d c.kept.new.self _ c.kept.result
-    (looked (SeesWords w) d c.kept.new.self (g.W.Sink.out c.args.out.now) (g.W.Sink.out c.show_words-told.new.out) (g.W.Sink.failed c.show_words-told.new.out) c.show_words-told.result c.kept.result
-    c.if-self.false c.kept.ensures.answer c.kept.ensures.ok c.kept.ensures.err
-    (words_seen d w f _ _ there c.show_words-told.result c.show_words-told.ensures.ok) (words_part d w f _ _ there _ c.show_words-told.result c.show_words-told.ensures.err))
+    looks_at (SeesWords w) (LacksWords w) d c.kept.new.self _ c.kept.result (looked (SeesWords w) d c.kept.new.self (g.W.Sink.out c.args.out.now)
+    (g.W.Sink.out c.show_words-told.new.out) (g.W.Sink.failed c.show_words-told.new.out) c.show_words-told.result c.kept.result c.if-self.false
+    c.kept.ensures.answer c.kept.ensures.ok c.kept.ensures.err (words_seen d w f _ _ there c.show_words-told.result c.show_words-told.ensures.ok)
+    (words_part d w f _ _ there _ c.show_words-told.result c.show_words-told.ensures.err))
 
 pub returns-in-None-clause-agree : goal.returns-in-None-clause-agree
 returns-in-None-clause-agree g c = c.requires.agree
@@ -47,5 +48,8 @@ returns-in-None-clause-keeps g c = keeps_all c.args.self.now.mover c.requires.re
 pub returns-in-None-clause-answer : goal.returns-in-None-clause-answer
 returns-in-None-clause-answer g c =
     let m = c.args.self.now.mover.machine.core in
-    let w = c.args.path in
-    (c.if-self.false, record { same = refl; silent = refl }, (λ s st. words_none m.image s.cells (owned_at s w) (subst (λ o. IsFound (owned_at s w) o) c.in-None.is (c.object_in.ensures.found s st.stands))))
+    let w = c.args.path in (
+      c.if-self.false,
+      record { same = refl; silent = refl },
+      (λ s st. words_none m.image s.cells (owned_at s w) (subst (λ o. IsFound (owned_at s w) o) c.in-None.is (c.object_in.ensures.found s st.stands))),
+    )

@@ -12,4 +12,5 @@ loop-index-preserved c =
     let within : c.loop-index.index < length c.args.linked.now.classes = omega (arith, c.loop-index-test.true, count) in
     let here : c.at.result.now ≡ slice_index_or c.args.linked.now.classes c.loop-index.index c.at.result.now =
     c.at.ensures ∙ ap (λ (xs : List ClassDecl). slice_index_or xs c.loop-index.index c.at.result.now) shown in
-    class_more c.args.names.now c.args.linked.now _ c.loop-index.index _ c.at.result.now _ _ _ (sym c.class_number.ensures) within here c.loop-index.invariant c.in_ok-class.ensures
+    class_more c.args.names.now c.args.linked.now _ c.loop-index.index _ c.at.result.now _ _ _
+    (sym c.class_number.ensures) within here c.loop-index.invariant c.in_ok-class.ensures

@@ -13,4 +13,5 @@ returns-clause-can c =
     let tries = c.args.tries in
     let all = planned tries c.args.natives c.args.script.now.timed c.args.requests c.args.times.now in
     let same : c.match-tries.injections.items ≡ all = grind (arith, common_steps) in
-    subst (λ (xs : List Injection). All CanInject xs) (sym same) (planned_can tries c.args.natives c.args.script.now.timed c.args.requests c.args.times.now c.requires)
+    subst (λ (xs : List Injection). All CanInject xs) (sym same)
+    (planned_can tries c.args.natives c.args.script.now.timed c.args.requests c.args.times.now c.requires)

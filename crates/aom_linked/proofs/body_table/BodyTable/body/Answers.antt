@@ -8,8 +8,8 @@ use Rattle.aom_linked.proofs.body_table.BodyTable.body.Goals as goal
 
 pub returns-in_default-2 : goal.returns-in_default-2
 unfolding method_at
-returns-in_default-2 c =
-    λ p table there.
+returns-in_default-2 c = λ p table there.
     let few = ltb-false _ _ (sym c.get.ensures.lookup.0 ∙ ap is_some c.in_default.is) in
     let here = within p.methods p.methods c.args.method c.args.method refl refl there in
-    absurd (let same = ap length c.deref.ensures.value in let number = c.number.ensures.value in let size = table.size in omega (arith, few, here, same, number, size))
+    absurd (let same = ap length c.deref.ensures.value in let number = c.number.ensures.value in let size = table.size in
+    omega (arith, few, here, same, number, size))

@@ -3,8 +3,7 @@ use Rattle.aom_linked.proofs.Rows.{row_found}
 use Rattle.aom_linked.proofs.role_table.RoleTable.role.Goals as goal
 
 pub returns-in-Some : goal.returns-in-Some
-returns-in-Some c =
-    λ p table.
+returns-in-Some c = λ p table.
     let read = c.in-Some.ensures.lookup in
     let within : c.number.result < length c.deref.result.now = grind (arith, read.0) in
     row_found p c.args.self.now.rows.items c.deref.result.now c.args.class c.number.result c.number-in-Some.result c.args.role _ _ table

@@ -10,8 +10,7 @@ pub returns : goal.returns
 returns c =
     let m = c.args.method.now in
     line_behind 32 (10 ∷ []) (keyword_text Method) (method_name c.args.place ∷ keyword_text (role_keyword m.role) ∷ [])
-    (class_after Of m.class) (method_after Over m.over) (flag_words m.flags.0) (promise_words m)
-    c.args.self.now _ _ _ _ _ _ c.end_line.result
+    (class_after Of m.class) (method_after Over m.over) (flag_words m.flags.0) (promise_words m) c.args.self.now _ _ _ _ _ _ c.end_line.result
     c.in_ok-name_and_role.ensures c.in_ok-class_after.ensures c.in_ok-method_after.ensures c.in_ok-flags.ensures c.in_ok-promise.ensures c.end_line.ensures
 
 pub returns-in_err-name_and_role : goal.returns-in_err-name_and_role

@@ -5,7 +5,8 @@ use Rattle.aom_listing.proofs.Lines.{lines_flat, written_more}
 use Rattle.aom_listing.proofs.writer.ListingWriter.methods.Goals as goal
 
 pub loop-place-preserved : goal.loop-place-preserved
-loop-place-preserved c = written_more lines_text method_statements _ _ _ _ _ _ c.loop-place-test.true c.index-methods-place.is c.loop-place.invariant c.in_ok-method.ensures
+loop-place-preserved c =
+    written_more lines_text method_statements _ _ _ _ _ _ c.loop-place-test.true c.index-methods-place.is c.loop-place.invariant c.in_ok-method.ensures
 
 pub returns : goal.returns
 returns c =

@@ -10,10 +10,10 @@ use Rattle.aom_listing.proofs.writer.ListingWriter.promise.Goals as goal
 pub returns : goal.returns
 returns c =
     let m = c.args.method.now in
-    promise_behind 32 (keyword_text In) (states_word m.before.0) (keyword_text Out) (states_word m.after.0) (keyword_text Args) (list_word (map argument_word m.arguments)) (keyword_text Gives)
+    promise_behind 32 (keyword_text In)
+    (states_word m.before.0) (keyword_text Out) (states_word m.after.0) (keyword_text Args) (list_word (map argument_word m.arguments)) (keyword_text Gives)
     (gives_words m.gives) c.args.self.now _ _ _ _ _ _ c.gives.result c.in_ok-states.ensures c.in_ok-states-2.ensures c.in_ok-keyword.ensures
-    (c.in_ok-list.ensures
-    ∙ ap (λ xs. c.keyword.new.self ++ 32 ∷ list_word (map argument_word xs)) c.as_slice.ensures) c.in_ok-keyword-2.ensures c.gives.ensures
+    (c.in_ok-list.ensures ∙ ap (λ xs. c.keyword.new.self ++ 32 ∷ list_word (map argument_word xs)) c.as_slice.ensures) c.in_ok-keyword-2.ensures c.gives.ensures
 
 pub returns-in_err-states : goal.returns-in_err-states
 returns-in_err-states c = on_err _ c.from_residual.result c.from_residual.ensures.0

@@ -12,7 +12,8 @@ due-requires-clause-stands c = (c.self.inside.accepted.now, c.self.invariant)
 pub invariant_of-self : goal.invariant_of-self
 invariant_of-self c =
     let p = c.self.inside.accepted.now in
-    completed_again (record { image = p; parts = c.self.inside.parts }) (record { image = p; parts = c.due.new.parts }) c.due.result (c.due.ensures.completed p) c.self.invariant
+    completed_again (record { image = p; parts = c.self.inside.parts }) (record { image = p; parts = c.due.new.parts }) c.due.result
+    (c.due.ensures.completed p) c.self.invariant
 
 pub returns-clause-completed : goal.returns-clause-completed
 returns-clause-completed c =

@@ -18,4 +18,5 @@ pub returns-clause-agrees : goal.returns-clause-agrees
 returns-clause-agrees c = agrees_in_all _
 
 pub returns-clause-heard : goal.returns-clause-heard
-returns-clause-heard c = rw (to_z-of_z w32 c.args.answer c.ranges.answer) (ap (λ (x : Machine). record x { parts = record x.parts { heard = c.args.answer } }) c.self.view_is)
+returns-clause-heard c =
+    rw (to_z-of_z w32 c.args.answer c.ranges.answer) (ap (λ (x : Machine). record x { parts = record x.parts { heard = c.args.answer } }) c.self.view_is)

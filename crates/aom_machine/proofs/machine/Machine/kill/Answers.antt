@@ -21,7 +21,8 @@ returns-clause-killed c = seen_as (λ (old : Machine) (p : Image). (s : State) �
     c.args.turn.now c.kill.new.turn (record { image = p; parts = c.kill.new.parts })) c.linked.ensures c.self.view_is c.kill.ensures.killed
 
 pub returns-clause-timers : goal.returns-clause-timers
-returns-clause-timers c = subst (λ (old : Machine). timers (record { image = c.self.inside.accepted.now; parts = c.kill.new.parts }) ≡ timers old) c.self.view_is (ap length c.kill.ensures.timers)
+returns-clause-timers c = subst (λ (old : Machine). timers (record { image = c.self.inside.accepted.now; parts = c.kill.new.parts }) ≡ timers old)
+    c.self.view_is (ap length c.kill.ensures.timers)
 
 pub returns-clause-agrees : goal.returns-clause-agrees
 returns-clause-agrees c = agrees_in_all _

@@ -9,4 +9,5 @@ use Rattle.aom_machine.proofs.machine.Machine.next_due.Goals as goal
 pub returns : goal.returns
 returns c =
     let m : Machine = record { image = c.self.inside.accepted.now; parts = c.self.inside.parts } in
-    subst (λ (n : Machine). (s : State) → StandsFor n s → c.next_due.result ≡ due_of (first_due s.cells)) c.self.view_is (λ s st. next_due_told m c.next_due.result c.next_due.ensures.next s st)
+    subst (λ (n : Machine). (s : State) → StandsFor n s → c.next_due.result ≡ due_of (first_due s.cells)) c.self.view_is
+    (λ s st. next_due_told m c.next_due.result c.next_due.ensures.next s st)

@@ -47,11 +47,13 @@ pub returns-clause-none_due : goal.returns-clause-none_due
 returns-clause-none_due c =
     let p = c.self.inside.accepted.now in
     let m = c.self.inside.parts in
-    subst (λ (old : Machine). ((s : State) → StandsFor old s → NoneDue s) → (s : State) → StandsFor (record { image = p; parts = c.obey.new.parts }) s → NoneDue s) c.self.view_is
-    (none_due_still (record { image = p; parts = m }) (record { image = p; parts = c.obey.new.parts }) c.self.invariant c.obey.ensures.timers (ap (λ (r : Counters). r.clock) c.obey.ensures.rest))
+    subst (λ (old : Machine). ((s : State) → StandsFor old s → NoneDue s) → (s : State) →
+    StandsFor (record { image = p; parts = c.obey.new.parts }) s → NoneDue s) c.self.view_is (none_due_still (record { image = p; parts = m })
+    (record { image = p; parts = c.obey.new.parts }) c.self.invariant c.obey.ensures.timers (ap (λ (r : Counters). r.clock) c.obey.ensures.rest))
 
 pub returns-clause-timers : goal.returns-clause-timers
-returns-clause-timers c = subst (λ (old : Machine). timers (record { image = c.self.inside.accepted.now; parts = c.obey.new.parts }) ≡ timers old) c.self.view_is (ap length c.obey.ensures.timers)
+returns-clause-timers c = subst (λ (old : Machine). timers (record { image = c.self.inside.accepted.now; parts = c.obey.new.parts }) ≡ timers old)
+    c.self.view_is (ap length c.obey.ensures.timers)
 
 pub returns-clause-agrees : goal.returns-clause-agrees
 returns-clause-agrees c = agrees_in_all _

@@ -21,16 +21,16 @@ invariant_of-self c =
     let p = c.self.inside.accepted.now in
     let turned = subst (λ (m : Machine). progress m ≡ Turned) (sym c.self.view_is) c.requires.between in
     let owed = subst (λ (m : Machine). IsOwed m c.args.native c.args.completion) (sym c.self.view_is) c.requires.owed in
-    subst (λ x. Stands (record { image = p; parts = x })) (sym c.polled.ensures.rest)
-    (polled_again p c.self.inside.parts c.args.native turned c.args.completion c.polled.new.parts.active c.polled.ensures.word owed c.polled.ensures.finishes c.self.invariant)
+    subst (λ x. Stands (record { image = p; parts = x })) (sym c.polled.ensures.rest) (polled_again p c.self.inside.parts c.args.native turned c.args.completion
+    c.polled.new.parts.active c.polled.ensures.word owed c.polled.ensures.finishes c.self.invariant)
 
 pub returns-clause-polled : goal.returns-clause-polled
 returns-clause-polled c =
     let p = c.self.inside.accepted.now in
     let turned = subst (λ (m : Machine). progress m ≡ Turned) (sym c.self.view_is) c.requires.between in
     let owed = subst (λ (m : Machine). IsOwed m c.args.native c.args.completion) (sym c.self.view_is) c.requires.owed in
-    subst (λ (old : Machine). PollsAll c.args.native c.args.completion old (record { image = p; parts = c.polled.new.parts })) c.self.view_is
-    (subst (λ x. PollsAll c.args.native c.args.completion (record { image = p; parts = c.self.inside.parts }) (record { image = p; parts = x })) (sym c.polled.ensures.rest)
+    subst (λ (old : Machine). PollsAll c.args.native c.args.completion old (record { image = p; parts = c.polled.new.parts })) c.self.view_is (subst (λ x.
+    PollsAll c.args.native c.args.completion (record { image = p; parts = c.self.inside.parts }) (record { image = p; parts = x })) (sym c.polled.ensures.rest)
     (polls_well p c.self.inside.parts c.args.native turned c.args.completion c.polled.new.parts.active c.polled.ensures.word owed c.polled.ensures.finishes))
 
 pub returns-clause-none_due : goal.returns-clause-none_due
@@ -39,8 +39,9 @@ returns-clause-none_due c =
     let m = c.self.inside.parts in
     let owed = subst (λ (m : Machine). IsOwed m c.args.native c.args.completion) (sym c.self.view_is) c.requires.owed in
     let same = polled_timers p m c.args.native c.args.completion c.polled.new.parts.active owed c.polled.ensures.finishes in
-    subst (λ (old : Machine). ((s : State) → StandsFor old s → NoneDue s) → (s : State) → StandsFor (record { image = p; parts = c.polled.new.parts }) s → NoneDue s) c.self.view_is
-    (none_due_still (record { image = p; parts = m }) (record { image = p; parts = c.polled.new.parts }) c.self.invariant same (ap (λ (x : Parts). x.rest.clock) c.polled.ensures.rest))
+    subst (λ (old : Machine). ((s : State) → StandsFor old s → NoneDue s) → (s : State) → StandsFor (record { image = p; parts = c.polled.new.parts }) s →
+    NoneDue s) c.self.view_is (none_due_still (record { image = p; parts = m }) (record { image = p; parts = c.polled.new.parts }) c.self.invariant same
+    (ap (λ (x : Parts). x.rest.clock) c.polled.ensures.rest))
 
 pub returns-clause-timers : goal.returns-clause-timers
 returns-clause-timers c =

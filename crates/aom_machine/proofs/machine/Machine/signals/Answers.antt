@@ -9,12 +9,14 @@ use Rattle.aom_machine.proofs.machine.Machine.signals.Goals as goal
 pub returns-clause-signals : goal.returns-clause-signals
 returns-clause-signals c =
     let m : Machine = record { image = c.self.inside.accepted.now; parts = c.self.inside.parts } in
-    subst (λ (n : Machine). (s : State) → StandsFor n s → c.signals.result ≡ signal_count s.cells) c.self.view_is (λ s st. signals_told m c.signals.result c.signals.ensures s st)
+    subst (λ (n : Machine). (s : State) → StandsFor n s → c.signals.result ≡ signal_count s.cells) c.self.view_is
+    (λ s st. signals_told m c.signals.result c.signals.ensures s st)
 
 pub returns-clause-between : goal.returns-clause-between
 returns-clause-between c =
     let m : Machine = record { image = c.self.inside.accepted.now; parts = c.self.inside.parts } in
-    subst (λ (n : Machine). (s : State) → StandsFor n s → s.tasks ≡ [] → c.signals.result ≡ ready_count s.cells) c.self.view_is (λ s st. ready_between m c.signals.result c.signals.ensures s st)
+    subst (λ (n : Machine). (s : State) → StandsFor n s → s.tasks ≡ [] → c.signals.result ≡ ready_count s.cells) c.self.view_is
+    (λ s st. ready_between m c.signals.result c.signals.ensures s st)
 
 pub returns-clause-at_end : goal.returns-clause-at_end
 returns-clause-at_end c =

@@ -16,8 +16,8 @@ returns-clause-steps c = seen_as (λ (old : Machine) (p : Image). Stepped old c.
     (record { image = p; parts = c.step.new.parts })) c.linked.ensures c.self.view_is (c.step.ensures.one refl)
 
 pub returns-clause-falls : goal.returns-clause-falls
-returns-clause-falls c = λ running.
-    seen_as (λ (old : Machine) (p : Image). rank (record { image = p; parts = c.step.new.parts }) < rank old) c.linked.ensures c.self.view_is (c.step.ensures.falls running)
+returns-clause-falls c = λ running. seen_as (λ (old : Machine) (p : Image). rank (record { image = p; parts = c.step.new.parts }) < rank old) c.linked.ensures
+    c.self.view_is (c.step.ensures.falls running)
 
 pub returns-clause-agrees : goal.returns-clause-agrees
 returns-clause-agrees c = agrees_in_all _

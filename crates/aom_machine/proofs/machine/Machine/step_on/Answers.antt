@@ -17,8 +17,8 @@ returns-clause-steps c = seen_as (λ (old : Machine) (p : Image). SteppedOn old 
     (record { image = p; parts = c.step_on.new.parts })) c.linked.ensures c.self.view_is (c.step_on.ensures.steps)
 
 pub returns-clause-falls : goal.returns-clause-falls
-returns-clause-falls c = λ running.
-    seen_as (λ (old : Machine) (p : Image). rank (record { image = p; parts = c.step_on.new.parts }) < rank old) c.linked.ensures c.self.view_is (c.step_on.ensures.falls running)
+returns-clause-falls c = λ running. seen_as (λ (old : Machine) (p : Image). rank (record { image = p; parts = c.step_on.new.parts }) < rank old)
+    c.linked.ensures c.self.view_is (c.step_on.ensures.falls running)
 
 pub returns-clause-agrees : goal.returns-clause-agrees
 returns-clause-agrees c = agrees_in_all _

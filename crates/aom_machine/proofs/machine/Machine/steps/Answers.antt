@@ -9,4 +9,5 @@ use Rattle.aom_machine.proofs.machine.Machine.steps.Goals as goal
 pub returns-clause-within : goal.returns-clause-within
 returns-clause-within c =
     let m : Machine = record { image = c.self.inside.accepted.now; parts = c.self.inside.parts } in
-    rw c.steps.ensures (subst (λ (n : Machine). (s : State) → StandsFor n s → m.parts.rest.steps ≤ declared_of n.image (payer s.tasks)) c.self.view_is (λ s st. steps_within m s st))
+    rw c.steps.ensures (subst (λ (n : Machine). (s : State) → StandsFor n s → m.parts.rest.steps ≤ declared_of n.image (payer s.tasks)) c.self.view_is
+    (λ s st. steps_within m s st))

@@ -13,7 +13,8 @@ unreachable-requires c = let none : position (λ (e : OwedRequest). c.args.id ==
     owed-entry c.args.self.now c.args.id c.requires (find-none (λ (e : OwedRequest). c.args.id == e.id) c.args.self.now none)
 
 -- the entry that is removed
-removed : (id at : ℕ) (items now : List OwedRequest) (e : OwedRequest) → items ≡ now → position (λ e. id == e.id) items ≡ Some at → e ≡ get_or items at e → (e.id ≡ id) × TakesOut e now (remove items at)
+removed : (id at : ℕ) (items now : List OwedRequest) (e : OwedRequest) → items ≡ now → position (λ e. id == e.id) items ≡ Some at → e ≡ get_or items at e →
+    (e.id ≡ id) × TakesOut e now (remove items at)
 removed id at items now e is found value = (entry-id items id at e found value, rw (← is) (takes-out items at e (position-Some _ items at e found).0 (sym value)))
 
 pub returns-clause-entry : goal.returns-clause-entry

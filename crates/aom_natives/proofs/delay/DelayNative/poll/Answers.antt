@@ -8,17 +8,21 @@ use Rattle.aom_natives.proofs.delay.DelayNative.poll.Goals as goal
 
 pub returns-in-Some-clause-answer : goal.returns-in-Some-clause-answer
 returns-in-Some-clause-answer c =
-    let found : position is_due c.self.inside.entries.items ≡ Some c.in-Some.at = sym (ap (position is_due) c.as_slice.ensures.value) ∙ sym c.first_due.ensures ∙ c.in-Some.is in
+    let found : position is_due c.self.inside.entries.items ≡ Some c.in-Some.at = sym (ap (position is_due) c.as_slice.ensures.value)
+    ∙ sym c.first_due.ensures ∙ c.in-Some.is in
     rw (← c.self.view_is, ← found-at is_due _ _ _ found c.remove.ensures.value) (ap Some c.completed.ensures)
 
 pub returns-in-Some-clause-owed : goal.returns-in-Some-clause-owed
 returns-in-Some-clause-owed c =
-    let found : position is_due c.self.inside.entries.items ≡ Some c.in-Some.at = sym (ap (position is_due) c.as_slice.ensures.value) ∙ sym c.first_due.ensures ∙ c.in-Some.is in
-    rw (← c.self.view_is, c.remove.ensures.items, c.completed.ensures) (ids-out _ _ _ (takes-out _ _ _ (position-Some is_due _ _ c.remove.result found).0 (sym c.remove.ensures.value)))
+    let found : position is_due c.self.inside.entries.items ≡ Some c.in-Some.at = sym (ap (position is_due) c.as_slice.ensures.value)
+    ∙ sym c.first_due.ensures ∙ c.in-Some.is in
+    rw (← c.self.view_is, c.remove.ensures.items, c.completed.ensures)
+    (ids-out _ _ _ (takes-out _ _ _ (position-Some is_due _ _ c.remove.result found).0 (sym c.remove.ensures.value)))
 
 pub returns-in-None-clause-answer : goal.returns-in-None-clause-answer
 returns-in-None-clause-answer c =
-    let none : position is_due c.args.self.now ≡ None = sym (ap (position is_due) (c.as_slice.ensures.value ∙ c.self.view_is)) ∙ sym c.first_due.ensures ∙ c.in-None.is in
+    let none : position is_due c.args.self.now ≡ None = sym (ap (position is_due) (c.as_slice.ensures.value ∙ c.self.view_is))
+    ∙ sym c.first_due.ensures ∙ c.in-None.is in
     ap (option_map completed) (sym (find-none is_due c.args.self.now none))
 
 pub returns-in-None-clause-owed : goal.returns-in-None-clause-owed

@@ -7,11 +7,11 @@ use Rattle.aom_natives.proofs.natives.Natives.adopt.Goals as goal
 pub loop-ids-preserved : goal.loop-ids-preserved
 loop-ids-preserved g c =
     let now = c.loop-ids in
-    let pushed : c.push.new.self.items ≡ now.slots.items ++ Some (record { native = c.remove-native.result; ids = c.in-Some.ids }) ∷ [] = rw c.unwrap.ensures at c.push.ensures.items in
+    let pushed : c.push.new.self.items ≡ now.slots.items ++ Some (record { native = c.remove-native.result; ids = c.in-Some.ids }) ∷ [] =
+    rw c.unwrap.ensures at c.push.ensures.items in
     let popped = c.in-Some.ensures.items in
-    let first : now.boxes.items ≡ c.remove-native.result ∷ c.remove-native.new.self.items =
-    rw c.remove-native.ensures.items (front now.boxes.items c.remove-native.result (omega (arith, c.remove-native.ensures.len)) c.remove-native.ensures.value)
-    in
+    let first : now.boxes.items ≡ c.remove-native.result ∷ c.remove-native.new.self.items = rw c.remove-native.ensures.items
+    (front now.boxes.items c.remove-native.result (omega (arith, c.remove-native.ensures.len)) c.remove-native.ensures.value) in
     let rooms : c.pop.new.self.items ++ c.in-Some.ids ∷ [] ≡ replicate (vec_len c.remove-native.new.self + 1) [] =
     sym popped ∙ now.invariant.rooms ∙ ap (λ n. replicate n []) (sym c.remove-native.ensures.len) in
     let left = vec_len c.remove-native.new.self in
@@ -22,7 +22,8 @@ loop-ids-preserved g c =
       room = omega (arith, c.push.ensures.len, c.push.ensures.capacity, c.remove-native.ensures.len, now.invariant.room);
       rooms = others-are [] c.in-Some.ids left c.pop.new.self.items rooms;
       nothing = rw pushed (nothing-more now.slots.items _ (λ x. x.ids) fresh now.invariant.nothing);
-      agree = rw pushed (agree-more now.slots.items _ (λ x. x.ids) (λ x. (goal.Native-dyn g (x.native.vtable, x.native.value)).owed x.native.value) fresh owe.0 now.invariant.agree);
+      agree = rw pushed (agree-more now.slots.items _ (λ x. x.ids) (λ x. (goal.Native-dyn g (x.native.vtable, x.native.value)).owed x.native.value) fresh
+          owe.0 now.invariant.agree);
       owe = owe.1;
     }
 

@@ -24,11 +24,13 @@ returns-in-Tell-clause-delivered g c =
     }
 
 pub returns-in-Kill-clause-delivered : goal.returns-in-Kill-clause-delivered
-returns-in-Kill-clause-delivered g c = subst (λ e. IsDelivered c.args.self.now e c.kill.result c.args.turn.now c.kill.new.turn c.kill.new.self) (sym c.in-Kill.is) c.kill.ensures.delivered
+returns-in-Kill-clause-delivered g c =
+    subst (λ e. IsDelivered c.args.self.now e c.kill.result c.args.turn.now c.kill.new.turn c.kill.new.self) (sym c.in-Kill.is) c.kill.ensures.delivered
 
 -- a client does what it is told
 pub returns-in-Client-clause-delivered : goal.returns-in-Client-clause-delivered
-returns-in-Client-clause-delivered g c = subst (λ e. IsDelivered c.args.self.now e c.obey.result c.args.turn.now c.obey.new.turn c.obey.new.self) (sym c.in-Client.is) c.obey.ensures.delivered
+returns-in-Client-clause-delivered g c =
+    subst (λ e. IsDelivered c.args.self.now e c.obey.result c.args.turn.now c.obey.new.turn c.obey.new.self) (sym c.in-Client.is) c.obey.ensures.delivered
 
 pub obey-requires-clause-ranged : goal.obey-requires-clause-ranged
 obey-requires-clause-ranged g c = subst EventInRange c.in-Client.is c.requires.ranged

@@ -9,9 +9,9 @@ argument_kinds-requires c =
     rw c.as_slice.ensures (omega (arith, few))
 
 pub returns-clause-no_more : goal.returns-clause-no_more
-returns-clause-no_more c =
-    (begun c.args.linked.now c.args.method c.method-declared.result.now _ c.method-declared.ensures (rw c.as_slice.ensures at c.argument_kinds.ensures) c.entry_fields.ensures refl refl).0
+returns-clause-no_more c = (begun c.args.linked.now c.args.method c.method-declared.result.now _ c.method-declared.ensures
+    (rw c.as_slice.ensures at c.argument_kinds.ensures) c.entry_fields.ensures refl refl).0
 
 pub returns-clause-no_less : goal.returns-clause-no_less
-returns-clause-no_less c =
-    (begun c.args.linked.now c.args.method c.method-declared.result.now _ c.method-declared.ensures (rw c.as_slice.ensures at c.argument_kinds.ensures) c.entry_fields.ensures refl refl).1
+returns-clause-no_less c = (begun c.args.linked.now c.args.method c.method-declared.result.now _ c.method-declared.ensures
+    (rw c.as_slice.ensures at c.argument_kinds.ensures) c.entry_fields.ensures refl refl).1

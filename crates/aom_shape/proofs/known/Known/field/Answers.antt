@@ -4,5 +4,4 @@ use Rattle.aom_shape.proofs.Lists.{at_within}
 use Rattle.aom_shape.proofs.known.Known.field.Goals as goal
 
 pub returns : goal.returns
-returns c =
-    rw (← c.self.view_is, ← c.number.ensures.value) (at_within Perhaps _ c.self.inside.fields c.number.result (omega (arith, c.self.invariant.1)))
+returns c = rw (← c.self.view_is, ← c.number.ensures.value) (at_within Perhaps _ c.self.inside.fields c.number.result (omega (arith, c.self.invariant.1)))

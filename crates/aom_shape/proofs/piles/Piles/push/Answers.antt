@@ -13,10 +13,12 @@ returns-clause-kept c = rw (c.in_ok-push.ensures.items, c.self.view_is) (extends
 
 pub returns-clause-stands : goal.returns-clause-stands
 returns-clause-stands c =
-    let to = counted c.len-top.result c.args.pile.height c.self.inside.nodes.items c.args.self.now (omega (arith, c.len-top.ensures, c.self.inside.nodes.ok)) c.self.view_is in
+    let to = counted c.len-top.result c.args.pile.height c.self.inside.nodes.items c.args.self.now
+    (omega (arith, c.len-top.ensures, c.self.inside.nodes.ok)) c.self.view_is in
     rw (c.in_ok-push.ensures.items, c.self.view_is, to.0, to.1) (pushed_stands c.args.self.now c.args.pile c.args.entry c.requires.stands)
 
 pub returns-clause-value : goal.returns-clause-value
 returns-clause-value c =
-    let to = counted c.len-top.result c.args.pile.height c.self.inside.nodes.items c.args.self.now (omega (arith, c.len-top.ensures, c.self.inside.nodes.ok)) c.self.view_is in
+    let to = counted c.len-top.result c.args.pile.height c.self.inside.nodes.items c.args.self.now
+    (omega (arith, c.len-top.ensures, c.self.inside.nodes.ok)) c.self.view_is in
     rw (c.in_ok-push.ensures.items, c.self.view_is, to.0, to.1) (pushed_entries c.args.self.now c.args.pile c.args.entry c.requires.stands)

@@ -13,5 +13,5 @@ loop-index-preserved c = rw c.without_argument-left.ensures (c.loop-index.invari
     c.number-first.result c.loop-index.index c.index-arguments-index.result c.loop-index.left c.loop-index-test.true c.index-arguments-index.is)
 
 pub returns : goal.returns
-returns c =
-    rw (← c.number-first.ensures.value, ← c.same-left.ensures) (sym (c.loop-index.invariant ∙ moves_done c.args.arguments.now c.loop-index.index _ c.loop-index.left c.loop-index-test.false))
+returns c = rw (← c.number-first.ensures.value, ← c.same-left.ensures)
+    (sym (c.loop-index.invariant ∙ moves_done c.args.arguments.now c.loop-index.index _ c.loop-index.left c.loop-index-test.false))

@@ -20,7 +20,8 @@ returns-in_err-judge_arguments c =
     let call = c.args.call.now in
     let site = c.args.self.now in
     let asked : tested (rule_arguments site.image site.shape c.args.callee.now.arguments call.first) ≡ c.judge_arguments.result =
-    ap (λ (s : Site). tested (rule_arguments s.image s.shape c.args.callee.now.arguments call.first)) (sym c.self.view_is) ∙ rw (← c.as_slice-arguments.ensures) (sym c.judge_arguments.ensures) in
+    ap (λ (s : Site). tested (rule_arguments s.image s.shape c.args.callee.now.arguments call.first)) (sym c.self.view_is)
+    ∙ rw (← c.as_slice-arguments.ensures) (sym c.judge_arguments.ensures) in
     rw (p.1, p.2) (sym (arguments_refused site.image site.method site.shape call.target call.method call.first c.args.callee.now _ _
     (sym c.judge_target.ensures ∙ c.in_ok-judge_target.was) (asked ∙ c.in_err-judge_arguments.was)))
 
@@ -28,8 +29,10 @@ pub returns : goal.returns
 returns c =
     let call = c.args.call.now in
     let site = c.args.self.now in
-    let moved : c.without_arguments.result ≡ arguments_moved c.args.callee.now.arguments call.first site.shape = rw (← c.self.view_is, ← c.as_slice-arguments.ensures) c.without_arguments.ensures in
+    let moved : c.without_arguments.result ≡ arguments_moved c.args.callee.now.arguments call.first site.shape =
+    rw (← c.self.view_is, ← c.as_slice-arguments.ensures) c.without_arguments.ensures in
     let asked : tested (rule_arguments site.image site.shape c.args.callee.now.arguments call.first) ≡ c.judge_arguments.result =
-    ap (λ (s : Site). tested (rule_arguments s.image s.shape c.args.callee.now.arguments call.first)) (sym c.self.view_is) ∙ rw (← c.as_slice-arguments.ensures) (sym c.judge_arguments.ensures) in
+    ap (λ (s : Site). tested (rule_arguments s.image s.shape c.args.callee.now.arguments call.first)) (sym c.self.view_is)
+    ∙ rw (← c.as_slice-arguments.ensures) (sym c.judge_arguments.ensures) in
     rw moved (sym (both_met site.image site.method site.shape call.target call.method call.first c.args.callee.now _ _
     (sym c.judge_target.ensures ∙ c.in_ok-judge_target.was) (asked ∙ c.in_ok-judge_arguments.was)))

@@ -28,5 +28,5 @@ returns c =
     let same = entries_kept site.image site.method site.shape call.target call.method call.first c.method-callee.result.now c.in_ok-moved.moved given in
     let lasting : next_shape site.shape.entries c.while_called-lasting.result ≡ while_called
     call.target c.method-callee.result.now.class c.method-callee.result.now.after.0 c.in_ok-moved.moved = rw same c.while_called-lasting.ensures.value in
-    rw (c.on.ensures site.shape.entries, c.brought.ensures site.shape.entries, lasting)
-    (sym ((call_decides c.args.self.now c.args.call.now c.method-callee.result.now there).met c.in_ok-moved.moved _ given (sym c.judge_moved.ensures ∙ c.in_ok-judge_moved.was)))
+    rw (c.on.ensures site.shape.entries, c.brought.ensures site.shape.entries, lasting) (sym ((call_decides c.args.self.now c.args.call.now
+    c.method-callee.result.now there).met c.in_ok-moved.moved _ given (sym c.judge_moved.ensures ∙ c.in_ok-judge_moved.was)))

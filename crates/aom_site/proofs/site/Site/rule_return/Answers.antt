@@ -24,5 +24,6 @@ returns c =
     let site = c.args.self.now in
     let left : tested (rule_left site.image site.method site.place site.shape c.args.a) ≡ c.judge_all.result =
     rw (← c.entries_done.ensures, ← c.result_moved-left.ensures, ← c.none_owns.ensures) (sym c.judge_all.ensures) in
-    let here = returned site.image site.method site.place site.shape c.args.a _ _ (sym c.judge_result.ensures ∙ c.in_ok-judge_result.was) (left ∙ c.in_ok-judge_all.was) in
+    let here = returned site.image site.method site.place site.shape c.args.a _ _ (sym c.judge_result.ensures ∙ c.in_ok-judge_result.was)
+    (left ∙ c.in_ok-judge_all.was) in
     rw (here, c.judge.ensures site.shape.entries, c.none.ensures site.shape.entries) (cc)

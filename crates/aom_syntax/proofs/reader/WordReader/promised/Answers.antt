@@ -10,5 +10,4 @@ returns c = rw (
   ← c.usual_states-usual_before.ensures.after,
   ← c.usual_words.ensures,
   ← c.usual_gives.ensures,
-)
-    (rw (c.in_ok-before.ensures, c.in_ok-after.ensures, c.in_ok-arguments.ensures, c.in_ok-gives.ensures, c.from_vec.ensures) (search rules))
+) (rw (c.in_ok-before.ensures, c.in_ok-after.ensures, c.in_ok-arguments.ensures, c.in_ok-gives.ensures, c.from_vec.ensures) (search rules))

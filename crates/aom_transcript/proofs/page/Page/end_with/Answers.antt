@@ -7,6 +7,4 @@ pub returns : goal.returns
 returns c =
     let n = c.args.digit in
     let digit : List ℕ = (48 + n) ∷ 10 ∷ [] in
-    c.add.ensures.text
-    ∙ ap (λ text. text ++ digit) c.self.view_is
-    ∙ ap (λ ds. c.args.self.now ++ (ds ++ 10 ∷ [])) (sym (decimal_digit n c.requires.small))
+    c.add.ensures.text ∙ ap (λ text. text ++ digit) c.self.view_is ∙ ap (λ ds. c.args.self.now ++ (ds ++ 10 ∷ [])) (sym (decimal_digit n c.requires.small))

@@ -15,6 +15,7 @@ pub returns : goal.returns
 returns c =
     let some : IsSome (method_at c.self.inside.linked c.args.method) = subst (λ (q : Image). IsSome (method_at q c.args.method)) (sym c.self.view_is) c.requires in
     let strongest = c.self.invariant.each c.args.method some in
-    let within : c.number.result < length c.self.inside.sheets.items = omega (arith, has_states _ c.self.inside.sheets.items c.args.method strongest, c.number.ensures.value) in
+    let within : c.number.result < length c.self.inside.sheets.items =
+    omega (arith, has_states _ c.self.inside.sheets.items c.args.method strongest, c.number.ensures.value) in
     let read = c.index.ensures ∙ at_within [] _ c.self.inside.sheets.items c.number.result within in
     rw (← c.self.view_is, read, c.number.ensures.value) strongest
