@@ -4,3 +4,4 @@ mod Slots
 mod There
 mod Counts
 mod Entries
+mod Worked

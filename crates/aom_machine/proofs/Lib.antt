@@ -39,6 +39,7 @@ mod Obeyed
 mod Obeying
 mod Queued
 mod Begun
+mod Staying
 pub mod MachineLemmas
 pub use Rattle.aom_active.proofs.ActiveLemmas
 pub use Rattle.aom_classes.proofs.ClassesLemmas

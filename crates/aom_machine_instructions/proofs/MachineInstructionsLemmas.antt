@@ -17,6 +17,6 @@ pub use Rattle.aom_machine_instructions.proofs.Housing.{finds_home}
 pub use Rattle.aom_machine_instructions.proofs.RoomMoves.{dispatches_with_room, none_formed}
 pub use Rattle.aom_machine_instructions.proofs.Rooms.{boot_room, has_room, room_kept}
 pub use Rattle.aom_machine_instructions.proofs.Ends.{at_end, which}
-pub use Rattle.aom_machine_instructions.proofs.Finding.{cell_lives, class_fits, finds_instr, finds_method, going_within, not_trapped, object_lives, root_lives}
-pub use Rattle.aom_machine_instructions.proofs.Finding.{runs_within}
+pub use Rattle.aom_machine_instructions.proofs.Finding.{cell_lives, class_fits, finds_instr, going_within, length_in, not_trapped, object_lives, root_lives}
+pub use Rattle.aom_machine_instructions.proofs.Finding.{runs_within, within_code}
 pub use Rattle.aom_machine_instructions.proofs.Firsts.{ClosesOver, closing_found, found_session, its_session, no_session, session_lives}
