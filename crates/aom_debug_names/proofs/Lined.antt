@@ -1,8 +1,11 @@
--- The instruction that is found by a line stands in it: what is sought in the rest of a text is in the part at hand, or in a later one.
-use Rattle.std.proofs.Common.{◌≡◌, ◌∙◌, ◌+◌, ◌==◌, ℕ, zero, suc, Bool, true, false, cond, nat_le, nat_lt, List}
-use Rattle.std.proofs.Common.{[], ◌∷◌, Option, Some, None, add-one, ap, arith, refl, slice_get, subst, sym}
+-- The instruction that is found by a line stands in it: what is sought in the rest of a text is in the part at hand, or in a later one. And one is found where
+-- one stands.
+use Rattle.std.proofs.lemmas.Bool.Decides.{nat_tests}
+use Rattle.std.proofs.Common.{◌≡◌, ◌∙◌, ◌+◌, ◌==◌, ◌&&◌, ◌<◌, ◌≤◌, ℕ, zero, suc, Bool, true, false, cond, length, nat_le, nat_lt, IsSome, List}
+use Rattle.std.proofs.Common.{[], ◌∷◌, Option, Some, None, add-one, ap, arith, refl, slice_get, slice_index_or, subst, sym}
 use Rattle.std.specs.Prelude.{option_map}
-use Rattle.std.proofs.lemmas.Bool.{eqb-true}
+use Rattle.std.proofs.lemmas.Bool.{eq-eqb, eqb-true}
+use Rattle.std.proofs.lemmas.List.Splits.{slice_split-cons_yes}
 use Rattle.std.proofs.lemmas.Option.{none-some, same_Some}
 use Rattle.aom_syntax.specs.declared.keyword.Keyword.TheVariants as k
 use Rattle.aom_text.specs.Text.{statements}
@@ -61,22 +64,29 @@ went_on : (b : Bool) (o : Option Spot) (spot : Spot) → cond b o None ≡ Some 
 went_on true o spot is = is
 went_on false o spot is = absurd (none-some spot is)
 
+first_holds : (a b : Bool) → a && b ≡ true → a ≡ true
+first_holds true b e = refl
+first_holds false b e = e
+
 -- what is found behind a statement stands there, where what is found in the rest does
 one_behind : (line methods place : ℕ) (s : Statement) (ss : List Statement) (spot : Spot) → (spot_from line (methods + 1) 0 ss ≡ Some spot →
     Stands line (methods + 1) 0 ss spot) → (spot_from line methods (place + 1) ss ≡ Some spot → Stands line methods (place + 1) ss spot) →
     spot_from line methods place (s ∷ ss) ≡ Some spot → Stands line methods place (s ∷ ss) spot
 one_behind line methods place s ss spot next further is = method (begins k.Method s) refl is
   where
-    other : begins k.Method s ≡ false → (b : Bool) → (s.line == line) ≡ b → cond b
+    other : begins k.Method s ≡ false → (b : Bool) → ((s.line == line) && nat_lt 0 methods) ≡ b → cond b
         (place_in methods place) (cond (nat_lt place 65536) (spot_from line methods (place + 1) ss) None) ≡ Some spot → Stands line methods place (s ∷ ss) spot
-    other stands true at e = let there = placed methods place spot e in at_last line methods place s ss spot stands (eqb-true s.line line at) there.0 there.1
+    other stands true at e =
+        let there = placed methods place spot e in
+        at_last line methods place s ss spot stands (eqb-true s.line line (first_holds (s.line == line) (nat_lt 0 methods) at)) there.0 there.1
     other stands false at e =
         behind_other line methods place s ss spot stands (further (went_on (nat_lt place 65536) (spot_from line methods (place + 1) ss) spot e))
 
-    method : (b : Bool) → begins k.Method s ≡ b → cond b (cond (nat_lt methods 65536) (spot_from line (methods + 1) 0 ss) None) (cond (s.line == line)
-        (place_in methods place) (cond (nat_lt place 65536) (spot_from line methods (place + 1) ss) None)) ≡ Some spot → Stands line methods place (s ∷ ss) spot
+    method : (b : Bool) → begins k.Method s ≡ b → cond b (cond (nat_lt methods 65536) (spot_from line (methods + 1) 0 ss) None)
+        (cond ((s.line == line) && nat_lt 0 methods) (place_in methods place) (cond (nat_lt place 65536) (spot_from line methods (place + 1) ss) None))
+        ≡ Some spot → Stands line methods place (s ∷ ss) spot
     method true starts e = behind_method line methods place s ss spot starts (next (went_on (nat_lt methods 65536) (spot_from line (methods + 1) 0 ss) spot e))
-    method false stands e = other stands (s.line == line) refl e
+    method false stands e = other stands ((s.line == line) && nat_lt 0 methods) refl e
 
 -- what is found in the rest of a text stands there
 found : (line methods place : ℕ) (ss : List Statement) (spot : Spot) → spot_from line methods place ss ≡ Some spot → Stands line methods place ss spot
@@ -95,3 +105,65 @@ in_text text line spot (later number m l) =
 pub found_in_line : (text : List ℕ) (line : ℕ) (spot : Spot) → spot_in text line ≡ Some spot →
     option_map (λ s. s.line) (statement_at (names_of text) spot) ≡ Some line
 found_in_line text line spot is = in_text text line spot (found line 0 0 (statements text) spot is)
+
+-- ---- where one stands, one is found
+
+no_line : (line number at : ℕ) → HasLine line [] number at → ⊥
+no_line line zero at has = none-some line has
+no_line line (suc number) at has = none-some line has
+
+place_there : (methods place : ℕ) → 0 < methods → methods ≤ 65536 → IsSome (place_in methods place)
+place_there zero place some few = absurd (omega (arith, some))
+place_there (suc method) place some few = grind (arith, nat_tests)
+
+-- a statement more before the rest: one is found there, or in the rest
+module _ (line methods place : ℕ) (s : Statement) (ss : List Statement) (many : suc (length ss) + methods ≤ 65536) (long : suc (length ss) + place ≤ 65536) where
+  abbrev Rest : Type 0
+  Rest = (number at : ℕ) → 0 < methods + number → HasLine line ss number at → IsSome (spot_from line methods (place + 1) ss)
+
+  -- one that declares a method ends the part at hand
+  past_method : begins k.Method s ≡ true → (number at : ℕ) → HasLine line (s ∷ ss) number at →
+      ((number at : ℕ) → HasLine line ss number at → IsSome (spot_from line (methods + 1) 0 ss)) → IsSome (spot_from line (methods + 1) 0 ss)
+  past_method starts zero at has next = absurd (none-some line (sym (ap (λ ps. option_map (λ (x : Statement). x.line) (slice_get (slice_index_or ps 0 []) at))
+      (slice_split-cons_yes (begins k.Method) s ss starts)) ∙ has))
+  past_method starts (suc number) at has next =
+      next number at (sym (ap (λ xs. option_map (λ (x : Statement). x.line) (slice_get xs at)) (part_yes (begins k.Method) s ss number starts)) ∙ has)
+
+  -- one that does not is passed, unless it is the one
+  past_other : begins k.Method s ≡ false → ((s.line == line) && nat_lt 0 methods) ≡ false → (number at : ℕ) → 0 < methods + number →
+      HasLine line (s ∷ ss) number at → Rest → IsSome (spot_from line methods (place + 1) ss)
+  past_other stands other zero zero some has rest =
+      let is : Some s.line ≡ Some line = sym (ap (λ xs. option_map (λ (x : Statement). x.line) (slice_get xs 0)) (part_first (begins k.Method) s ss stands)) ∙ has in
+      absurd (no_other (same_Some s.line line is))
+    where
+      no_other : s.line ≡ line → ⊥
+      no_other same = grind (arith, nat_tests, eq-eqb s.line line same, other, some)
+  past_other stands other zero (suc at) some has rest =
+      rest 0 at some (sym (ap (λ xs. option_map (λ (x : Statement). x.line) (slice_get xs (suc at))) (part_first (begins k.Method) s ss stands)) ∙ has)
+  past_other stands other (suc number) at some has rest =
+      rest (suc number) at some (sym (ap (λ xs. option_map (λ (x : Statement). x.line) (slice_get xs at)) (part_no (begins k.Method) s ss number stands)) ∙ has)
+
+  one_sought : (number at : ℕ) → 0 < methods + number → HasLine line (s ∷ ss) number at →
+      ((number at : ℕ) → HasLine line ss number at → IsSome (spot_from line (methods + 1) 0 ss)) → Rest → IsSome (spot_from line methods place (s ∷ ss))
+  one_sought number at some has next rest = method (begins k.Method s) refl
+    where
+      other : begins k.Method s ≡ false → (b : Bool) → ((s.line == line) && nat_lt 0 methods) ≡ b →
+          IsSome (cond b (place_in methods place) (cond (nat_lt place 65536) (spot_from line methods (place + 1) ss) None))
+      other stands true is = place_there methods place (grind (arith, nat_tests, is)) (omega (arith, many))
+      other stands false is = let found = past_other stands is number at some has rest in grind (arith, nat_tests, found, long)
+
+      method : (b : Bool) → begins k.Method s ≡ b → IsSome (cond b (cond (nat_lt methods 65536) (spot_from line (methods + 1) 0 ss) None)
+          (cond ((s.line == line) && nat_lt 0 methods) (place_in methods place) (cond (nat_lt place 65536) (spot_from line methods (place + 1) ss) None)))
+      method true starts = let found = past_method starts number at has next in grind (arith, nat_tests, found, many)
+      method false stands = other stands ((s.line == line) && nat_lt 0 methods) refl
+
+sought : (line methods place : ℕ) (ss : List Statement) → length ss + methods ≤ 65536 → length ss + place ≤ 65536 → (number at : ℕ) → 0 < methods + number →
+    HasLine line ss number at → IsSome (spot_from line methods place ss)
+sought line methods place [] many long number at some has = absurd (no_line line number at has)
+sought line methods place (s ∷ ss) many long number at some has = one_sought line methods place s ss many long number at some has
+    (λ n i there. sought line (methods + 1) 0 ss (omega (arith, many)) (omega (arith, many)) n i (omega arith) there)
+    (λ n i more there. sought line methods (place + 1) ss (omega (arith, many)) (omega (arith, long)) n i more there)
+
+pub finds_line : (text : List ℕ) (line : ℕ) (spot : Spot) → length (statements text) ≤ 65536 →
+    option_map (λ s. s.line) (statement_at (names_of text) spot) ≡ Some line → IsSome (spot_in text line)
+finds_line text line spot few has = sought line 0 0 (statements text) (omega (arith, few)) (omega (arith, few)) (spot.method + 1) spot.place (omega arith) has

@@ -1,5 +1,6 @@
--- That nothing is told by names where there is no text, and that an instruction that is found by a line stands in it.
-use Rattle.std.specs.Prelude.{ℕ, ◌≡◌, ◌<◌, List, Option, Some, codes, length, option_map}
+-- That nothing is told by names where there is no text, and that an instruction that is found by a line stands in it, and one is found where one stands.
+use Rattle.std.specs.Prelude.{ℕ, ◌≡◌, ◌<◌, ◌≤◌, IsSome, List, Option, Some, codes, length, option_map}
+use Rattle.aom_text.specs.Text.{statements}
 use Rattle.aom_debug_words.specs.Answers.{answer_text}
 use Rattle.aom_debug_words.specs.Commands.{command_said}
 use Rattle.aom_debug_words.specs.declared.answer.Answer.{Answer}
@@ -17,3 +18,8 @@ pub record NoTextIsAsEver : Type 0 where
 -- the instruction that is found by a line stands in it
 abbrev pub FoundInItsLine : Type 0
 FoundInItsLine = (text : List ℕ) (line : ℕ) (spot : Spot) → spot_in text line ≡ Some spot → option_map (λ s. s.line) (statement_at (names_of text) spot) ≡ Some line
+
+-- and a line in which an instruction stands is found, in a text of no more statements than the numbers of methods and places reach
+abbrev pub FindsEachLine : Type 0
+FindsEachLine = (text : List ℕ) (line : ℕ) (spot : Spot) → length (statements text) ≤ 65536 →
+    option_map (λ s. s.line) (statement_at (names_of text) spot) ≡ Some line → IsSome (spot_in text line)

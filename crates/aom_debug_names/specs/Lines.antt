@@ -1,5 +1,5 @@
 -- Which instruction stands in a line of a text.
-use Rattle.std.specs.Prelude.{ℕ, zero, suc, ◌+◌, ◌==◌, nat_le, nat_lt, if◌then◌else◌, List, [], ◌∷◌, Option, Some, None}
+use Rattle.std.specs.Prelude.{ℕ, zero, suc, ◌+◌, ◌==◌, ◌&&◌, nat_le, nat_lt, if◌then◌else◌, List, [], ◌∷◌, Option, Some, None}
 use Rattle.aom_syntax.specs.declared.keyword.Keyword.TheVariants as k
 use Rattle.aom_text.specs.Text.{statements}
 use Rattle.aom_text.specs.declared.text.Statement.{Statement}
@@ -21,7 +21,7 @@ abbrev pub spot_from : (line methods place : ℕ) → List Statement → Option 
 spot_from line methods place [] = None
 spot_from line methods place (s ∷ ss) =
     if begins k.Method s then (if nat_lt methods 65536 then spot_from line (methods + 1) 0 ss else None)
-    else if s.line == line then place_in methods place
+    else if (s.line == line) && nat_lt 0 methods then place_in methods place
     else if nat_lt place 65536 then spot_from line methods (place + 1) ss
     else None
 

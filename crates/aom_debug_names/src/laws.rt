@@ -1,5 +1,5 @@
 //! What holds of names and lines.
-ghost use Rattle.aom_debug_names.specs.Laws.{FoundInItsLine, NoTextIsAsEver};
+ghost use Rattle.aom_debug_names.specs.Laws.{FindsEachLine, FoundInItsLine, NoTextIsAsEver};
 
 /// Without a text answers are spelled, and commands read, as ever.
 pub fn no_text_is_as_ever()
@@ -9,4 +9,9 @@ pub fn no_text_is_as_ever()
 /// The instruction that is found by a line stands in it.
 pub fn found_in_its_line()
     ensures { FoundInItsLine }
+{}
+
+/// A line in which an instruction stands is found.
+pub fn finds_each_line()
+    ensures { FindsEachLine }
 {}

@@ -14,5 +14,5 @@ mod names;
 
 pub use answer::{NamedLine, add_class_name, named_line, shown_statement};
 pub use command::{read_named, take_named};
-pub use laws::{found_in_its_line, no_text_is_as_ever};
+pub use laws::{finds_each_line, found_in_its_line, no_text_is_as_ever};
 pub use names::SourceNames;

@@ -43,7 +43,7 @@ pub fn spot_in(text: &[u8], line: u32) -> Option<Spot>
         if begins_with(Keyword::Method, &statement.words) {
             methods = next(methods)?;
             place = 0;
-        } else if statement.line == line {
+        } else if statement.line == line && methods > 0 {
             return place_in(methods, place);
         } else {
             place = next(place)?;
