@@ -7,7 +7,7 @@ use std::alloc::{AllocError, Global};
 use std::collections::BTreeMap;
 use std::marker::Model;
 
-/// NameList in the order in which they are declared, and the place at which each is declared first.
+/// Names in the order in which they are declared, and the place at which each is declared first.
 #[derive(Drop)]
 pub struct NameList<'a> {
     names: Vec<&'a [u8]>,

@@ -1,7 +1,7 @@
 //! The lowest layer of the texts: from bytes to lines, statements, their words, numbers and names.
 //!
 //! `StatementCursor` gives the statements of a text one after another, each with its line, and a statement gives its words.
-//! `specs/StatementCursor.antt` says which they are by splitting: into lines, at the comment's mark, at semicolons, at blanks.
+//! `specs/Text.antt` says which they are by splitting: into lines, at the comment's mark, at semicolons, at blanks.
 //! It takes no memory, and it knows nothing of what the words mean.
 #![tactic(auto)]
 

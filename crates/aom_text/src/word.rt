@@ -1,4 +1,4 @@
-//! WordCursor.
+//! Words.
 ghost use Rattle.std.specs.Prelude.{◌≡◌, not, option_map};
 ghost use Rattle.std.specs.List.{list_all, position};
 ghost use Rattle.aom_text.specs.Words.{is_blank, is_plain, words, split_by, first_of, is_none_left, others_of};
