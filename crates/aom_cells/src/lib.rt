@@ -15,7 +15,7 @@
 //! `Sessions` says which cells have a session open at their native, and which natives are killed, in the order of their ends (`Standing`
 //! of `specs/Sessions.antt`).
 //!
-//! Each `with_limit` takes all the memory that its store will ever have. That a named cell or message is there is a condition. This room
+//! Each `with_limit` takes all the memory that its store will ever have. That a named cell or message is there is a condition. This crate
 //! knows nothing of images, owners, methods or clients: who may read, write or release something is the machine's concern.
 #![tactic(auto)]
 

@@ -3,7 +3,7 @@
 //! Each command and each part of a service is one definition of `specs/Clients.antt`, where what a client may do stands as a table (`row`):
 //! a call's contract says that the state is then what the definition makes of it, and that the answer is the definition's. `with_limit`
 //! takes all the memory that is ever taken. A call costs what it changes: queues, sessions and the messages of each client are lists of
-//! `Lists`, so nothing is ever looked for but the first session that is there of a server that goes (`first_there`). This room knows
+//! `Lists`, so nothing is ever looked for but the first session that is there of a server that goes (`first_there`). This crate knows
 //! servers and sessions by the numbers of their cells, and messages by their places: whether a cell lives, which message place is free, and
 //! what a message says is the machine's concern.
 //!

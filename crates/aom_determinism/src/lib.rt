@@ -2,7 +2,7 @@
 //! text is determined.
 //!
 //! The checked machine knows natives by their numbers: of each cell it says whether its session is open and whether its
-//! request is outstanding. Before each move it is known what the move asks of a native (`wanted` of `aom_safety`). This
+//! request is outstanding. Before each move it is known what the move asks of a native (`wanted` of `aom_semantics`). This
 //! crate promises that what is outstanding, and what sessions are open, change by that call and its answer alone, and
 //! between dispatches by kills and completions alone; and that what is outstanding is so in an open session with a
 //! native that lives. It knows no native itself.

@@ -11,7 +11,7 @@
 //!
 //! `Cleanup` has the objects and operations that a leave deals with, and a mark for each trap that is set. Contracts see a
 //! list with the last item first (`Stack` of `specs/Items.antt`), and each call as one change at its top: entries come and
-//! go above the last mark alone, and `pop` never takes a mark. `Cleanup::with_depth` takes all its memory. This room knows
+//! go above the last mark alone, and `pop` never takes a mark. `Cleanup::with_depth` takes all its memory. This crate knows
 //! no cells but by their numbers: what is done with an entry that is taken off is the machine's concern.
 #![tactic(auto)]
 

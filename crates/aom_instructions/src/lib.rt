@@ -2,7 +2,7 @@
 //!
 //! An operand is a number with a range of its own. A row of the table has an instruction's opcode, its mnemonic, the kinds of its operands and
 //! the version from which on it is there; `Instr::make` and its views are the two ways between an instruction and its parts, and `instructions_and_rows` says that they are
-//! one. Whoever reads, spells or lists instructions goes over rows and kinds. This room knows nothing of images, bytes and texts.
+//! one. Whoever reads, spells or lists instructions goes over rows and kinds. This crate knows nothing of images, bytes and texts.
 #![tactic(auto)]
 
 mod instr;

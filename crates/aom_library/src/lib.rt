@@ -1,4 +1,4 @@
-//! The front door: each part of the house under one name, so that a program names one crate.
+//! The front door: each part of `aom` under one name, so that a program names one crate.
 //!
 //! A module for each part, in the way of the data: bytes and texts become an image, which is linked, checked and accepted; a machine
 //! boots from it, and a run or a debugger goes on by it. Nothing is made here: each name is that of the crate that has it, with its contract.

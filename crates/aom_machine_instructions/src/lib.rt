@@ -3,7 +3,7 @@
 //!
 //! Each is a function over the `Parts`. An instruction does as it does in the checked machine (`DoesIn` of
 //! `specs/Acts.antt`), and so does each move (`Moves` of `specs/Moves.antt`); no instruction tests what a number stands
-//! for. This room knows no step, no turn and no native.
+//! for. This crate knows no step, no turn and no native.
 #![tactic(auto)]
 
 mod calls;

@@ -2,9 +2,9 @@
 //!
 //! Promises: in a linked image with a typing and a table of prices that pays for each move of that typing, the steps
 //! so far and all that may still come (`left` of `specs/Left.antt`) never grow, until the dispatch of an object begins
-//! or ends, where steps are counted anew. So where main's price, the root's destruction among it, is within what the
-//! image declares, and the price of each class of active objects within what the class declares, no dispatch takes more
-//! steps than its payer declares (`specs/Payers.antt`). It is about any such table, and says nothing of how one is found.
+//! or ends, where steps are counted anew. So where main's price, with the root's destruction, is within what the image
+//! declares, and the price of each class of active objects or of servers within what the class declares, no dispatch takes
+//! more steps than its payer declares (`specs/Payers.antt`). It is about any such table, and says nothing of how one is found.
 //!
 //! Without any price a run does not go on for ever within a dispatch: a rank (`specs/Ranks.antt`) falls with each move.
 //! A move of a well-typed state of a linked image, while something is at hand, leads to a state of lower rank, whatever

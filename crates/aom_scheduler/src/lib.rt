@@ -5,7 +5,7 @@
 //! A change is one equation on the list, by `placed`, `without` or `marked`; an object has one entry and one timer at most.
 //! `with_limit` takes all the memory that either ever takes, and no other call can fail. A pick is one look, a mark a binary search
 //! among those that are ready, an insertion or a removal linear at most; the timer due first and the one due last move no other.
-//! This room knows nothing of programs, and of cells only their numbers: why an object is ready is the machine's concern.
+//! This crate knows nothing of programs, and of cells only their numbers: why an object is ready is the machine's concern.
 //!
 //! `Requests` has a request for each object that is enlisted, with a state and a status (TRequestStatus), and the signals of those that
 //! are completed; a server's is for messages, and always stands. Contracts see a finite map from numbers to requests (`Table` of
