@@ -20,7 +20,7 @@ use aom_natives::Native;
 use aom_run::{Machine, Sink, write_lines};
 use aom_transcript::Page;
 
-/// Sends out what the turn has, and clears it. Answers whether all is out.
+/// Sends out the lines of the buffer, and clears it. Answers whether all is out.
 pub fn send<W: Sink>(turn: &mut LineBuffer, page: &mut Page, out: &mut W) -> bool
     ensures clear { turn.new ≡ record turn.old { lines = [] } }
     ensures prefix { (n : ℕ) × (W.out out.new ≡ after (W.out out.old) (take n (text_of turn.old.lines))) }

@@ -1,4 +1,4 @@
-//! The machine with its natives, and the turn that takes its lines.
+//! The machine with its natives, and the buffer that takes its lines.
 
 pub use aom_machine::Progress;
 pub use aom_machine_state::LineBuffer;

@@ -75,7 +75,7 @@ impl<'a> Machine<'a> {
         moves::step(&mut self.parts, self.accepted.linked(), turn, 1)
     }
 
-    /// Steps until the turn has many lines, nothing is at hand, or the next step asks something of a native. The first step alone hears one.
+    /// Steps until the buffer has many lines, nothing is at hand, or the next step asks something of a native. The first step alone hears one.
     pub fn step_on(&mut self, turn: &mut LineBuffer) -> Progress
         requires room { length turn.old.lines + step_lines self.old.image.header.messages < turn.old.room }
         requires many { 64 + step_lines self.old.image.header.messages ≤ turn.old.room }

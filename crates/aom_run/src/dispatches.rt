@@ -15,7 +15,7 @@ use aom_machine_state::LineBuffer;
 use aom_natives::Native;
 use aom_transcript::{Line, Page};
 
-/// How many lines the machine writes, at least, before they are sent out. A turn has room for them and for one step more.
+/// How many lines the machine writes, at least, before they are sent out. A buffer of lines has room for them and for one step more.
 const MANY_LINES: usize = 64;
 
 /// Runs what is at hand until nothing is, and writes its lines after those of the turn, by the names of classes where there are some, or
@@ -50,7 +50,7 @@ pub fn run_dispatch<W: Sink>(
     }
 }
 
-/// Steps on until the turn has many lines or nothing is at hand.
+/// Steps on until the buffer has many lines or nothing is at hand.
 fn fill(machine: &mut Machine, turn: &mut LineBuffer) -> Progress
     requires agree { AllAgree (λ l. l.ids) (λ l. (⟦<dyn Native as Native>⟧ l.native.vtable).owed l.native.value) machine.old.natives.slots.items }
     requires stands { Stands machine.old }

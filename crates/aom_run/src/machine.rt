@@ -76,7 +76,7 @@ impl<'a> Machine<'a> {
         }
     }
 
-    /// Steps until the turn has many lines, nothing is at hand, or the next step asks something of a native. What the first step asks is
+    /// Steps until the buffer has many lines, nothing is at hand, or the next step asks something of a native. What the first step asks is
     /// asked of its native before.
     pub fn step_on(&mut self, turn: &mut LineBuffer) -> Progress
         requires agree { AllAgree (λ l. l.ids) (λ l. (⟦<dyn Native as Native>⟧ l.native.vtable).owed l.native.value) self.old.natives.slots.items }
