@@ -37,7 +37,7 @@ pub fn booted<'a>(
     }
 }
 
-/// What hears a run of an accepted image under a script.
+/// The buffer for the lines of a run of an accepted image, with the requests that a script refuses.
 pub fn turn_of(
     alloc: Global,
     accepted: &Accepted,

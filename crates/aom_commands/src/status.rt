@@ -5,10 +5,10 @@ ghost use Rattle.aom_commands.specs.Status.{status_number};
 /// What the system is told as the program ends.
 #[derive(Clone, Copy, PartialEq, Eq)]
 pub enum ExitStatus {
-    /// An image is accepted, or a run has stopped.
+    /// What was asked for is done: an image is accepted, a file is translated, a run has stopped.
     Done,
     ImageRefused,
-    /// The command line, a native's word or the script is refused.
+    /// The command line, a native's word, the text beside an image or the script is refused, or there are too few natives.
     CallRefused,
     /// A run has ended before it stopped: for nothing, or at its limit.
     Unfinished,

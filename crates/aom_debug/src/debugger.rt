@@ -37,9 +37,8 @@ pub struct Debugger<'a> {
 }
 
 impl<'a> Debugger<'a> {
-    /// A debugger of a machine under a script, with the turn of its run, of at most so many dispatches after main's, that tells by these
-    /// names. All the memory that
-    /// any command will ever need is taken here: where there is none for it, no debugger is made.
+    /// A debugger of a machine under a script, with the buffer of its lines, for at most so many dispatches after main's. It tells by these
+    /// names. All the memory that any command will ever need is taken here: where there is none for it, no debugger is made.
     pub fn new(
         alloc: Global,
         machine: Machine<'a>,

@@ -199,7 +199,7 @@ fn begun<'a>(
     }
 }
 
-/// The turn of a run under a script.
+/// The buffer for the lines of a run under a script.
 fn turn_of(alloc: Global, accepted: &Accepted, script: &Script) -> Result<LineBuffer, AllocError>
     ensures lines { IfOk result (λ t. t.lines ≡ []) }
     ensures refused { IfOk result (λ t. t.refused ≡ script.now.refused) }

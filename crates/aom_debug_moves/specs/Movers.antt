@@ -15,7 +15,7 @@ module _ {X : Type 0} {B : X → Type 0} where
   abbrev pub outside_of : Mover X B → Environment
   outside_of m = hearing m.turn.refused m.limit (natives_of m.machine) m.script.timed
 
-  -- the machine stands for a state, the turn has no lines and room for those of a step, the events of the script are as a machine needs them, and the limit is a number of 64 bits
+  -- the machine stands for a state, the buffer has no lines and room for those of a step, the events of the script are as a machine needs them, and the limit is a number of 64 bits
   pub record IsReady (m : Mover X B) : Type 0 where
     pub stands : Stands m.machine
     pub none : m.turn.lines ≡ []

@@ -46,11 +46,11 @@ module _ {X : Type 0} {B : X → Type 0} where
     pub image : new.core.image ≡ old.core.image
     pub natives : natives_of new ≡ natives_of old
 
-  -- a turn has few lines, and room for many and for those of one step more
+  -- the buffer has few lines, and room for many and for those of one step more
   abbrev pub HasRoom : Machine X B → LineBuffer → Type 0
   HasRoom m turn = (length turn.lines < 64) × (64 + step_lines m.core.image.header.messages ≤ turn.room)
 
-  -- from each state that the machine stands for moves lead to one that it then stands for, and their lines are added to the turn
+  -- from each state that the machine stands for moves lead to one that it then stands for, and their lines are added to the buffer
   abbrev pub Filled : Machine X B → Progress → LineBuffer → LineBuffer → Machine X B → Type 0
   Filled old progress told now new =
       (s : State) → StandsFor old s
@@ -59,7 +59,7 @@ module _ {X : Type 0} {B : X → Type 0} where
       × (progress ≡ progress_of u)
       × StandsFor new u
 
-  -- so until nothing is at hand: what was in the turn is out, and their lines are out after it
+  -- so until nothing is at hand: what was in the buffer is out, and their lines are out after it
   abbrev pub Sent : (Line → List ℕ) → Machine X B → Progress → LineBuffer → LineBuffer → Option (List ℕ) → Option (List ℕ) → Machine X B → Type 0
   Sent reads old progress told now before out new =
       (s : State) → StandsFor old s

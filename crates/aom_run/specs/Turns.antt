@@ -25,7 +25,7 @@ LeadTo outside None s lines u =
     × ((is_some (payer u.tasks) ≡ true) ⊎ (IsBetween u × (length outside.events - u.rest.delivered < length outside.events - s.rest.delivered)))
 LeadTo outside (Some ending) s lines u = (lines ≡ []) × (u.rest.ended ≡ Some ending)
 
--- events are as a script has them, and a turn has room for a line
+-- events are as a script has them, and the buffer has room for a line
 abbrev pub CanHear : List TimedEvent → LineBuffer → Type 0
 CanHear events turn = All (λ e. EventInRange e.event) events × (length turn.lines < turn.room)
 
@@ -106,7 +106,7 @@ module _ {X : Type 0} {B : X → Type 0} where
 
   -- ---- turns
 
-  -- from each state that the machine stands for a run comes to one that it then stands for, and the lines are added to the turn
+  -- from each state that the machine stands for a run comes to one that it then stands for, and the lines are added to the buffer
   abbrev pub TakesTurns : Machine X B → Environment → Option Ending → LineBuffer → LineBuffer → Machine X B → Type 0
   TakesTurns old outside result told now new =
       (s : State) → StandsFor old s

@@ -18,7 +18,7 @@ use aom_transcript::{Line, Page};
 /// How many lines the machine writes, at least, before they are sent out. A buffer of lines has room for them and for one step more.
 const MANY_LINES: usize = 64;
 
-/// Runs what is at hand until nothing is, and writes its lines after those of the turn, by the names of classes where there are some, or
+/// Runs what is at hand until nothing is, and writes its lines after those of the buffer, by the names of classes where there are some, or
 /// gives up where the sink fails.
 pub fn run_dispatch<W: Sink>(
     machine: &mut Machine,
