@@ -12,9 +12,9 @@
 //! events to come and the natives to poll. So what a sink has received of a run that it cut short is a beginning of a whole transcript.
 //!
 //! The checked machine leaves open which free name a new cell gets, and what natives say. Nothing that a run writes depends on the
-//! names, of objects and of messages alike: what a state does it does under other names too, and two runs of one image with the same
-//! outside that hear the same of natives have the same lines and the same ending. Where no native serves a class of the image any two
-//! runs do.
+//! names, of objects and of messages alike: what a state does it does under other names too, and two runs of one image in the same
+//! environment that hear the same of natives have the same lines and the same ending. Where no native serves a class of the image any
+//! two runs do.
 //! It knows nothing of a machine. Each law is the contract of a public function with an empty body.
 #![tactic(auto)]
 
