@@ -1,6 +1,8 @@
 //! What a line of a script says.
 ghost use Rattle.std.specs.Prelude.{◌≡◌};
+ghost use Rattle.std.specs.List.{list_all};
 ghost use Rattle.aom_text.specs.Numbers.{number_signed, number_within};
+ghost use Rattle.aom_text.specs.Words.{is_plain};
 ghost use Rattle.aom_script.specs.Script.{command_within, event_within, line_says, said_by, send_of};
 
 use crate::ScriptFaultKind;
@@ -25,10 +27,16 @@ pub enum ScriptLine {
 }
 
 /// Reads the line of that number, which is given without its line feed, after a time.
-pub fn read_line(number: u32, last: u64, line: &[u8]) -> Result<ScriptLine, ScriptFaultKind>
+pub fn read_line(
+    number: u32,
+    last: u64,
+    line: &[u8],
+    is_text: bool,
+) -> Result<ScriptLine, ScriptFaultKind>
+    requires { is_text ≡ list_all is_plain line.now }
     ensures { result ≡ line_says number last line.now }
 {
-    let reading = Reading::of(line)?;
+    let reading = Reading::of(line, is_text)?;
     if reading.is_back(last) {
         return Err(ScriptFaultKind::TimeBack);
     }

@@ -1,11 +1,13 @@
 //! The numbers of a line, before any is looked at for its range.
 ghost use Rattle.std.specs.Prelude.{◌≡◌, ◌∷◌};
+ghost use Rattle.std.specs.List.{list_all};
 ghost use Rattle.aom_text.specs.Numbers.{number_of};
+ghost use Rattle.aom_text.specs.Words.{is_plain};
 ghost use Rattle.aom_script.specs.Script.{event_says, is_back, is_refusal, kill_numbers, kill_says, reading_of, refusal_says, tell_numbers, timed_says, words_say};
 
 use crate::ScriptFaultKind;
 use crate::clients::read_client;
-use aom_text::{Number, WordCursor, is_text_word};
+use aom_text::{Number, WordCursor};
 
 /// The numbers of what a client does.
 #[derive(Clone, Copy)]
@@ -40,11 +42,12 @@ pub enum Reading {
 }
 
 impl Reading {
-    /// Reads a line, which is given without its line feed.
-    pub fn of(line: &[u8]) -> Result<Reading, ScriptFaultKind>
+    /// Reads a line, which is given without its line feed, and of which it is known whether it has no byte that a text may not have.
+    pub fn of(line: &[u8], is_text: bool) -> Result<Reading, ScriptFaultKind>
+        requires { is_text ≡ list_all is_plain line.now }
         ensures { result ≡ reading_of line.now }
     {
-        if is_text_word(line) {
+        if is_text {
             read_words(WordCursor::of(line))
         } else {
             Err(ScriptFaultKind::NotAscii)

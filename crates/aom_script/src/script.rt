@@ -1,12 +1,14 @@
 //! A script, and how its text is read.
 ghost use Rattle.std.specs.Prelude.{◌≡◌, ◌≤◌, ◌⊎◌, [], length, IfOk, IfErr, Ok, Err};
+ghost use Rattle.std.specs.List.{list_all};
 ghost use Rattle.aom_text.specs.Text.{lines_of};
+ghost use Rattle.aom_text.specs.Words.{is_plain};
 ghost use Rattle.aom_script.specs.Script.{denoted, denoted_by, last_time, Adds, InRange, IsTimely, Keeps, LinesWantMemory, RefusesOrWants};
 ghost use Rattle.aom_script.specs.Further.{hearing_too, place_after, refusing_too};
 
 use crate::line::{ScriptLine, read_line};
 use crate::{ScriptFault, ScriptFaultKind};
-use aom_text::split_line;
+use aom_text::split_text_line;
 use aom_transcript::TimedEvent;
 use std::alloc::{AllocError, Global};
 use std::marker::Model;
@@ -109,11 +111,12 @@ impl Script {
         Ok(())
     }
 
-    /// Adds what the line of that number says.
-    fn add(&mut self, number: u32, line: &[u8]) -> Result<(), ScriptFaultKind>
+    /// Adds what the line of that number says, of which it is known whether it has no byte that a text may not have.
+    fn add(&mut self, number: u32, line: &[u8], is_text: bool) -> Result<(), ScriptFaultKind>
+        requires { is_text ≡ list_all is_plain line.now }
         ensures { Adds number line.now self.old self.new result }
     {
-        let said = read_line(number, self.last_time(), line)?;
+        let said = read_line(number, self.last_time(), line, is_text)?;
         self.keep(said)
     }
 }
@@ -142,9 +145,9 @@ fn read_lines(alloc: Global, text: &[u8]) -> Result<Script, ScriptFault>
     let mut rest = text;
     let mut count = 0;
     while !rest.is_empty() {
-        let (line, after) = split_line(rest);
+        let (line, after, is_text) = split_text_line(rest);
         count += 1;
-        match script.add(count, line) {
+        match script.add(count, line, is_text) {
             Ok(()) => rest = after,
             Err(kind) => return Err(ScriptFault { line: count, kind }),
         }

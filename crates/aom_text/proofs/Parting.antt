@@ -1,5 +1,5 @@
 -- The parts of a text by where the first end is.
-use Rattle.std.proofs.Common.{◌≡◌, ℕ, suc, ◌+◌, ◌-◌, ◌<◌, ◌==◌, ◌&&◌, ◌||◌, Bool, true, false, not, cond, nat_lt, nat_le, List, []}
+use Rattle.std.proofs.Common.{◌≡◌, ℕ, suc, ◌+◌, ◌-◌, ◌<◌, ◌≤◌, ◌==◌, ◌&&◌, ◌||◌, Bool, true, false, not, cond, nat_lt, nat_le, List, []}
 use Rattle.std.proofs.Common.{◌∷◌, Option, Some, None, length, take, drop, map, refl, sym, ap, subst, ◌∙◌, arith, rules, tests}
 use Rattle.std.specs.List.{filter, slice_split, onto_first, find, position, position_or_len}
 use Rattle.std.proofs.lemmas.Grind.{common_steps}
@@ -8,6 +8,7 @@ use Rattle.std.proofs.lemmas.List.Splits.{slice_split_first}
 use Rattle.aom_text.specs.Words.{is_blank, is_plain, has_bytes, words}
 use Rattle.aom_text.specs.Text.{true_lines, lines_of, worded, put_words, has_words, in_line, other_byte, comment_statements}
 use Rattle.std.proofs.lemmas.Bool.{or_parts}
+use Rattle.std.proofs.lemmas.Bool.Decides.{nat_tests}
 
 -- where a place is chosen, it is the one that the test was for
 chosen : (t : Bool) (n i : ℕ) → cond t (Some n) None ≡ Some i → (t ≡ true) × (n ≡ i)
@@ -15,6 +16,19 @@ chosen x n i is = grind arith
 
 not_chosen : (t : Bool) (n : ℕ) → cond t (Some n) None ≡ None → t ≡ false
 not_chosen x n is = grind arith
+
+below : (a b : ℕ) → a < b → nat_lt a b ≡ true
+below a b less = grind (arith, nat_tests)
+
+not_below : (a b : ℕ) → b ≤ a → nat_lt a b ≡ false
+not_below a b more = grind (arith, nat_tests)
+
+-- the first byte that passes, by how many come before it
+pub found : (p : ℕ → Bool) (bs : List ℕ) (i : ℕ) → i ≡ position_or_len p bs → i < length bs → position p bs ≡ Some i
+found p bs i is within = subst (λ k. cond (nat_lt k (length bs)) (Some k) None ≡ Some i) is (ap (λ t. cond t (Some i) None) (below i (length bs) within))
+
+pub not_found : (p : ℕ → Bool) (bs : List ℕ) (i : ℕ) → i ≡ position_or_len p bs → length bs ≤ i → position p bs ≡ None
+not_found p bs i is past = subst (λ k. cond (nat_lt k (length bs)) (Some k) None ≡ None) is (ap (λ t. cond t (Some i) None) (not_below i (length bs) past))
 
 -- ---- parts in general
 
@@ -142,42 +156,58 @@ inked = first_at is_blank (λ bs rest. words bs ≡ words rest) (λ bs. refl) (�
 all_blank : (bs : List ℕ) → nat_lt (position_or_len (λ b. not (is_blank b)) bs) (length bs) ≡ false → words bs ≡ []
 all_blank = none_at is_blank (λ bs. words bs ≡ []) refl (λ b bs e same. blank_first b bs [] e same)
 
-pub words_none : (bs : List ℕ) → position (λ b. not (is_blank b)) bs ≡ None → words bs ≡ []
-words_none bs is = all_blank bs (not_chosen _ _ is)
+pub words_none : (bs : List ℕ) (i : ℕ) → i ≡ position_or_len (λ b. not (is_blank b)) bs → length bs ≤ i → words bs ≡ []
+words_none bs i is past = all_blank bs (subst (λ k. nat_lt k (length bs) ≡ false) is (not_below i (length bs) past))
+
+-- where the first blank is, a text is parted into what comes before it and parts that have the words from there on
+record Cut (bs : List ℕ) (e : ℕ) : Type 0 where
+  later : List (List ℕ)
+  parts : slice_split is_blank bs ≡ take e bs ∷ later
+  behind : filter has_bytes later ≡ words (drop e bs)
+
+cut : (bs : List ℕ) → Cut bs (position_or_len is_blank bs)
+cut [] = record { later = []; parts = refl; behind = refl }
+cut (b ∷ bs) =
+    let n = position_or_len is_blank bs in
+    let known : (t : Bool) → is_blank b ≡ t → Cut (b ∷ bs) (cond (not t) (1 + n) 0) =
+      λ t. elim t as (λ t. is_blank b ≡ t → Cut (b ∷ bs) (cond (not t) (1 + n) 0)) [
+        | true ↦ λ e. record {
+          later = slice_split is_blank bs;
+          parts = ap (λ t. cond t ([] ∷ slice_split is_blank bs) (onto_first b (slice_split is_blank bs))) e;
+          behind = sym (blank_first b bs (words bs) e refl);
+        }
+        | false ↦ λ e. let rest = cut bs in record {
+          later = rest.later;
+          parts = ap (λ t. cond t ([] ∷ slice_split is_blank bs) (onto_first b (slice_split is_blank bs))) e ∙ ap (onto_first b) rest.parts
+              ∙ ap (λ w. w ∷ rest.later) (sym (take_one n b bs));
+          behind = rest.behind ∙ ap words (sym (drop_one n b bs));
+        }
+      ] in
+    known (is_blank b) refl
 
 -- the first word, of what begins with no blank
-cut_word : (b : ℕ) (bs : List ℕ) (parts : List (List ℕ)) (n : ℕ) → is_blank b ≡ false →
-    filter has_bytes (take (cond (not (is_blank b)) (1 + n) 0) (b ∷ bs) ∷ parts) ≡ take (cond (not (is_blank b)) (1 + n) 0) (b ∷ bs) ∷ filter has_bytes parts
-cut_word b bs parts n e = subst (λ t. filter has_bytes (take (cond (not t) (1 + n) 0) (b ∷ bs) ∷ parts) ≡ take (cond (not t) (1 + n) 0)
-    (b ∷ bs) ∷ filter has_bytes parts) (sym e) (subst (λ (t : List ℕ). filter has_bytes (t ∷ parts) ≡ t ∷ filter has_bytes parts) (sym (take_one n b bs)) refl)
+word_then : (b : ℕ) (bs : List ℕ) (e : ℕ) → is_blank b ≡ false → e ≡ position_or_len is_blank (b ∷ bs) →
+    words (b ∷ bs) ≡ take e (b ∷ bs) ∷ words (take (length (b ∷ bs) - e) (drop e (b ∷ bs)))
+word_then b bs e ink end =
+    let n = position_or_len is_blank bs in
+    let rest = cut bs in
+    let behind : take (length (b ∷ bs) - (1 + n)) (drop (1 + n) (b ∷ bs)) ≡ drop n bs = take_rest (b ∷ bs) (1 + n) ∙ drop_one n b bs in
+    let further : e ≡ 1 + n = end ∙ ap (λ t. cond (not t) (1 + n) 0) ink in
+    ap (λ t. filter has_bytes (cond t ([] ∷ slice_split is_blank bs) (onto_first b (slice_split is_blank bs)))) ink
+    ∙ ap (λ ps. filter has_bytes (onto_first b ps)) rest.parts
+    ∙ ap (λ ws. (b ∷ take n bs) ∷ ws) rest.behind
+    ∙ ap (λ w. w ∷ words (drop n bs)) (sym (take_one n b bs))
+    ∙ ap (λ r. take (1 + n) (b ∷ bs) ∷ words r) (sym behind)
+    ∙ ap (λ k. take k (b ∷ bs) ∷ words (take (length (b ∷ bs) - k) (drop k (b ∷ bs)))) (sym further)
 
-word_then : (b : ℕ) (bs : List ℕ) (e : ℕ) → is_blank b ≡ false →
-    position is_blank (b ∷ bs) ≡ Some e → words (b ∷ bs) ≡ take e (b ∷ bs) ∷ words (take (length (b ∷ bs) - (e + 1)) (drop (e + 1) (b ∷ bs)))
-word_then b bs e ink is =
-    let at = chosen (nat_lt (position_or_len is_blank (b ∷ bs)) (length (b ∷ bs))) (position_or_len is_blank (b ∷ bs)) e is in
-    ap (filter has_bytes) (split_some is_blank (b ∷ bs) e is)
-    ∙ ap (λ n. filter has_bytes (take n (b ∷ bs) ∷ slice_split is_blank (take (length (b ∷ bs) - (e + 1)) (drop (e + 1) (b ∷ bs))))) (sym at.1)
-    ∙ cut_word b bs (slice_split is_blank (take (length (b ∷ bs) - (e + 1)) (drop (e + 1) (b ∷ bs)))) (position_or_len is_blank bs) ink
-    ∙ ap (λ n. take n (b ∷ bs) ∷ words (take (length (b ∷ bs) - (e + 1)) (drop (e + 1) (b ∷ bs)))) at.1
-
-pub word_first : (bs : List ℕ) (i e : ℕ) → position (λ b. not (is_blank b)) bs ≡ Some i → position is_blank (take (length bs - i) (drop i bs)) ≡ Some e →
-    words bs ≡ take e (take (length bs - i) (drop i bs)) ∷ words
-    (take (length (take (length bs - i) (drop i bs)) - (e + 1)) (drop (e + 1) (take (length bs - i) (drop i bs))))
-word_first bs i e is ends =
-    let at = chosen (nat_lt (position_or_len (λ b. not (is_blank b)) bs) (length bs)) (position_or_len (λ b. not (is_blank b)) bs) i is in
-    let ink : Inked bs i = subst (Inked bs) at.1 (inked bs at.0) in
+pub word_first : (bs : List ℕ) (i e : ℕ) → i ≡ position_or_len (λ b. not (is_blank b)) bs → i < length bs →
+    e ≡ position_or_len is_blank (take (length bs - i) (drop i bs)) → words bs ≡ take e (take (length bs - i) (drop i bs)) ∷ words
+    (take (length (take (length bs - i) (drop i bs)) - e) (drop e (take (length bs - i) (drop i bs))))
+word_first bs i e is within ends =
+    let ink : Inked bs i = subst (Inked bs) (sym is) (inked bs (subst (λ k. nat_lt k (length bs) ≡ true) is (below i (length bs) within))) in
     let same : take (length bs - i) (drop i bs) ≡ ink.first ∷ ink.more = take_rest bs i ∙ ink.at in
-    subst (λ (t : List ℕ). position is_blank t ≡ Some e → words bs ≡ take e t ∷ words (take (length t - (e + 1)) (drop (e + 1) t)))
+    subst (λ (t : List ℕ). e ≡ position_or_len is_blank t → words bs ≡ take e t ∷ words (take (length t - e) (drop e t)))
     (sym same) (λ h. ink.so ∙ word_then ink.first ink.more e ink.is h) ends
-
-pub word_only : (bs : List ℕ) (i : ℕ) → position (λ b. not (is_blank b)) bs ≡ Some i → position is_blank (take (length bs - i) (drop i bs)) ≡ None
-    → words bs ≡ take (length bs - i) (drop i bs) ∷ []
-word_only bs i is ends =
-    let at = chosen (nat_lt (position_or_len (λ b. not (is_blank b)) bs) (length bs)) (position_or_len (λ b. not (is_blank b)) bs) i is in
-    let ink : Inked bs i = subst (Inked bs) at.1 (inked bs at.0) in
-    let same : take (length bs - i) (drop i bs) ≡ ink.first ∷ ink.more = take_rest bs i ∙ ink.at in
-    subst (λ (t : List ℕ). position is_blank t ≡ None → words bs ≡ t ∷ []) (sym same)
-    (λ h. ink.so ∙ ap (filter has_bytes) (split_none is_blank (ink.first ∷ ink.more) h)) ends
 
 -- ---- comments
 

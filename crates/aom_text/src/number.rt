@@ -1,7 +1,6 @@
 //! Numbers.
-ghost use Rattle.std.specs.Prelude.{◌≡◌, ◌≤◌, ◌<◌, ◌^◌, not, length};
-ghost use Rattle.std.specs.List.{list_all};
-ghost use Rattle.aom_text.specs.Numbers.{is_digit, is_digits, digits_size, most, number_from, number_of, number_below, number_within, number_signed, SizesAreTold};
+ghost use Rattle.std.specs.Prelude.{◌≡◌, ◌<◌, ◌^◌};
+ghost use Rattle.aom_text.specs.Numbers.{is_digit, number_from, number_of, number_below, number_within, number_signed, SizesAreTold};
 
 /// Sizes from here on are not told apart: each is out of every range.
 const MOST: u64 = 1 << 50;
@@ -28,14 +27,17 @@ impl Number {
     fn of_digits(is_negative: bool, digits: &[u8]) -> Option<Number>
         ensures { result ≡ number_from is_negative digits.now }
     {
-        if is_digits(digits) {
-            Some(Number {
-                is_negative,
-                size: size_of(digits),
-            })
-        } else {
-            None
+        if digits.is_empty() {
+            return None;
         }
+        let mut size = 0;
+        for digit in digits {
+            if !is_digit(*digit) {
+                return None;
+            }
+            size = (10 * size + u64::from(digit.saturating_sub(b'0'))).min(MOST);
+        }
+        Some(Number { is_negative, size })
     }
 
     /// The number, if it is from low to high.
@@ -92,28 +94,4 @@ fn is_digit(b: u8) -> bool
     ensures { result ≡ is_digit b }
 {
     matches!(b, b'0'..=b'9')
-}
-
-fn is_digits(word: &[u8]) -> bool
-    ensures { result ≡ is_digits word.now }
-{
-    !word.is_empty() && all_digits(word)
-}
-
-/// The size that digits spell.
-fn size_of(digits: &[u8]) -> u64
-    ensures size { result ≡ most (digits_size digits.now) }
-    ensures bounded { result ≤ 2 ^ 50 }
-{
-    let mut size = 0;
-    for digit in digits {
-        size = (10 * size + u64::from(digit.saturating_sub(b'0'))).min(MOST);
-    }
-    size
-}
-
-fn all_digits(word: &[u8]) -> bool
-    ensures { result ≡ list_all is_digit word.now }
-{
-    word.iter().all(|b| is_digit(*b))
 }

@@ -1,11 +1,11 @@
 //! Lines and statements.
-ghost use Rattle.std.specs.Prelude.{◌≡◌, ◌+◌, ◌<◌, ◌≤◌, ◌^◌, ◌∷◌, ◌==◌, not, length, [], IfSome};
-ghost use Rattle.std.specs.List.{list_all, position};
+ghost use Rattle.std.specs.Prelude.{◌≡◌, ◌+◌, ◌<◌, ◌≤◌, ◌^◌, ◌∷◌, ◌==◌, not, length, take, [], IfSome};
+ghost use Rattle.std.specs.List.{list_all, position, position_or_len};
 ghost use Rattle.aom_text.specs.Words.{is_plain, words, split_by};
 ghost use Rattle.aom_text.specs.Text.{lines_of, worded, put_words, left_of_line, left_of_text, statements, first_statement, other_statements, line_count, line_statements, comment_statements};
 
 use crate::WordCursor;
-use crate::word::is_plain;
+use crate::word::{is_blank, is_plain};
 use std::marker::Model;
 
 /// A statement: the line that it stands in, counted from 1, and its words.
@@ -203,6 +203,39 @@ pub fn split_line(text: &[u8]) -> (&[u8], &[u8])
         Some(end) => (&text[..end], &text[end + 1..]),
         None => (text, &[]),
     }
+}
+
+/// The same, and whether the line has no byte that a text may not have.
+pub fn split_text_line(text: &[u8]) -> (&[u8], &[u8], bool)
+    requires { 0 < length text.now }
+    ensures line { lines_of text.now ≡ result.0.now ∷ lines_of result.1.now }
+    ensures plain { result.2 ≡ list_all is_plain result.0.now }
+    ensures shorter { length result.1.now < length text.now }
+{
+    let (end, is_text) = scan_line(text);
+    if end == text.len() {
+        return (text, &[], is_text);
+    }
+    (&text[..end], &text[end + 1..], is_text)
+}
+
+/// How many bytes come before the first line feed, and whether a text may have all of them.
+fn scan_line(text: &[u8]) -> (usize, bool)
+    ensures end { result.0 ≡ position_or_len (λ b. b == 10) text.now }
+    ensures plain { result.1 ≡ list_all is_plain (take result.0 text.now) }
+    ensures within { result.0 ≤ length text.now }
+{
+    let mut end = 0;
+    let mut is_text = true;
+    while end < text.len() {
+        match text[end] {
+            32..=126 => {}
+            b'\n' => return (end, is_text),
+            other => is_text &= is_blank(other),
+        }
+        end += 1;
+    }
+    (end, is_text)
 }
 
 /// What stands before the first semicolon, and what comes after it.

@@ -1,6 +1,6 @@
 //! Words.
-ghost use Rattle.std.specs.Prelude.{◌≡◌, not, option_map};
-ghost use Rattle.std.specs.List.{list_all, position};
+ghost use Rattle.std.specs.Prelude.{◌≡◌, ◌≤◌, length, not, option_map};
+ghost use Rattle.std.specs.List.{list_all, position_or_len};
 ghost use Rattle.aom_text.specs.Words.{is_blank, is_plain, words, split_by, first_of, is_none_left, others_of};
 
 use std::marker::Model;
@@ -81,28 +81,35 @@ impl<'a> WordCursor<'a> {
 fn first_word(bytes: &[u8]) -> Option<(&[u8], &[u8])>
     ensures { words bytes.now ≡ split_by (λ w. w.now) (λ r. words r.now) result }
 {
-    match find_start(bytes) {
-        Some(start) => {
-            let inked = &bytes[start..];
-            match find_blank(inked) {
-                Some(end) => Some((&inked[..end], &inked[end + 1..])),
-                None => Some((inked, &[])),
-            }
-        }
-        None => None,
+    let start = leading_blanks(bytes);
+    if start == bytes.len() {
+        return None;
     }
+    let inked = &bytes[start..];
+    let end = word_length(inked);
+    Some((&inked[..end], &inked[end..]))
 }
 
-/// Where the first byte is that is no blank.
-fn find_start(bytes: &[u8]) -> Option<usize>
-    ensures { result ≡ position (λ b. not (is_blank b)) bytes.now }
+/// How many bytes come before the first that is no blank.
+fn leading_blanks(bytes: &[u8]) -> usize
+    ensures count { result ≡ position_or_len (λ b. not (is_blank b)) bytes.now }
+    ensures within { result ≤ length bytes.now }
 {
-    bytes.iter().position(|b| !is_blank(*b))
+    let mut count = 0;
+    while count < bytes.len() && is_blank(bytes[count]) {
+        count += 1;
+    }
+    count
 }
 
-/// Where the first blank is.
-fn find_blank(bytes: &[u8]) -> Option<usize>
-    ensures { result ≡ position is_blank bytes.now }
+/// How many bytes come before the first blank.
+fn word_length(bytes: &[u8]) -> usize
+    ensures count { result ≡ position_or_len is_blank bytes.now }
+    ensures within { result ≤ length bytes.now }
 {
-    bytes.iter().position(|b| is_blank(*b))
+    let mut count = 0;
+    while count < bytes.len() && !is_blank(bytes[count]) {
+        count += 1;
+    }
+    count
 }
