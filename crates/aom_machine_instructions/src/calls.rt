@@ -214,8 +214,7 @@ fn receive_trapped(parts: &mut Parts, gives: Gives, number: u32, linked: &Linked
 {
     let to = result_of(*parts.fetch(linked));
     take_result(parts, to, gives, number);
-    parts.stack.set_register(to + 1, 0);
-    parts.next();
+    parts.stack.bring(to + 1, 0);
 }
 
 /// Where a method that cancels is over, the signal of the request is taken.

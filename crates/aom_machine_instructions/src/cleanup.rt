@@ -9,7 +9,7 @@ ghost use Rattle.aom_machine_instructions.specs.Cleanup.{TopLives, dealt_with, o
 ghost use Rattle.aom_machine_instructions.specs.Next.{IsNext};
 
 use crate::leaving::{self, NO_MEMORY};
-use crate::{going, objects};
+use crate::going;
 use aom_cells::NULL;
 use aom_frames::{Frame, Item, Task};
 use aom_image::{ClassNumber, MethodNumber, Register};
@@ -24,9 +24,9 @@ pub fn push(parts: &mut Parts, from: Register, turn: &LineBuffer) -> bool
     ensures runs { result ≡ true → Runs parts.new.stack.tasks }
 {
     let refused = parts.request(turn);
-    let object = parts.take_register(from);
+    let object = parts.register(from);
+    parts.bring(from, NULL);
     parts.entries.push_object(object);
-    parts.next();
     if refused {
         leaving::leave(parts, NO_MEMORY);
         return false;
@@ -55,10 +55,9 @@ pub fn pop(parts: &mut Parts, to: Register)
     ensures { (refused : List ℕ) → Does refused (Pop to) parts.old parts.new }
 {
     match parts.entries.pop() {
-        Some(Item::Object(object)) => parts.set_register(to, object),
+        Some(Item::Object(object)) => parts.bring(to, object),
         _ => unreachable!(),
     }
-    parts.next();
 }
 
 /// The last entry, an operation, goes and is not run.
@@ -124,6 +123,6 @@ pub fn create_or_leave(
         return false;
     }
     let number = parts.new_cell(class, false);
-    objects::bring(parts, to, number);
+    parts.bring(to, number);
     true
 }

@@ -5,7 +5,6 @@ ghost use Rattle.aom_instructions.specs.declared.instr.Instr.TheVariants.{JumpEm
 ghost use Rattle.aom_machine_instructions.specs.Acts.{Does};
 ghost use Rattle.aom_machine_instructions.specs.Next.{IsNext};
 
-use crate::objects;
 use aom_cells::NULL;
 use aom_image::{FieldIndex, Place, Register};
 use aom_machine_state::Parts;
@@ -26,7 +25,7 @@ pub fn take(parts: &mut Parts, to: Register, field: FieldIndex)
     ensures { (refused : List ℕ) → Does refused (Take to field) parts.old parts.new }
 {
     let number = parts.take_field(field);
-    objects::bring(parts, to, number);
+    parts.bring(to, number);
 }
 
 pub fn put(parts: &mut Parts, field: FieldIndex, from: Register)
@@ -35,6 +34,5 @@ pub fn put(parts: &mut Parts, field: FieldIndex, from: Register)
 {
     let number = parts.register(from);
     parts.set_field(field, number);
-    parts.set_register(from, NULL);
-    parts.next();
+    parts.bring(from, NULL);
 }

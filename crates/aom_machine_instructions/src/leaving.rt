@@ -143,8 +143,7 @@ fn receive_code(parts: &mut Parts, code: i32, linked: &Linked)
     let to = result_of(*instr);
     let gives = called_gives(*instr, linked);
     lose_result(parts, to, gives);
-    parts.stack.set_register(to + 1, code.cast_unsigned());
-    parts.next();
+    parts.stack.bring(to + 1, code.cast_unsigned());
 }
 
 /// A dispatch that is left with that code.

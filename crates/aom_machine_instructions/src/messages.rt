@@ -11,7 +11,6 @@ ghost use Rattle.aom_cells.specs.Store.{IsKept};
 ghost use Rattle.aom_scheduler.specs.Requests.{state_at};
 ghost use Rattle.aom_scheduler.specs.declared.request.State.{State};
 
-use crate::objects;
 use aom_cells::{CellId, MessageId, NULL};
 use aom_clients::Completion;
 use aom_image::{ClassNumber, Register};
@@ -39,7 +38,7 @@ pub fn take_message(parts: &mut Parts, to: Register)
     ensures { (refused : List ℕ) → Does refused (TakeMessage to) parts.old parts.new }
 {
     let message = take_served(parts);
-    objects::bring(parts, to, message);
+    parts.bring(to, message);
 }
 
 /// A register's message is completed with the word of another register.
@@ -91,7 +90,7 @@ pub fn hand(parts: &mut Parts, to: Register)
     let id = parts.cells.living(parts.stack.this());
     let class = parts.class(id.number());
     let token = hand_out(parts, id, class);
-    objects::bring(parts, to, token);
+    parts.bring(to, token);
 }
 
 /// A token for the request of that object, which is of that class: its number, or null where no message place is free.

@@ -6,20 +6,19 @@ use Rattle.aom_machine_instructions.proofs.cleanup.push.Goals as goal
 
 pub push_object-requires : goal.push_object-requires
 push_object-requires c =
-    rw (c.take_register-object.ensures.emptied, c.request-refused.ensures.counted) (push_room c.requires.0 c.args.parts.now c.args.from c.requires.1)
+    rw (c.bring.ensures.brought, c.request-refused.ensures.counted) (push_room c.requires.0 c.args.parts.now c.args.from c.requires.1)
 
 pub returns-then-refused-clause-does : goal.returns-then-refused-clause-does
 returns-then-refused-clause-does c =
-    let does = push_does c.args.parts.now c.args.turn.now c.args.from true c.take_register-object.ensures.in_range
+    let does = push_does c.args.parts.now c.args.turn.now c.args.from true c.bring.ensures.in_range
     (sym c.if-refused.true ∙ c.request-refused.ensures.refused) in
-    rw (c.leave.ensures, c.next.ensures, c.push_object.ensures, c.take_register-object.ensures.emptied, c.take_register-object.ensures.value, c.request-refused.ensures.counted) does
+    rw (c.leave.ensures, c.push_object.ensures, c.bring.ensures.brought, c.register-object.ensures.value, c.request-refused.ensures.counted) does
 
 pub returns-clause-does : goal.returns-clause-does
 returns-clause-does c =
-    let does = push_does c.args.parts.now c.args.turn.now c.args.from false c.take_register-object.ensures.in_range
+    let does = push_does c.args.parts.now c.args.turn.now c.args.from false c.bring.ensures.in_range
     (sym c.if-refused.false ∙ c.request-refused.ensures.refused) in
-    rw (c.next.ensures, c.push_object.ensures, c.take_register-object.ensures.emptied, c.take_register-object.ensures.value, c.request-refused.ensures.counted) does
+    rw (c.push_object.ensures, c.bring.ensures.brought, c.register-object.ensures.value, c.request-refused.ensures.counted) does
 
 pub returns-clause-runs : goal.returns-clause-runs
-returns-clause-runs c = λ still. rw (c.next.ensures, c.take_register-object.ensures.emptied, c.request-refused.ensures.counted)
-    (on_top_runs _ _ (on_top_runs _ _ c.requires.1.runs))
+returns-clause-runs c = λ still. rw (c.bring.ensures.brought, c.request-refused.ensures.counted) (on_top_runs _ _ (on_top_runs _ _ c.requires.1.runs))
