@@ -1,5 +1,5 @@
 //! What each of the tasks is.
-ghost use Rattle.std.specs.Prelude.{◌≡◌, ◌<◌, [], ◌∷◌, length, slice_index_or};
+ghost use Rattle.std.specs.Prelude.{◌≡◌, ◌<◌, ◌+◌, [], ◌∷◌, length, slice_index_or};
 ghost use Rattle.aom_frames.specs.declared.task.TaskKind.TheVariants.{Trapped};
 ghost use Rattle.aom_frames.specs.Slots.{first, rest};
 
@@ -68,6 +68,18 @@ impl TaskKinds {
         let count = self.count;
         self.kinds[count] = kind;
         self.count = count + 1;
+    }
+
+    /// Two at once, the first below the other.
+    #[inline]
+    pub(crate) fn push_two(&mut self, lower: TaskKind, upper: TaskKind)
+        requires { length self.old + 1 < 2048 }
+        ensures { self.new ≡ upper ∷ lower ∷ self.old }
+    {
+        let count = self.count;
+        self.kinds[count] = lower;
+        self.kinds[count + 1] = upper;
+        self.count = count + 2;
     }
 
     /// The innermost is over.

@@ -6,8 +6,8 @@ use Rattle.aom_machine_instructions.proofs.cleanup.pop.Goals as goal
 pub unreachable-requires : goal.unreachable-requires
 unreachable-requires c = let h = pops_object c.requires.0 c.args.parts.now c.args.to c.requires.1 in search rules
 
-pub returns-in-Some-Object : goal.returns-in-Some-Object
-returns-in-Some-Object c = λ refused.
+pub returns : goal.returns
+returns c = λ refused.
     let es = c.pop.new.self in
     let popped = c.in-Some-Object.ensures.some.1 ∙ ap (λ i. record es { items = i ∷ es.items }) c.in-Some-Object.field-0-is in
     rw c.bring.ensures.brought (pop_does c.args.parts.now refused es c.args.to c.in-Some-Object.object c.bring.ensures.in_range popped)

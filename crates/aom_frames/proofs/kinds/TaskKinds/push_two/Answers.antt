@@ -1,0 +1,34 @@
+use Rattle.std.proofs.Common.{◌≡◌, ◌<◌, ◌+◌, length, ap, sym, subst, ◌∙◌, slice_set, arith, rules}
+use Rattle.std.proofs.lemmas.List.{length-set}
+use Rattle.aom_frames.specs.Slots.{down}
+use Rattle.aom_frames.specs.declared.task.TaskKind.TheVariants.{Trapped}
+use Rattle.aom_frames.proofs.Slots.{pushed_now, seen}
+use Rattle.aom_frames.proofs.kinds.TaskKinds.push_two.Goals as goal
+
+pub bounds-self-inside-count : goal.bounds-self-inside-count
+bounds-self-inside-count c =
+    let many = seen Trapped c.self.inside.kinds _ _ c.self.view_is in
+    omega (arith, many, c.requires)
+
+pub bounds-self-inside-count-2 : goal.bounds-self-inside-count-2
+bounds-self-inside-count-2 c =
+    let many = seen Trapped c.self.inside.kinds _ _ c.self.view_is in
+    omega (arith, many, c.requires)
+
+pub invariant_of-self : goal.invariant_of-self
+invariant_of-self c =
+    let many = seen Trapped c.self.inside.kinds _ _ c.self.view_is in
+    omega (arith, many, c.requires)
+
+pub returns : goal.returns
+returns c =
+    let n = c.self.inside.count in
+    let xs = c.self.inside.kinds in
+    let many = seen Trapped xs _ _ c.self.view_is in
+    let few : n + 1 < 2048 = omega (arith, many, c.requires) in
+    let within : n + 1 < length xs = search rules in
+    let lower : n < length xs = omega (arith, within) in
+    let upper = subst (λ k. n + 1 < k) (sym (length-set xs n c.args.lower)) within in
+    let two : n + 2 ≡ n + 1 + 1 = omega arith in
+    ap (λ k. down Trapped (slice_set (slice_set xs n c.args.lower) (n + 1) c.args.upper) k) two
+    ∙ pushed_now Trapped c.args.upper (slice_set xs n c.args.lower) _ (n + 1) (pushed_now Trapped c.args.lower xs _ n c.self.view_is lower) upper
