@@ -67,10 +67,10 @@ module _ (p : Image) (m : ℕ) (s : Shapes) (from : List ℕ) (first last place 
   no_exit none = of_none 4294967296 (ExitsAt p m s from first last place) (λ n h. let f = h.there in cc)
 
   pub exits : (sh : Shape) (i : Instr) (n : ℕ) → IsIn first last place → at None s place ≡ Some sh → instr_at p m place ≡ Some i →
-      n ≡ most_past from last (targets_of place sh i) → n ≤ 4294967296 → IsMost 4294967296 (ExitsAt p m s from first last place) n
+      n ≡ most_past from last (targets_of p place sh i) → n ≤ 4294967296 → IsMost 4294967296 (ExitsAt p m s from first last place) n
   exits sh i n inside there stands is low =
-      let most = most_of_past from last (targets_of place sh i) (omega (arith, is, low)) in
-      rw is (alike 4294967296 (PastOf from last (targets_of place sh i)) (ExitsAt p m s from first last place) _
+      let most = most_of_past from last (targets_of p place sh i) (omega (arith, is, low)) in
+      rw is (alike 4294967296 (PastOf from last (targets_of p place sh i)) (ExitsAt p m s from first last place) _
       (λ k h. record { inside = inside; shape = sh; there = there; instr = i; stands = stands; out = h.out; flow = h.among; outside = h.past; is = h.is })
       (λ k h.
       let same : h.shape ≡ sh = let f = h.there in cc in

@@ -7,7 +7,6 @@ use Rattle.std.proofs.lemmas.List.{length-set, length-replicate}
 use Rattle.aom_image.specs.Image.{Image}
 use Rattle.aom_image.specs.Views.{instr_at}
 use Rattle.aom_instructions.specs.declared.instr.Instr.{Instr}
-use Rattle.aom_instructions.specs.declared.instr.Instr.TheVariants.{Push, Delete}
 use Rattle.aom_classes.specs.Linked.{IsLinked}
 use Rattle.aom_budget.proofs.ClassesLemmas.{of_method}
 use Rattle.aom_shape.specs.Kinds.{register}
@@ -19,12 +18,13 @@ use Rattle.aom_shape.specs.declared.kind.Kind.{Kind}
 use Rattle.aom_budget.proofs.ShapeLemmas.{at_past, at_set_here, at_set_other, at_within}
 use Rattle.aom_typings.specs.Shapes.{Shapes}
 use Rattle.aom_typings.specs.Strongest.{IsMethodStrongest}
-use Rattle.aom_typings.specs.Calls.{Among, destructors, object_class, callees, CallsAt, MayCall}
+use Rattle.aom_typings.specs.Charges.{Charge, A_call, A_destruction, charge_of}
+use Rattle.aom_typings.specs.Calls.{Among, destructors, object_class, called_for, callees, CallsAt, MayCall}
 use Rattle.aom_typings.specs.Depths.{Frames}
 use Rattle.aom_typings.specs.Depths.Frames.{alone, calling}
-use Rattle.aom_typings.specs.Heights.{StandsAt, Enters, CallsOver, Heights}
+use Rattle.aom_typings.specs.Heights.{StandsAt, IsCall, Enters, CallsOver, Heights}
 use Rattle.aom_typings.specs.Heights.Heights.{own, under}
-use Rattle.aom_budget.specs.Extents.{IsMost, entered, OfSome, Joined, ComesTo, FramesAt, EntriesAt, Before, IsFilled}
+use Rattle.aom_budget.specs.Extents.{IsMost, entered_for, entered, OfSome, Joined, ComesTo, FramesAt, EntriesAt, Before, IsFilled}
 use Rattle.aom_budget.specs.Greatest.{most_at}
 use Rattle.aom_budget.proofs.TypingsLemmas.{run_among}
 use Rattle.aom_budget.proofs.Mentioned.{called_lower}
@@ -49,14 +49,26 @@ module _ (p : Image) (cap : ℕ) (its_own : Shape → ℕ) (calls : Shape → In
 
 -- ---- what is called is found already
 
+call_called : (p : Image) (m : ℕ) (sh : Shape) (x : Charge) (k : ℕ) → IsCall p x k → Among k (called_for p m sh x)
+call_called p m sh (A_call called) k e = run_among p called k e
+call_called p m sh _ k e = absurd e
+
 entered_called : (p : Image) (m : ℕ) (sh : Shape) (i : Instr) (k : ℕ) → Enters p i k → Among k (callees p m sh i)
-entered_called p m sh x k e = grind (arith, nat_tests, run_among p)
+entered_called p m sh i k e = call_called p m sh (charge_of i) k e
+
+call_entered : (p : Image) (x : Charge) (k : ℕ) → IsCall p x k → Among k (entered_for p x)
+call_entered p (A_call called) k e = run_among p called k e
+call_entered p _ k e = absurd e
 
 is_entered : (p : Image) (i : Instr) (k : ℕ) → Enters p i k → Among k (entered p i)
-is_entered p x k e = grind (arith, nat_tests, run_among p)
+is_entered p i k e = call_entered p (charge_of i) k e
+
+entered_call : (p : Image) (x : Charge) (k : ℕ) → Among k (entered_for p x) → IsCall p x k
+entered_call p (A_call called) k h = run_from p called k h
+entered_call p _ k h = absurd h
 
 enters : (p : Image) (i : Instr) (k : ℕ) → Among k (entered p i) → Enters p i k
-enters p x k h = grind (arith, nat_tests, run_from p)
+enters p i k h = entered_call p (charge_of i) k h
 
 module _ (p : Image) (m : ℕ) (s : Shapes) (place : ℕ) (sh : Shape) (i : Instr) (linked : IsLinked p) (strongest : IsMethodStrongest p m s) where
   module _ (there : at None s place ≡ Some sh) (stands : instr_at p m place ≡ Some i) where
@@ -84,10 +96,12 @@ destroys_more : (p : Image) (x y : Kind) (k : ℕ) → Weaker x y → Among k (d
 destroys_more p x y k (maybe_null {t = t} {a = age}) c = absurd c
 destroys_more p x y k _ c = c
 
+charge_more : (p : Image) (m : ℕ) (a b : Shape) (x : Charge) (k : ℕ) → SaysNoMore a b → Among k (called_for p m b x) → Among k (called_for p m a x)
+charge_more p m a b (A_destruction r) k h c = destroys_more p (register a r) (register b r) k (h.registers r) c
+charge_more p m a b _ k h c = c
+
 calls_more : (p : Image) (m : ℕ) (a b : Shape) (i : Instr) (k : ℕ) → SaysNoMore a b → Among k (callees p m b i) → Among k (callees p m a i)
-calls_more p m a b (Push r) k h c = destroys_more p (register a r) (register b r) k (h.registers r) c
-calls_more p m a b (Delete r) k h c = destroys_more p (register a r) (register b r) k (h.registers r) c
-calls_more p m a b _ k h c = c
+calls_more p m a b i k h c = charge_more p m a b (charge_of i) k h c
 
 reached_within : (s : Shapes) (place : ℕ) (sh : Shape) → at None s place ≡ Some sh → place < length s
 reached_within s place sh e = grind (arith, nat_tests, leb_tells, at_past None s place)

@@ -9,7 +9,6 @@ use Rattle.std.proofs.lemmas.Bool.{lt-ltb}
 use Rattle.aom_image.specs.Image.{Image}
 use Rattle.aom_image.specs.Views.{arguments_of, arguments_in, class_in, fields_of, gives_of, instr_at, method_at, method_class, role_in}
 use Rattle.aom_instructions.specs.declared.instr.Instr.{Instr}
-use Rattle.aom_instructions.specs.declared.instr.Instr.TheVariants.{Delete, Push, PushOperation, Call, Trap, Cancel}
 use Rattle.aom_instructions.specs.declared.instr.Target.{Target}
 use Rattle.aom_instructions.specs.declared.instr.Target.TheVariants.{This, Register, Field, Entry as On_entry}
 use Rattle.aom_image.specs.declared.method.Argument.{Argument}
@@ -22,7 +21,7 @@ use Rattle.aom_image.specs.declared.method.Role.TheVariants as roles
 use Rattle.aom_image.specs.declared.method.Thing.{Thing}
 use Rattle.aom_image.specs.declared.method.Thing.TheVariants.{Object, Message}
 use Rattle.aom_roles.specs.Roles.{role_number}
-use Rattle.aom_classes.specs.Calls.{AllBelow, CallsBelow, EndsBelow, Mentions, MentionsThing, MentionsArgument}
+use Rattle.aom_classes.specs.Calls.{AllBelow, CallsBelow, EndsBelow, MayCancel, Mentions, MentionsThing, MentionsArgument}
 use Rattle.aom_classes.specs.Calls.{MentionsResult, MentionsFields, MentionsRoot, RunsBelow, CallsOrdered}
 use Rattle.aom_classes.specs.Linked.{IsLinked}
 use Rattle.aom_classes.specs.Overriding.{over_in}
@@ -58,7 +57,8 @@ use Rattle.aom_shape.specs.declared.kind.Kind.TheVariants.{Unset, Word, Null, Ow
 use Rattle.aom_budget.proofs.RulesLemmas.{by_states, flows_more, needs_more}
 use Rattle.aom_typings.specs.Shapes.{Shapes, Meets, AllMet, Applies, IsMethodTyped}
 use Rattle.aom_typings.specs.Strongest.{IsMethodStrongest}
-use Rattle.aom_typings.specs.Calls.{Among, MayCall, bodies, callees, cancels, destructors, object_class, thing_class}
+use Rattle.aom_typings.specs.Charges.{Charge, No_charge, A_call, An_operation, A_destruction, A_cancel, charge_of}
+use Rattle.aom_typings.specs.Calls.{Among, MayCall, bodies, called_for, callees, cancels, destructors, object_class, thing_class}
 use Rattle.aom_typings.specs.Layers.{Runs}
 use Rattle.aom_budget.proofs.Greatest.{run_from}
 use Rattle.aom_budget.proofs.Lined.{cancels_from, destructors_from}
@@ -471,7 +471,19 @@ module _ (p : Image) (m : ℕ) where
   among_low k (x ∷ xs) h (inl e) = let w = both (nat_lt x m) (list_all (λ j. nat_lt j m) xs) h in let low = w.0 in grind (arith, low, e)
   among_low k (x ∷ xs) h (inr c) = among_low k xs (both (nat_lt x m) (list_all (λ j. nat_lt j m) xs) h).1 c
 
-  cancel_low : (own : Option ℕ) (k : ℕ) → RunsBelow p m own Cancel → Among k (cancels p own) → k < m
+  -- what the order asks of what an instruction sets going
+  ChargeBelow : Option ℕ → Charge → Type 0
+  ChargeBelow own No_charge = Unit {0}
+  ChargeBelow own (A_call called) = CallsBelow p m called
+  ChargeBelow own (An_operation called) = called < m
+  ChargeBelow own (A_destruction r) = Unit {0}
+  ChargeBelow own A_cancel = IfSome own (MayCancel p m)
+
+  charge_below : (own : Option ℕ) (i : Instr) → RunsBelow p m own i → ChargeBelow own (charge_of i)
+  unfolding ChargeBelow
+  charge_below own x r = grind arith
+
+  cancel_low : (own : Option ℕ) (k : ℕ) → IfSome own (MayCancel p m) → Among k (cancels p own) → k < m
   cancel_low None k h among = absurd among
   cancel_low (Some c) k h among = grind (arith, nat_tests, cancels_from p c k among, through p, cancels_own p m)
 
@@ -480,14 +492,16 @@ module _ (p : Image) (m : ℕ) where
   body_low called k h among = grind (arith, nat_tests, run_from p called k among, overrider_is p k called)
 
   callee_low : (sh : Shape) (i : Instr) (k : ℕ) → RunsBelow p m (method_class p m) i → IsLow p m sh → Among k (callees p m sh i) → k < m
-  callee_low sh (Call target called first c) k r h among = body_low called k r among
-  callee_low sh (Trap target called first c) k r h among = body_low called k r among
-  callee_low sh (PushOperation a called) k r h (inl same) = subst (λ j. j < m) (sym same) r
-  callee_low sh (PushOperation a called) k r h (inr among) = absurd among
-  callee_low sh (Push a) k r h among = among_low k (destructors p (object_class (register sh a))) (h.registers a) among
-  callee_low sh (Delete a) k r h among = among_low k (destructors p (object_class (register sh a))) (h.registers a) among
-  callee_low sh Cancel k r h among = cancel_low (method_class p m) k r among
-  callee_low sh _ k r h among = absurd among
+  unfolding ChargeBelow
+  callee_low sh i k r h among = go (charge_of i) (charge_below (method_class p m) i r) among
+    where
+      go : (x : Charge) → ChargeBelow (method_class p m) x → Among k (called_for p m sh x) → k < m
+      go No_charge below none = absurd none
+      go (A_call called) below called_there = body_low called k below called_there
+      go (An_operation called) below (inl same) = subst (λ j. j < m) (sym same) below
+      go (An_operation called) below (inr none) = absurd none
+      go (A_destruction a) below gone = among_low k (destructors p (object_class (register sh a))) (h.registers a) gone
+      go A_cancel below cancelled = cancel_low (method_class p m) k below cancelled
 
   pub called_lower : (k : ℕ) → IsLinked p → MayCall p m k → k < m
   unfolding class_in

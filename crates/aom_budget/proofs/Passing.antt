@@ -6,7 +6,6 @@ use Rattle.std.specs.Prelude.{bit_and}
 use Rattle.aom_image.specs.Image.{Image}
 use Rattle.aom_image.specs.Views.{method_class}
 use Rattle.aom_instructions.specs.declared.instr.Instr.{Instr}
-use Rattle.aom_instructions.specs.declared.instr.Instr.TheVariants.{Call, Cancel, Trap, PushOperation, Push, Delete}
 use Rattle.aom_image.specs.declared.method.Thing.{Thing}
 use Rattle.aom_classes.specs.Bodies.{Body, IsLooped}
 use Rattle.aom_shape.specs.Kinds.{register}
@@ -21,17 +20,18 @@ use Rattle.aom_shape.specs.declared.kind.Filling.{Filling}
 use Rattle.aom_shape.specs.declared.kind.Kind.{Kind}
 use Rattle.aom_shape.specs.declared.kind.Kind.TheVariants.{Unset, Word, Null, Own, Maybe}
 use Rattle.aom_typings.specs.Shapes.{Shapes}
-use Rattle.aom_typings.specs.Calls.{Among, bodies, cancels, listed, thing_class, object_class, destructors, callees}
+use Rattle.aom_typings.specs.Calls.{Among, bodies, cancels, listed, thing_class, object_class, destructors, called_for, callees}
 use Rattle.aom_typings.specs.Most.{most_run}
 use Rattle.aom_budget.proofs.TypingsLemmas.{IsSweptAt, at_each, below_lists, below_related, by_flow, ends_before, from_each, going_same, innermost_of_body}
 use Rattle.aom_budget.proofs.TypingsLemmas.{max_same, run_among, run_related, runs_among}
 use Rattle.aom_image.specs.declared.method.Role.TheVariants as roles
 use Rattle.aom_classes.specs.Roles.{role_of}
-use Rattle.aom_typings.specs.Prices.{Prices, call_price, cancel_price, price, kind_price, own, perhaps_price}
+use Rattle.aom_typings.specs.Charges.{Charge, No_charge, A_call, An_operation, A_destruction, A_cancel, charge_of}
+use Rattle.aom_typings.specs.Prices.{Prices, charge_price, call_price, cancel_price, price, kind_price, own, perhaps_price}
 use Rattle.aom_typings.specs.Costs.{AmongFlows, Region, Whole, Round, destructor_price}
 use Rattle.aom_typings.specs.Sweeping.{Afters, IsInnermost, IsSweptFrom, all_going, most_within}
-use Rattle.aom_budget.specs.Pricing.{kept, cancel_by, price_by, destruction_by, kind_by, own_by, null_targets, empty_targets, states_targets, targets_of}
-use Rattle.aom_budget.specs.Pricing.{most_to, after_in, Found, Agrees, IsPassed}
+use Rattle.aom_budget.specs.Pricing.{kept, charge_by, cancel_by, price_by, destruction_by, kind_by, own_by, null_targets, empty_targets, states_targets}
+use Rattle.aom_budget.specs.Pricing.{targets_of, most_to, after_in, Found, Agrees, IsPassed}
 use Rattle.aom_budget.proofs.ImageLemmas.{some_given}
 use Rattle.aom_roles.specs.Tests.{AllTrue}
 
@@ -50,7 +50,8 @@ states_same : (sh : Shape) (next here to there : ℕ) →
     states_targets next (bit_and sh.states here) to (bit_and sh.states there) ≡ targets (flow_narrowed sh next here ++ flow_narrowed sh to there)
 states_same sh next here to there = grind (arith, nat_tests)
 
-pub targets_same : (p : Image) (m place : ℕ) (sh : Shape) (i : Instr) → AllTrue (rule_needs p m place sh i) → targets_of place sh i ≡ targets (flows p m place sh i)
+pub targets_same : (p : Image) (m place : ℕ) (sh : Shape) (i : Instr) → AllTrue (rule_needs p m place sh i) →
+    targets_of p place sh i ≡ targets (flows p m place sh i)
 targets_same p m place sh x needs = grind (arith, nat_tests, null_same p m place sh, empty_same p m place sh, states_same sh)
 
 pub among_flows : (to : ℕ) (fs : List Flow) → Among to (targets fs) → AmongFlows to fs
@@ -99,14 +100,15 @@ module _ (p : Image) (prices : List ℕ) (m : ℕ) (c : Prices) (lower : (k : �
         below_related (λ a b. a ≡ b) refl max_same p (λ y. perhaps_price c (role_of p y roles.Cancel)) (λ y. price_by prices (role_of p y roles.Cancel)) x
         (λ y h. perhaps_same (role_of p y roles.Cancel) (λ j among. below j (below_lists p (λ z. listed (role_of p z roles.Cancel)) x y j h among)))
 
+    charge_same : (sh : Shape) (x : Charge) → ((j : ℕ) → Among j (called_for p m sh x) → j < m) → charge_price p m c sh x ≡ charge_by p m prices sh x
+    charge_same sh No_charge below = refl
+    charge_same sh (A_call k) below = call_same k below
+    charge_same sh (An_operation k) below = lower k (below k (inl refl))
+    charge_same sh (A_destruction a) below = kind_same (register sh a) below
+    charge_same sh A_cancel below = cancel_same (method_class p m) below
+
     pub own_same : (sh : Shape) (i : Instr) → ((j : ℕ) → Among j (callees p m sh i) → j < m) → own p m c sh i ≡ own_by p m prices sh i
-    own_same sh (Call target k first x) below = ap (λ n. 1 + n) (call_same k below)
-    own_same sh (Trap target k first x) below = ap (λ n. 1 + n) (call_same k below)
-    own_same sh (PushOperation a k) below = ap (λ n. 1 + n) (lower k (below k (inl refl)))
-    own_same sh (Push a) below = ap (λ n. 1 + n) (kind_same (register sh a) below)
-    own_same sh (Delete a) below = ap (λ n. 1 + n) (kind_same (register sh a) below)
-    own_same sh Cancel below = ap (λ n. 1 + n) (cancel_same (method_class p m) below)
-    own_same sh _ below = refl
+    own_same sh i below = ap (λ n. 1 + n) (charge_same sh (charge_of i) below)
 
 -- ---- tables that agree down to a place agree down to the one after it
 

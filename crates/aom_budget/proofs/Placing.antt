@@ -44,7 +44,7 @@ module _ (p : Image) (prices : List ℕ) (m : ℕ) (s : Shapes) (looped : IsLoop
       let same : applies.instr ≡ i = same_Some applies.instr i (sym applies.stands ∙ stands) in
       subst (λ j. AllTrue (rule_needs p m x sh j)) same applies.needs
 
-  targets_at : (x : ℕ) (sh : Shape) (i : Instr) → at None s x ≡ Some sh → instr_at p m x ≡ Some i → targets_of x sh i ≡ targets (flows p m x sh i)
+  targets_at : (x : ℕ) (sh : Shape) (i : Instr) → at None s x ≡ Some sh → instr_at p m x ≡ Some i → targets_of p x sh i ≡ targets (flows p m x sh i)
   targets_at x sh i there stands = targets_same p m x sh i (needs_at x sh i there stands)
 
   called_below : (x : ℕ) (sh : Shape) (i : Instr) → at None s x ≡ Some sh → instr_at p m x ≡ Some i → (k : ℕ) → Among k (callees p m sh i) → k < m
@@ -68,7 +68,7 @@ module _ (p : Image) (prices : List ℕ) (m : ℕ) (s : Shapes) (looped : IsLoop
           go (Round f e) w = agrees.afters f e w.body.0 w.body.1 w.inside.1 w.body.2 ∙ ap (λ l. at 0 l f) same
 
       plain_most : (c : Prices) (a : Afters) (t : Typing) (sh : Shape) → at None s x ≡ Some sh → Agrees p prices m s x new t c a →
-          most_within c m r (flows p m x sh i) ≡ most_to old.from r (targets_of x sh i)
+          most_within c m r (flows p m x sh i) ≡ most_to old.from r (targets_of p x sh i)
       plain_most c a t sh there agrees =
           let each = λ (to : ℕ) (among : AmongFlows to (flows p m x sh i)).
           let past = forward x to sh i stands no_next among in

@@ -6,12 +6,13 @@ use Rattle.std.proofs.lemmas.Bool.{cases_lt}
 use Rattle.std.proofs.lemmas.Bool.Decides.{eqb_tells}
 use Rattle.std.proofs.lemmas.List.{length-set, length-replicate}
 use Rattle.aom_image.specs.Image.{Image}
-use Rattle.aom_image.specs.Views.{instr_at, method_at}
+use Rattle.aom_image.specs.Views.{instr_at, method_at, method_class}
 use Rattle.aom_image.specs.WellFormed.{WellFormed}
 use Rattle.aom_instructions.specs.declared.instr.Instr.{Instr}
 use Rattle.aom_image.specs.declared.method.Thing.{Thing}
 use Rattle.aom_classes.specs.Linked.{IsLinked}
 use Rattle.aom_budget.proofs.ClassesLemmas.{of_method}
+use Rattle.aom_shape.specs.Kinds.{register}
 use Rattle.aom_shape.specs.Shape.{Shape}
 use Rattle.aom_roles.specs.Tables.{at}
 use Rattle.aom_rules.specs.Typing.{Typing}
@@ -20,12 +21,13 @@ use Rattle.aom_shape.specs.declared.kind.Kind.TheVariants.{Maybe, Own}
 use Rattle.aom_budget.proofs.ShapeLemmas.{at_set_here, at_set_other}
 use Rattle.aom_typings.specs.Shapes.{Shapes}
 use Rattle.aom_typings.specs.Strongest.{IsMethodStrongest, IsStrongest}
-use Rattle.aom_typings.specs.Calls.{Among, object_class, destructors, callees, CallsAt}
+use Rattle.aom_typings.specs.Charges.{Charge, No_charge, A_call, An_operation, A_destruction, A_cancel, charge_of}
+use Rattle.aom_typings.specs.Calls.{Among, object_class, destructors, called_for, callees, CallsAt}
 use Rattle.aom_budget.proofs.TypingsLemmas.{cancel_among, from_each, going_same, image_strongest, law_up_to, method_within, nothing_there, run_among}
 use Rattle.aom_budget.proofs.TypingsLemmas.{runs_among}
 use Rattle.aom_typings.specs.Prices.{Prices}
 use Rattle.aom_typings.specs.Costs.{destructor_price}
-use Rattle.aom_typings.specs.Layers.{KindDestructs, Pays, PaysBefore}
+use Rattle.aom_typings.specs.Layers.{KindDestructs, Pays, PaysFor, PaysBefore}
 use Rattle.aom_typings.specs.Sweeping.{Afters, IsSweptFrom, IsSweptUpTo, all_going}
 use Rattle.aom_budget.specs.Pricing.{kept, Found, Agrees, IsMethodPriced, ArePricedBelow, ArePriced, IsPriceUpTo}
 use Rattle.aom_budget.proofs.Keeping.{at_noughts}
@@ -39,8 +41,15 @@ kind_called p (Own t a) m runs = runs_among p t m runs
 kind_called p (Maybe t a) m runs = runs_among p t m runs
 kind_called p _ m runs = absurd runs
 
+charge_called : (p : Image) (m : ℕ) (sh : Shape) (x : Charge) (k : ℕ) → PaysFor p m sh x k → Among k (called_for p m sh x)
+charge_called p m sh No_charge k e = absurd e
+charge_called p m sh (A_call called) k e = run_among p called k e
+charge_called p m sh (An_operation called) k e = inl (sym e)
+charge_called p m sh (A_destruction a) k e = kind_called p (register sh a) k e
+charge_called p m sh A_cancel k e = cancel_among p (method_class p m) k e
+
 paid_called : (p : Image) (m : ℕ) (sh : Shape) (i : Instr) (k : ℕ) → Pays p m sh i k → Among k (callees p m sh i)
-paid_called p m sh x k e = grind (arith, nat_tests, run_among p, kind_called p, cancel_among p)
+paid_called p m sh i k e = charge_called p m sh (charge_of i) k e
 
 pub method_there : (p : Image) (m place : ℕ) (i : Instr) → instr_at p m place ≡ Some i → IsSome (method_at p m)
 method_there p m place i stands = let w = of_method p m place i stands in rw w.1 refl

@@ -3,10 +3,10 @@ use Rattle.std.specs.Prelude.{ℕ, ◌≡◌, ◌≤◌, ◌<◌, ◌+◌, ◌�
 use Rattle.aom_image.specs.Image.{Image}
 use Rattle.aom_image.specs.Views.{instr_at}
 use Rattle.aom_instructions.specs.declared.instr.Instr.{Instr}
-use Rattle.aom_instructions.specs.declared.instr.Instr.TheVariants.{Call, Trap}
 use Rattle.aom_shape.specs.Shape.{Shape}
 use Rattle.aom_roles.specs.Tables.{at}
 use Rattle.aom_typings.specs.Shapes.{Shapes}
+use Rattle.aom_typings.specs.Charges.{Charge, A_call, charge_of}
 use Rattle.aom_typings.specs.Calls.{Among, bodies, callees}
 use Rattle.aom_typings.specs.Depths.{Frames}
 use Rattle.aom_typings.specs.Heights.{Heights}
@@ -16,11 +16,14 @@ pub record IsMost (cap : ℕ) (some : ℕ → Type 0) (n : ℕ) : Type 0 where
   pub above : (k : ℕ) → some k → min k cap ≤ n
   pub met : (n ≡ 0) ⊎ ((k : ℕ) × some k × (n ≡ min k cap))
 
--- the methods that an instruction may enter, with a trap or without
+-- the methods that may be entered for what is charged for
+abbrev pub entered_for : Image → Charge → List ℕ
+entered_for p (A_call k) = bodies p k
+entered_for p _ = []
+
+-- those that an instruction may enter, with a trap or without
 abbrev pub entered : Image → Instr → List ℕ
-entered p (Call target k first c) = bodies p k
-entered p (Trap target k first c) = bodies p k
-entered p _ = []
+entered p i = entered_for p (charge_of i)
 
 -- so many of one of those methods
 pub record OfSome (of : ℕ → ℕ → Type 0) (methods : List ℕ) (n : ℕ) : Type 0 where

@@ -3,13 +3,12 @@ use Rattle.std.specs.Prelude.{ℕ, suc, ◌+◌, ◌-◌, ◌≡◌, ◌==◌, �
 use Rattle.aom_image.specs.Image.{Image}
 use Rattle.aom_image.specs.Views.{instr_at, method_at, method_class}
 use Rattle.aom_instructions.specs.declared.instr.Instr.{Instr}
-use Rattle.aom_instructions.specs.declared.instr.Instr.TheVariants.{Call, Cancel, Trap, Push, PushOperation, Delete, Jump, JumpEqual, JumpLess, JumpNull, JumpEmpty, JumpActive, JumpAdded, Next, Return, Leave}
 use Rattle.aom_image.specs.declared.method.Role.TheVariants as roles
 use Rattle.aom_image.specs.declared.method.Thing.{Thing}
 use Rattle.aom_classes.specs.Roles.{role_of}
 use Rattle.aom_classes.specs.Bodies.{Body, IsIn}
-use Rattle.aom_roles.specs.States.{unlisted}
-use Rattle.aom_rules.specs.Requests.{enlisted, inactive, outstanding}
+use Rattle.aom_rules.specs.Rules.{ways_of}
+use Rattle.aom_rules.specs.Ways.{Ways, Ends, Goes_on, Goes_to, Branches, Goes_back, Branches_on_null, Branches_on_empty, Branches_in}
 use Rattle.aom_shape.specs.Kinds.{register, field}
 use Rattle.aom_shape.specs.Shape.{Shape}
 use Rattle.aom_roles.specs.Tables.{at}
@@ -20,6 +19,7 @@ use Rattle.aom_shape.specs.declared.kind.Kind.{Kind}
 use Rattle.aom_shape.specs.declared.kind.Kind.TheVariants.{Unset, Word, Null, Own, Maybe}
 use Rattle.aom_typings.specs.Shapes.{Shapes}
 use Rattle.aom_typings.specs.Strongest.{IsMethodStrongest, IsStrongest}
+use Rattle.aom_typings.specs.Charges.{Charge, No_charge, A_call, An_operation, A_destruction, A_cancel, charge_of}
 use Rattle.aom_typings.specs.Calls.{Among}
 use Rattle.aom_typings.specs.Most.{most_below, most_run}
 use Rattle.aom_verify.specs.Sweep.{HasPlaces}
@@ -60,15 +60,17 @@ abbrev pub cancel_by : Image → List ℕ → Option ℕ → ℕ
 cancel_by p prices None = 0
 cancel_by p prices (Some x) = most_below p (λ y. price_by prices (role_of p y roles.Cancel)) x
 
--- what an instruction of a method costs itself
+-- what it costs that an instruction of a method sets going
+abbrev pub charge_by : Image → (m : ℕ) → List ℕ → Shape → Charge → ℕ
+charge_by p m prices sh No_charge = 0
+charge_by p m prices sh (A_call k) = most_run p (at 0 prices) k
+charge_by p m prices sh (An_operation k) = at 0 prices k
+charge_by p m prices sh (A_destruction a) = kind_by p prices (register sh a)
+charge_by p m prices sh A_cancel = cancel_by p prices (method_class p m)
+
+-- what the instruction costs itself
 abbrev pub own_by : Image → (m : ℕ) → List ℕ → Shape → Instr → ℕ
-own_by p m prices sh (Call target k first x) = 1 + most_run p (at 0 prices) k
-own_by p m prices sh (Trap target k first x) = 1 + most_run p (at 0 prices) k
-own_by p m prices sh (PushOperation a k) = 1 + at 0 prices k
-own_by p m prices sh (Push a) = 1 + kind_by p prices (register sh a)
-own_by p m prices sh (Delete a) = 1 + kind_by p prices (register sh a)
-own_by p m prices sh Cancel = 1 + cancel_by p prices (method_class p m)
-own_by p m prices sh _ = 1
+own_by p m prices sh i = 1 + charge_by p m prices sh (charge_of i)
 
 -- ---- places
 
@@ -88,19 +90,19 @@ empty_targets next Perhaps to = next ∷ to ∷ []
 abbrev pub states_targets : (next here to there : ℕ) → List ℕ
 states_targets next here to there = cond (here == 0) [] (next ∷ []) ++ cond (there == 0) [] (to ∷ [])
 
--- where an instruction whose rule applies goes on
-abbrev pub targets_of : ℕ → Shape → Instr → List ℕ
-targets_of place sh (Jump to) = to ∷ []
-targets_of place sh (JumpEqual a b to) = suc place ∷ to ∷ []
-targets_of place sh (JumpLess a b to) = suc place ∷ to ∷ []
-targets_of place sh (JumpNull a to) = null_targets (suc place) (register sh a) to
-targets_of place sh (JumpEmpty f to) = empty_targets (suc place) (field sh f) to
-targets_of place sh (JumpActive to) = states_targets (suc place) (bit_and sh.states inactive) to (bit_and sh.states outstanding)
-targets_of place sh (JumpAdded to) = states_targets (suc place) (bit_and sh.states unlisted) to (bit_and sh.states enlisted)
-targets_of place sh (Next d to) = to ∷ suc place ∷ []
-targets_of place sh (Return a) = []
-targets_of place sh (Leave a) = []
-targets_of place sh _ = suc place ∷ []
+-- where an instruction goes on that has those ways and whose rule applies
+abbrev pub targets_by : ℕ → Shape → Ways → List ℕ
+targets_by place sh Ends = []
+targets_by place sh (Goes_on news) = suc place ∷ []
+targets_by place sh (Goes_to to) = to ∷ []
+targets_by place sh (Branches to) = suc place ∷ to ∷ []
+targets_by place sh (Goes_back to) = to ∷ suc place ∷ []
+targets_by place sh (Branches_on_null a to) = null_targets (suc place) (register sh a) to
+targets_by place sh (Branches_on_empty f to) = empty_targets (suc place) (field sh f) to
+targets_by place sh (Branches_in there here to) = states_targets (suc place) (bit_and sh.states here) to (bit_and sh.states there)
+
+abbrev pub targets_of : Image → ℕ → Shape → Instr → List ℕ
+targets_of p place sh i = targets_by place sh (ways_of p i)
 
 -- the most over the places that are not past the region
 abbrev pub most_to : List ℕ → Region → List ℕ → ℕ
@@ -125,7 +127,7 @@ pub record ExitsAt (p : Image) (m : ℕ) (s : Shapes) (from : List ℕ) (first l
   pub instr : Instr
   pub stands : instr_at p m place ≡ Some instr
   pub out : ℕ
-  pub flow : Among out (targets_of place shape instr)
+  pub flow : Among out (targets_of p place shape instr)
   pub outside : last < out
   pub is : at 0 from out ≡ n
 
@@ -139,7 +141,7 @@ found_by from after = record { from = from; after = after }
 
 -- what a method costs from a plain instruction on, with the dearest way
 abbrev pub plain_cost : Image → (m : ℕ) → List ℕ → Found → Region → ℕ → Shape → Instr → ℕ
-plain_cost p m prices found r place sh i = kept (own_by p m prices sh i + max (after_in found.after r) (most_to found.from r (targets_of place sh i)))
+plain_cost p m prices found r place sh i = kept (own_by p m prices sh i + max (after_in found.after r) (most_to found.from r (targets_of p place sh i)))
 
 -- the most that follows a loop: so much after the one round it, or what its body goes out to
 pub record Follows (p : Image) (m : ℕ) (s : Shapes) (from : List ℕ) (outside first last n : ℕ) : Type 0 where

@@ -1,5 +1,6 @@
 //! Where an instruction goes on.
 ghost use Rattle.std.specs.Prelude.{◌≡◌, ◌++◌, [], ◌∷◌, ◌<◌, ◌^◌, suc, bit_and};
+ghost use Rattle.aom_image.specs.Image.{Image as ImageRecord};
 ghost use Rattle.aom_typings.specs.Calls.{listed};
 ghost use Rattle.aom_budget.specs.Pricing.{null_targets, empty_targets, states_targets, targets_of};
 
@@ -90,7 +91,7 @@ impl Targets {
     /// The places at which a run may go on from one, by what is known there.
     pub(crate) fn of_instr(place: usize, shape: &ShapeView<'_>, instr: &Instr) -> Targets
         requires { suc place < 2 ^ 64 }
-        ensures { listed result.first ++ listed result.second ≡ targets_of place shape.now instr.now }
+        ensures { (p : ImageRecord) → listed result.first ++ listed result.second ≡ targets_of p place shape.now instr.now }
     {
         let next = place + 1;
         match *instr {

@@ -4,16 +4,16 @@ use Rattle.std.specs.Prelude.{max}
 use Rattle.aom_image.specs.Image.{Image}
 use Rattle.aom_image.specs.Views.{method_class}
 use Rattle.aom_instructions.specs.declared.instr.Instr.{Instr}
-use Rattle.aom_instructions.specs.declared.instr.Instr.TheVariants.{Call, Cancel, Delete, Push, PushOperation, Trap}
 use Rattle.aom_image.specs.declared.method.Thing.{Thing}
 use Rattle.aom_shape.specs.Kinds.{register}
 use Rattle.aom_shape.specs.Needs.{Flow}
 use Rattle.aom_shape.specs.Shape.{Shape}
 use Rattle.aom_shape.specs.declared.kind.Kind.{Kind}
 use Rattle.aom_shape.specs.declared.kind.Kind.TheVariants.{Maybe, Null, Own, Unset, Word}
-use Rattle.aom_typings.specs.Prices.{Prices, call_price, cancel_price, kind_price, own, perhaps_price, price}
+use Rattle.aom_typings.specs.Charges.{Charge, No_charge, A_call, An_operation, A_destruction, A_cancel, charge_of}
+use Rattle.aom_typings.specs.Prices.{Prices, charge_price, call_price, cancel_price, kind_price, own, perhaps_price, price}
 use Rattle.aom_typings.specs.Costs.{AmongFlows, Region}
-use Rattle.aom_typings.specs.Layers.{Cancelled, Destructs, KindDestructs, MayRun, Pays}
+use Rattle.aom_typings.specs.Layers.{Cancelled, Destructs, KindDestructs, MayRun, Pays, PaysFor}
 use Rattle.aom_image.specs.declared.method.Role.TheVariants.{Cancel as Cancels}
 use Rattle.aom_classes.specs.Roles.{role_of}
 use Rattle.aom_typings.proofs.Mosts.{below_related, run_related}
@@ -42,15 +42,17 @@ module _ (R : ℕ → ℕ → Type 0) (none : R 0 0) (p : Image) (c d : Prices) 
     call_related : (j : ℕ) → ((k : ℕ) → MayRun p j k → R (price c k) (price d k)) → R (call_price p c j) (call_price p d j)
     call_related j h = run_related R none maxima p (price c) (price d) j h
 
-    -- what an instruction costs itself
+    -- what it costs that an instruction sets going, and what the instruction costs itself
+    charge_related : (m : ℕ) (sh : Shape) (x : Charge) → ((k : ℕ) → PaysFor p m sh x k → R (price c k) (price d k)) →
+        R (charge_price p m c sh x) (charge_price p m d sh x)
+    charge_related m sh No_charge h = none
+    charge_related m sh (A_call k) h = call_related k h
+    charge_related m sh (An_operation k) h = h k refl
+    charge_related m sh (A_destruction r) h = kind_related (register sh r) h
+    charge_related m sh A_cancel h = cancel_related (method_class p m) h
+
     pub own_related : (m : ℕ) (sh : Shape) (i : Instr) → ((k : ℕ) → Pays p m sh i k → R (price c k) (price d k)) → R (own p m c sh i) (own p m d sh i)
-    own_related m sh (Call target k first x) h = more (call_price p c k) (call_price p d k) (call_related k h)
-    own_related m sh (Trap target k first x) h = more (call_price p c k) (call_price p d k) (call_related k h)
-    own_related m sh (Push r) h = more (kind_price c (register sh r)) (kind_price d (register sh r)) (kind_related (register sh r) h)
-    own_related m sh (Delete r) h = more (kind_price c (register sh r)) (kind_price d (register sh r)) (kind_related (register sh r) h)
-    own_related m sh (PushOperation r k) h = more (price c k) (price d k) (h k refl)
-    own_related m sh Cancel h = more (cancel_price p c (method_class p m)) (cancel_price p d (method_class p m)) (cancel_related (method_class p m) h)
-    own_related m sh i h = more 0 0 none
+    own_related m sh i h = more (charge_price p m c sh (charge_of i)) (charge_price p m d sh (charge_of i)) (charge_related m sh (charge_of i) h)
 
   -- the most over flows, where maxima are related
   module _ (maxima : (x y z w : ℕ) → R x y → R z w → R (max x z) (max y w)) (m : ℕ) (r : Region) where

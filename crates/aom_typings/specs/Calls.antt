@@ -3,7 +3,6 @@ use Rattle.std.specs.Prelude.{ℕ, zero, suc, Bool, cond, length, ◌≡◌, ◌
 use Rattle.aom_image.specs.Image.{Image}
 use Rattle.aom_image.specs.Views.{instr_at, method_class}
 use Rattle.aom_instructions.specs.declared.instr.Instr.{Instr}
-use Rattle.aom_instructions.specs.declared.instr.Instr.TheVariants.{Call, Trap, Push, PushOperation, Delete, Cancel}
 use Rattle.aom_image.specs.declared.method.Role.TheVariants as roles
 use Rattle.aom_image.specs.declared.method.Thing.{Thing}
 use Rattle.aom_image.specs.declared.method.Thing.TheVariants.{Object, Message}
@@ -16,6 +15,7 @@ use Rattle.aom_shape.specs.Shape.{Shape}
 use Rattle.aom_roles.specs.Tables.{at}
 use Rattle.aom_shape.specs.declared.kind.Kind.{Kind}
 use Rattle.aom_shape.specs.declared.kind.Kind.TheVariants.{Unset, Word, Null, Own, Maybe}
+use Rattle.aom_typings.specs.Charges.{Charge, No_charge, A_call, An_operation, A_destruction, A_cancel, charge_of}
 use Rattle.aom_typings.specs.Shapes.{Shapes}
 use Rattle.aom_typings.specs.Strongest.{IsMethodStrongest}
 
@@ -67,15 +67,18 @@ object_class Null = None
 object_class (Own t a) = thing_class t
 object_class (Maybe t a) = thing_class t
 
--- the methods that an instruction of a method may call; an operation or an object that is pushed is called for, or goes, when it leaves the cleanup stack
+-- the methods that may run for what an instruction of a method sets going; an operation or an object that is pushed is called for, or goes, when it
+-- leaves the cleanup stack
+abbrev pub called_for : Image → ℕ → Shape → Charge → List ℕ
+called_for p m sh No_charge = []
+called_for p m sh (A_call k) = bodies p k
+called_for p m sh (An_operation k) = k ∷ []
+called_for p m sh (A_destruction r) = destructors p (object_class (register sh r))
+called_for p m sh A_cancel = cancels p (method_class p m)
+
+-- the methods that the instruction may call
 abbrev pub callees : Image → ℕ → Shape → Instr → List ℕ
-callees p m sh (Call target k first c) = bodies p k
-callees p m sh (Trap target k first c) = bodies p k
-callees p m sh (PushOperation r k) = k ∷ []
-callees p m sh (Push r) = destructors p (object_class (register sh r))
-callees p m sh (Delete r) = destructors p (object_class (register sh r))
-callees p m sh Cancel = cancels p (method_class p m)
-callees p m sh _ = []
+callees p m sh i = called_for p m sh (charge_of i)
 
 abbrev pub Among : ℕ → List ℕ → Type 0
 Among k [] = ⊥

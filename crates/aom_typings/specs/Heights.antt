@@ -3,9 +3,9 @@ use Rattle.std.specs.Prelude.{ℕ, ◌+◌, ◌≤◌, ◌<◌, ◌≡◌, List,
 use Rattle.aom_image.specs.Image.{Image}
 use Rattle.aom_image.specs.Views.{instr_at, method_at}
 use Rattle.aom_instructions.specs.declared.instr.Instr.{Instr}
-use Rattle.aom_instructions.specs.declared.instr.Instr.TheVariants.{Call, Trap}
 use Rattle.aom_shape.specs.Shape.{Shape}
 use Rattle.aom_roles.specs.Tables.{at}
+use Rattle.aom_typings.specs.Charges.{Charge, A_call, charge_of}
 use Rattle.aom_typings.specs.Shapes.{Shapes}
 use Rattle.aom_typings.specs.Layers.{MayRun}
 use Rattle.aom_typings.specs.Strongest.{IsMethodStrongest}
@@ -23,11 +23,14 @@ pub record StandsWith (p : Image) (m n : ℕ) : Type 0 where
   pub stands : StandsAt p m place shape
   pub count : length shape.entries ≡ n
 
+-- what is charged for is a call of that method
+abbrev pub IsCall : Image → Charge → ℕ → Type 0
+IsCall p (A_call k') k = MayRun p k' k
+IsCall p _ k = ⊥
+
 -- an instruction that calls that method, with a trap or without
 abbrev pub Enters : Image → Instr → ℕ → Type 0
-Enters p (Call target k' first c) k = MayRun p k' k
-Enters p (Trap target k' first c) k = MayRun p k' k
-Enters p _ k = ⊥
+Enters p i k = IsCall p (charge_of i) k
 
 -- a method calls another one with so many entries of its own
 pub record CallsOver (p : Image) (m k h : ℕ) : Type 0 where

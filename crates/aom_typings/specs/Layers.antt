@@ -3,7 +3,6 @@ use Rattle.std.specs.Prelude.{ℕ, true, ◌≡◌, ◌<◌, ◌⊎◌, min, Opt
 use Rattle.aom_image.specs.Image.{Image}
 use Rattle.aom_image.specs.Views.{method_at, method_class}
 use Rattle.aom_instructions.specs.declared.instr.Instr.{Instr}
-use Rattle.aom_instructions.specs.declared.instr.Instr.TheVariants.{Call, Cancel, Trap, Push, PushOperation, Delete}
 use Rattle.aom_image.specs.declared.method.Thing.{Thing}
 use Rattle.aom_image.specs.declared.method.Thing.TheVariants.{Object, Message}
 use Rattle.aom_roles.specs.Classes.{sessions_at}
@@ -17,6 +16,7 @@ use Rattle.aom_shape.specs.Shape.{Shape}
 use Rattle.aom_rules.specs.Typing.{Typing}
 use Rattle.aom_shape.specs.declared.kind.Kind.{Kind}
 use Rattle.aom_shape.specs.declared.kind.Kind.TheVariants.{Unset, Word, Null, Own, Maybe}
+use Rattle.aom_typings.specs.Charges.{Charge, No_charge, A_call, An_operation, A_destruction, A_cancel, charge_of}
 use Rattle.aom_typings.specs.Prices.{Prices, Stands, IsPriced, price}
 use Rattle.aom_typings.specs.Costs.{ArePrices}
 
@@ -55,15 +55,16 @@ KindDestructs p Null k = ⊥
 KindDestructs p (Own t a) k = Destructs p t k
 KindDestructs p (Maybe t a) k = Destructs p t k
 
--- an instruction of a method pays the price of a method
+-- what an instruction of a method sets going pays the price of a method
+abbrev pub PaysFor : Image → (m : ℕ) → Shape → Charge → ℕ → Type 0
+PaysFor p m sh No_charge k = ⊥
+PaysFor p m sh (A_call j) k = MayRun p j k
+PaysFor p m sh (An_operation j) k = j ≡ k
+PaysFor p m sh (A_destruction a) k = KindDestructs p (register sh a) k
+PaysFor p m sh A_cancel k = Cancelled p (method_class p m) k
+
 abbrev pub Pays : Image → (m : ℕ) → Shape → Instr → ℕ → Type 0
-Pays p m sh (Call target j first x) k = MayRun p j k
-Pays p m sh (Trap target j first x) k = MayRun p j k
-Pays p m sh (Push a) k = KindDestructs p (register sh a) k
-Pays p m sh (Delete a) k = KindDestructs p (register sh a) k
-Pays p m sh (PushOperation a j) k = j ≡ k
-Pays p m sh Cancel k = Cancelled p (method_class p m) k
-Pays p m sh _ k = ⊥
+Pays p m sh i k = PaysFor p m sh (charge_of i) k
 
 -- a method pays for methods before it alone
 pub record PaysBefore (p : Image) (t : Typing) : Type 0 where

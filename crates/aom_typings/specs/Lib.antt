@@ -1,4 +1,5 @@
 pub mod Most
+pub mod Charges
 pub mod Prices
 pub mod Costs
 pub mod Sweeping

@@ -3,7 +3,7 @@ use Rattle.std.specs.Prelude.{ℕ, suc, ◌+◌, ◌-◌, ◌*◌, ◌≡◌, �
 use Rattle.aom_image.specs.Image.{Image}
 use Rattle.aom_image.specs.Views.{instr_at, method_class}
 use Rattle.aom_instructions.specs.declared.instr.Instr.{Instr}
-use Rattle.aom_instructions.specs.declared.instr.Instr.TheVariants.{Call, Cancel, Trap, Push, PushOperation, Delete, Loop, Next}
+use Rattle.aom_instructions.specs.declared.instr.Instr.TheVariants.{Loop, Next}
 use Rattle.aom_image.specs.declared.class.ClassKind.{ClassKind}
 use Rattle.aom_image.specs.declared.class.ClassKind.TheVariants.{Server}
 use Rattle.aom_image.specs.declared.method.Role.TheVariants as roles
@@ -12,6 +12,7 @@ use Rattle.aom_image.specs.declared.method.Thing.TheVariants.{Object, Message}
 use Rattle.aom_roles.specs.Classes.{kind_at}
 use Rattle.aom_classes.specs.Loops.{loop_in, next_in}
 use Rattle.aom_classes.specs.Roles.{role_of}
+use Rattle.aom_typings.specs.Charges.{Charge, No_charge, A_call, An_operation, A_destruction, A_cancel, charge_of}
 use Rattle.aom_typings.specs.Most.{line, most_below, most_run}
 use Rattle.aom_roles.specs.Things.{stands_for}
 use Rattle.aom_shape.specs.Shape.{Shape}
@@ -69,15 +70,17 @@ abbrev pub sessions_cost : Image → (ℕ → ℕ) → Thing → ℕ
 sessions_cost p cost (Object k) = perhaps_sessions cost (kind_at p k)
 sessions_cost p cost Message = 0
 
--- what an instruction of a method costs itself; what is pushed is paid for then, and costs nothing where it leaves the cleanup stack
+-- what it costs that an instruction of a method sets going; what is pushed is paid for then, and costs nothing where it leaves the cleanup stack
+abbrev pub charge_price : Image → (m : ℕ) → Prices → Shape → Charge → ℕ
+charge_price p m c sh No_charge = 0
+charge_price p m c sh (A_call k) = call_price p c k
+charge_price p m c sh (An_operation k) = price c k
+charge_price p m c sh (A_destruction a) = kind_price c (register sh a)
+charge_price p m c sh A_cancel = cancel_price p c (method_class p m)
+
+-- what the instruction costs itself
 abbrev pub own : Image → (m : ℕ) → Prices → Shape → Instr → ℕ
-own p m c sh (Call target k first x) = 1 + call_price p c k
-own p m c sh (Trap target k first x) = 1 + call_price p c k
-own p m c sh (Push a) = 1 + kind_price c (register sh a)
-own p m c sh (Delete a) = 1 + kind_price c (register sh a)
-own p m c sh (PushOperation a k) = 1 + price c k
-own p m c sh Cancel = 1 + cancel_price p c (method_class p m)
-own p m c sh _ = 1
+own p m c sh i = 1 + charge_price p m c sh (charge_of i)
 
 -- it pays for going on at each of these places
 abbrev pub AllPaid : Prices → (m pays here : ℕ) → List Flow → Type 0
