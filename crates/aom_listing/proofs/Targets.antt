@@ -1,26 +1,15 @@
 -- The table of jump targets, by the instructions that were gone over.
-use Rattle.std.proofs.Common.{◌≡◌, ◌∙◌, sym, ap, ℕ, ◌+◌, ◌<◌, ◌||◌, Bool, false, Option, Some, None, refl, List, [], ◌∷◌, ◌++◌, length, take, replicate}
-use Rattle.std.proofs.Common.{slice_index_or}
+use Rattle.std.proofs.Common.{◌≡◌, ◌∙◌, sym, ap, ℕ, ◌+◌, ◌<◌, ◌||◌, Bool, false, None, refl, List, [], ◌∷◌, ◌++◌, length, take, replicate, slice_index_or}
 use Rattle.std.proofs.Math.Bool.{or-false}
 use Rattle.std.proofs.lemmas.List.{get_or-replicate, take_more}
 use Rattle.std.proofs.lemmas.List.Folds.{list_any-append}
-use Rattle.aom_instructions.specs.Parts.{operands}
 use Rattle.aom_instructions.specs.declared.instr.Instr.{Instr}
-use Rattle.aom_instructions.specs.declared.instr.Instr.TheVariants as instr
 use Rattle.aom_instructions.specs.declared.operand.Large.{Large}
 use Rattle.aom_instructions.specs.declared.operand.Large.TheVariants as large
 use Rattle.aom_syntax.specs.Classes.{is_at}
-use Rattle.aom_listing.specs.Jumps.{jump_of, is_target, Tells}
+use Rattle.aom_listing.specs.Jumps.{jump_of, is_target, place_said, Tells}
 
--- an instruction jumps to the place among its operands
-abbrev pub place_said : Large → Option ℕ
-place_said (large.Place d) = Some d
-place_said _ = None
-
-pub place_jumps : (i : Instr) → place_said (operands i).d ≡ jump_of i
-place_jumps (instr.Jump d) = refl
-place_jumps _ = refl
-
+-- an operand that is no place
 pub none_said : (operand : Large) → ((x : ℕ) → operand ≡ large.Place x → ⊥) → None ≡ place_said operand
 none_said (large.Place x) other = absurd (other x refl)
 none_said _ other = refl

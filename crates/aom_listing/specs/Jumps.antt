@@ -1,21 +1,20 @@
 -- The places to which a method's instructions jump.
 use Rattle.std.specs.Prelude.{◌≡◌, ◌<◌, ℕ, Bool, false, List, Option, Some, None, slice_index_or}
 use Rattle.std.specs.List.{list_any}
+use Rattle.aom_instructions.specs.Parts.{operands}
 use Rattle.aom_instructions.specs.declared.instr.Instr.{Instr}
-use Rattle.aom_instructions.specs.declared.instr.Instr.TheVariants as instr
+use Rattle.aom_instructions.specs.declared.operand.Large.{Large}
+use Rattle.aom_instructions.specs.declared.operand.Large.TheVariants as large
 use Rattle.aom_syntax.specs.Classes.{is_at}
 
--- where an instruction jumps to
+-- the place that an operand says
+abbrev pub place_said : Large → Option ℕ
+place_said (large.Place d) = Some d
+place_said _ = None
+
+-- where an instruction jumps to: the place among its operands
 abbrev pub jump_of : Instr → Option ℕ
-jump_of (instr.Jump d) = Some d
-jump_of (instr.JumpEqual a b d) = Some d
-jump_of (instr.JumpLess a b d) = Some d
-jump_of (instr.JumpNull a d) = Some d
-jump_of (instr.JumpEmpty a d) = Some d
-jump_of (instr.JumpActive d) = Some d
-jump_of (instr.JumpAdded d) = Some d
-jump_of (instr.Next a d) = Some d
-jump_of i = None
+jump_of i = place_said (operands i).d
 
 -- whether an instruction of the code jumps to that place
 abbrev pub is_target : List Instr → ℕ → Bool

@@ -1,6 +1,7 @@
 -- Each instruction reads back, by the kinds of its operands.
 use Rattle.std.proofs.lemmas.Bool.Decides.{nat_tests}
 use Rattle.std.proofs.Common.{◌≡◌, ℕ, ◌<◌, List, ◌∷◌, refl, ap, ◌∙◌, arith, Some, Ok, true}
+use Rattle.std.specs.Prelude.{IfSome}
 use Rattle.aom_instructions.specs.declared.version.Version.{Version}
 use Rattle.aom_meaning.proofs.InstructionsLemmas.{parts_make_again}
 use Rattle.aom_instructions.specs.Mnemonics.{is_in, mnemonic_text}
@@ -23,6 +24,7 @@ use Rattle.aom_syntax.specs.Names.{place_of}
 use Rattle.aom_syntax.specs.Reading.{◌>>=◌, Reading, giving, next}
 use Rattle.aom_syntax.specs.Words.{in_order, large_operand, small_operand, words_operands}
 use Rattle.aom_syntax.specs.declared.scope.Scope.{Scope}
+use Rattle.aom_listing.specs.Jumps.{place_said}
 use Rattle.aom_listing.specs.Operands.{label_name}
 use Rattle.aom_listing.specs.Words.{in_text, large_words, small_words, words_statement}
 use Rattle.aom_meaning.specs.Naming.{HasLabel, HasNames}
@@ -54,8 +56,12 @@ Labelled labels (large.Place d) = (d < 1024) × (place_of (label_name d) labels 
 Labelled labels (large.Class n) = Unit {0}
 Labelled labels (large.Method n) = Unit {0}
 
+place_labelled : (labels : List (List ℕ)) (o : Large) → IfSome (place_said o) (λ d. (d < 1024) × (place_of (label_name d) labels ≡ Some d)) → Labelled labels o
+place_labelled labels (large.Place d) to = to
+place_labelled labels _ to = tt
+
 labelled : (labels : List (List ℕ)) (i : Instr) → HasLabel labels i → Labelled labels (operands i).d
-labelled labels x to = grind arith
+labelled labels i to = place_labelled labels (operands i).d to
 
 module _ {classes methods : ℕ} {scope : Scope} (names : HasNames classes methods scope) (version : Version) (labels : List (List ℕ)) (places : ℕ) where
   takes_large : (k : LargeKind) (o : Large) → LargeFits (limits version classes methods places) k o → Labelled labels o →

@@ -5,9 +5,15 @@ use Rattle.std.specs.Prelude.{IfSome}
 use Rattle.std.proofs.lemmas.Bool.{eq-eqb}
 use Rattle.aom_instructions.specs.declared.version.Version.{Version}
 use Rattle.aom_instructions.specs.Fits.{InstrFits, limits}
+use Rattle.aom_instructions.specs.Operands.{LargeFits}
+use Rattle.aom_instructions.specs.Parts.{mnemonic, operands}
+use Rattle.aom_instructions.specs.Rows.{row}
 use Rattle.aom_instructions.specs.declared.instr.Instr.{Instr}
+use Rattle.aom_instructions.specs.declared.kinds.LargeKind.{LargeKind}
+use Rattle.aom_instructions.specs.declared.limits.Limits.{Limits}
+use Rattle.aom_instructions.specs.declared.operand.Large.{Large}
 use Rattle.aom_syntax.specs.Names.{place_of}
-use Rattle.aom_listing.specs.Jumps.{is_target, jump_of}
+use Rattle.aom_listing.specs.Jumps.{is_target, jump_of, place_said}
 use Rattle.aom_listing.specs.Operands.{label_name}
 use Rattle.aom_meaning.specs.Naming.{HasLabel, code_labels, label_or_none}
 use Rattle.aom_meaning.proofs.Names.{place_found}
@@ -36,10 +42,14 @@ jump_is_target : (code : List Instr) (place d : ℕ) (i : Instr) → slice_get c
 jump_is_target code place d i there jumps =
     grind (arith, nat_tests, list_any_at, slice_get_within code place i there, get_or_from_slice_get code place i i there, eq-eqb d d)
 
--- an instruction that fits jumps into the code
+-- an instruction that fits jumps into the code: an operand that is a place and fits is one of its places
+place_within : (l : Limits) (k : LargeKind) (o : Large) → LargeFits l k o → IfSome (place_said o) (λ d. d < l.places)
+place_within l x y fits = grind arith
+
 jump_within : (version : Version) (classes methods places : ℕ) (i : Instr) → InstrFits (limits version classes methods places) i →
     IfSome (jump_of i) (λ d. d < places)
-jump_within version classes methods places x fits = grind arith
+jump_within version classes methods places i fits =
+    place_within (limits version classes methods places) (row (mnemonic i)).kinds.d (operands i).d fits.operands.d
 
 pub has_label : (version : Version) (classes methods : ℕ) (code : List Instr) (place : ℕ) (i : Instr) →
     length code ≤ 1024 → slice_get code place ≡ Some i → InstrFits (limits version classes methods (length code)) i → HasLabel (code_labels code) i

@@ -1,6 +1,7 @@
 use Rattle.std.proofs.Common.{◌∙◌, ap}
-use Rattle.aom_listing.proofs.Targets.{none_said, place_jumps, place_said}
+use Rattle.aom_listing.specs.Jumps.{place_said}
+use Rattle.aom_listing.proofs.Targets.{none_said}
 use Rattle.aom_listing.proofs.jumps.jump_of.Goals as goal
 
 pub returns-in_default : goal.returns-in_default
-returns-in_default c = none_said _ c.in_default.not-Place ∙ ap (λ o. place_said o.d) c.operands-d.ensures ∙ place_jumps c.args.instr
+returns-in_default c = none_said _ c.in_default.not-Place ∙ ap (λ o. place_said o.d) c.operands-d.ensures
