@@ -7,7 +7,6 @@ use Rattle.std.proofs.lemmas.Bool.Decides.{leb_tells}
 use Rattle.aom_image.specs.Image.{Image}
 use Rattle.aom_image.specs.Views.{instr_at}
 use Rattle.aom_instructions.specs.declared.instr.Instr.{Instr}
-use Rattle.aom_instructions.specs.declared.instr.Instr.TheVariants.{Loop, Next}
 use Rattle.aom_roles.specs.Tests.{AllTrue}
 use Rattle.aom_classes.specs.Bodies.{Body, IsLooped}
 use Rattle.aom_classes.specs.Linked.{IsLinked}
@@ -22,7 +21,8 @@ use Rattle.aom_typings.specs.Calls.{Among, callees}
 use Rattle.aom_typings.specs.Prices.{Prices, own}
 use Rattle.aom_typings.specs.Costs.{AmongFlows, GoesOut, Region, Whole, Round}
 use Rattle.aom_typings.specs.Sweeping.{Afters, IsAfter, IsInnermost, after, most_within}
-use Rattle.aom_budget.proofs.TypingsLemmas.{goes_forward, innermost_of_body, jumps_forward, no_loop_here, no_next_here, one_innermost}
+use Rattle.aom_budget.proofs.TypingsLemmas.{BeginsLoop, LoopIn, NextIn, not_both_in, same_back, same_rounds, goes_forward, innermost_of_body, jumps_forward}
+use Rattle.aom_budget.proofs.TypingsLemmas.{no_loop_here, no_next_here, one_innermost}
 use Rattle.aom_budget.specs.Extents.{IsMost, Before}
 use Rattle.aom_budget.specs.Pricing.{AreKept, kept, targets_of, most_to, after_in, ExitsAt, Found, Agrees, IsPassed, plain_cost}
 use Rattle.aom_budget.proofs.Mentioned.{called_lower}
@@ -85,8 +85,8 @@ module _ (p : Image) (prices : List ℕ) (m : ℕ) (s : Shapes) (looped : IsLoop
           IsPassed p prices m s x new
       plain_more low value = passed_more p prices m s looped x old new extends h (λ t c a agrees. record {
         plain = grind (arith, nat_tests, same_Some i, one_innermost p looped m x r, stands_there t x, plain_value c a t);
-        loops = λ d n sh there. absurd (no_loop_here i d n no_loop (same_Some i (Loop d n) (sym stands ∙ there.instr)));
-        nexts = λ d f sh there. absurd (no_next_here i d (suc f) no_next (same_Some i (Next d (suc f)) (sym stands ∙ there.instr)));
+        loops = λ d n sh there. absurd (no_loop_here i d n no_loop (same_Some i _ (sym stands ∙ there.instr)));
+        nexts = λ d f sh there. absurd (no_next_here i d (suc f) no_next (same_Some i _ (sym stands ∙ there.instr)));
         rounds = round_found p prices m s looped x old new extends h t c a agrees;
         afters = λ f d n u b w. absurd (no_body_ends p m x f x d n i stands no_next b refl);
       }) (λ f d n u b w. absurd (no_body_ends p m x f x d n i stands no_next b refl)) (λ sh u there w.
@@ -97,7 +97,7 @@ module _ (p : Image) (prices : List ℕ) (m : ℕ) (s : Shapes) (looped : IsLoop
 
     -- ---- a loop
 
-    module _ (d n : ℕ) (stands : instr_at p m x ≡ Some (Loop d n)) (same : new.after ≡ old.after) where
+    module _ (d n : ℕ) (stands : LoopIn (instr_at p m x) d n) (same : new.after ≡ old.after) where
       abbrev pub round_of : ℕ
       round_of = at 0 old.from (suc x) - at 0 old.after x
 
@@ -116,7 +116,7 @@ module _ (p : Image) (prices : List ℕ) (m : ℕ) (s : Shapes) (looped : IsLoop
       body_reached : (sh : Shape) → at None s x ≡ Some sh → (y : Shape) × (at None s (suc x) ≡ Some y)
       body_reached sh there =
           let applies = strongest.typed.each x sh there in
-          let one : applies.instr ≡ Loop d n = same_Some applies.instr (Loop d n) (sym applies.stands ∙ stands) in
+          let one : BeginsLoop applies.instr d n = same_Some applies.instr _ (sym applies.stands ∙ stands) in
           let ways = subst (λ i. AllMet s (flows p m x sh i)) one applies.flows in
           (ways.0.next, ways.0.there)
 
@@ -127,16 +127,15 @@ module _ (p : Image) (prices : List ℕ) (m : ℕ) (s : Shapes) (looped : IsLoop
           IsPassed p prices m s x new
       unfolding next_in loop_in
       loop_more small value = passed_more p prices m s looped x old new extends h (λ t c a agrees. record {
-        plain = λ sh j u there j_no_loop j_no_next u_inner. absurd (no_loop_here j d n j_no_loop (same_Some j (Loop d n) (sym there.instr ∙ stands)));
+        plain = λ sh j u there j_no_loop j_no_next u_inner. absurd (no_loop_here j d n j_no_loop (same_Some j _ (sym there.instr ∙ stands)));
         loops = λ e l sh there.
-            let one : Some (Loop d n) ≡ Some (Loop e l) = sym stands ∙ there.instr in
-            let rounds : l ≡ n = cc in
+            let rounds : l ≡ n = same_rounds (instr_at p m x) e l d n there.instr stands in
             let here = stands_there t x sh agrees.states there.shape in
             rw rounds (loop_value t c a agrees (value sh here));
-        nexts = λ e f sh there. absurd (no_next_here (Loop d n) e (suc f) refl (same_Some (Loop d n) (Next e (suc f)) (sym stands ∙ there.instr)));
+        nexts = λ e f sh there. absurd (not_both_in (instr_at p m x) d n e (suc f) stands there.instr);
         rounds = round_found p prices m s looped x old new extends h t c a agrees;
-        afters = λ f e l u b w. absurd (no_body_ends p m x f x e l (Loop d n) stands refl b refl);
-      }) (λ f e l u b w. absurd (no_body_ends p m x f x e l (Loop d n) stands refl b refl)) (λ sh u there w.
+        afters = λ f e l u b w. absurd (no_body_ends p m x f x e l _ stands refl b refl);
+      }) (λ f e l u b w. absurd (no_body_ends p m x f x e l _ stands refl b refl)) (λ sh u there w.
           let begins = looped.begins m x d n stands in
           let body = begins.2 in
           let around = h.around x begins.1 d n u body.later body w in
@@ -217,16 +216,16 @@ module _ (p : Image) (prices : List ℕ) (m : ℕ) (s : Shapes) (looped : IsLoop
           ];
         }
 
-        one_next : (e g : ℕ) → Some (Next d (suc f)) ≡ Some (Next e (suc g)) → g ≡ f
-        one_next e g eq = let one : suc f ≡ suc g = cc in omega (arith, one)
+        one_next : (e g : ℕ) → NextIn (instr_at p m x) e (suc g) → g ≡ f
+        one_next e g there = omega (arith, same_back (instr_at p m x) e (suc g) d (suc f) there body.ends)
 
         pub next_more : ((sh : Shape) → at None s x ≡ Some sh → at 0 new.from x ≡ kept (1 + follows)) → follows ≤ 4294967296 → IsPassed p prices m s x new
         unfolding next_in loop_in
         next_more value low = passed_more p prices m s looped x old new extends h (λ t c a agrees. record {
           plain = grind (arith, nat_tests, no_next_here, same_Some);
-          loops = λ e l sh there. absurd (no_loop_here (Next d (suc f)) e l refl (same_Some (Next d (suc f)) (Loop e l) (sym body.ends ∙ there.instr)));
+          loops = λ e l sh there. absurd (not_both_in (instr_at p m x) e l d (suc f) there.instr body.ends);
           nexts = λ e g sh there.
-              let back = one_next e g (sym body.ends ∙ there.instr) in
+              let back = one_next e g there.instr in
               let here = stands_there t x sh agrees.states there.shape in
               rw (back, closed t c a agrees) (agrees.froms x (omega arith) ∙ value sh here);
           rounds = round_found p prices m s looped x old new extends h t c a agrees;

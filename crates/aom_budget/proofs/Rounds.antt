@@ -5,14 +5,13 @@ use Rattle.std.proofs.lemmas.Bool.Decides.{eqb_tells, leb_tells}
 use Rattle.aom_image.specs.Image.{Image}
 use Rattle.aom_image.specs.Views.{instr_at}
 use Rattle.aom_instructions.specs.declared.instr.Instr.{Instr}
-use Rattle.aom_instructions.specs.declared.instr.Instr.TheVariants.{Loop, Next}
 use Rattle.aom_classes.specs.Bodies.{Body, IsIn, IsLooped}
 use Rattle.aom_classes.specs.Loops.{loop_in, next_in}
 use Rattle.aom_roles.specs.Tables.{at}
 use Rattle.aom_budget.proofs.ShapeLemmas.{at_set_here, at_set_other}
 use Rattle.aom_typings.specs.Costs.{Region, Whole, Round}
 use Rattle.aom_typings.specs.Sweeping.{IsInnermost}
-use Rattle.aom_budget.proofs.TypingsLemmas.{ends_before, nested, no_loop_here, no_next_here, one_end}
+use Rattle.aom_budget.proofs.TypingsLemmas.{LoopIn, not_both_in, same_back, ends_before, nested, no_loop_here, no_next_here, one_end}
 use Rattle.aom_budget.specs.Pricing.{IsWithin, region_of}
 use Rattle.aom_budget.specs.declared.pass.Round as rounds
 
@@ -31,17 +30,15 @@ module _ (p : Image) (m : ℕ) where
 
   pub no_body_begins : (x f e d n : ℕ) (i : Instr) → instr_at p m x ≡ Some i → loop_in (Some i) ≡ None → Body p m f e d n → f ≡ x → ⊥
   no_body_begins x f e d n i stands none b same =
-      let one : Some i ≡ Some (Loop d n) = sym stands ∙ (ap (λ y. instr_at p m y) (sym same) ∙ b.begins) in
-      no_loop_here i d n none (same_Some i (Loop d n) one)
+      no_loop_here i d n none (same_Some i _ (sym stands ∙ (ap (λ y. instr_at p m y) (sym same) ∙ b.begins)))
 
   pub no_body_ends : (x f e d n : ℕ) (i : Instr) → instr_at p m x ≡ Some i → next_in (Some i) ≡ None → Body p m f e d n → e ≡ x → ⊥
   no_body_ends x f e d n i stands none b same =
-      let one : Some i ≡ Some (Next d (suc f)) = sym stands ∙ (ap (λ y. instr_at p m y) (sym same) ∙ b.ends) in
-      no_next_here i d (suc f) none (same_Some i (Next d (suc f)) one)
+      no_next_here i d (suc f) none (same_Some i _ (sym stands ∙ (ap (λ y. instr_at p m y) (sym same) ∙ b.ends)))
 
   -- a next closes one loop
   pub one_begin : (f g x d n k l : ℕ) → Body p m f x d n → Body p m g x k l → f ≡ g
-  one_begin f g x d n k l b c = let same : Some (Next d (suc f)) ≡ Some (Next k (suc g)) = sym b.ends ∙ c.ends in let one : suc f ≡ suc g = cc in omega (arith, one)
+  one_begin f g x d n k l b c = omega (arith, same_back (instr_at p m x) d (suc f) k (suc g) b.ends c.ends)
 
   module _ (looped : IsLooped p) where
     plain_here : (x : ℕ) (i : Instr) (r : Region) → instr_at p m x ≡ Some i → loop_in (Some i) ≡ None → next_in (Some i) ≡ None →
@@ -63,9 +60,7 @@ module _ (p : Image) (m : ℕ) where
         there : (g k c l : ℕ) → Body p m g k c l → IsIn g k (suc x) → IsIn g k f
         there g k c l b inside = elim (leb_tells f g) [
           | inl w ↦ elim (eqb_tells g x) [
-            | inl v ↦
-                let clash : Some (Loop c l) ≡ Some (Next d (suc f)) = sym b.begins ∙ (ap (λ y. instr_at p m y) v.1 ∙ body.ends) in
-                absurd cc
+            | inl v ↦ absurd (not_both_in (instr_at p m x) c l d (suc f) (ap (λ y. instr_at p m y) (sym v.1) ∙ b.begins) body.ends)
             | inr v ↦
                 let ends = nested p looped m f x d n g k c l body b w.1 (omega (arith, inside.0, v.1)) in
                 absurd (omega (arith, ends, inside.1))
@@ -109,7 +104,7 @@ module _ (p : Image) (m : ℕ) where
       ];
     }
 
-    pub within_loop : (x d n : ℕ) (inner : Option rounds.Round) (around : List (Option rounds.Round)) → instr_at p m x ≡ Some (Loop d n) →
+    pub within_loop : (x d n : ℕ) (inner : Option rounds.Round) (around : List (Option rounds.Round)) → LoopIn (instr_at p m x) d n →
         IsWithin p m (suc x) inner around → IsWithin p m x (at None around x) around
     unfolding next_in
     within_loop x d n inner around stands h =
@@ -117,7 +112,7 @@ module _ (p : Image) (m : ℕ) where
         record {
           here = h.loops x begins.1 d n (omega arith) (begins.2).later begins.2;
           loops = λ f e c l before after b. elim (eqb_tells e x) [
-            | inl w ↦ absurd (no_body_ends x f e c l (Loop d n) stands refl b w.1)
+            | inl w ↦ absurd (no_body_ends x f e c l _ stands refl b w.1)
             | inr w ↦ h.loops f e c l (omega (arith, before)) (omega (arith, after, w.1)) b
           ];
         }

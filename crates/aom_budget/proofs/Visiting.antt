@@ -6,7 +6,6 @@ use Rattle.std.proofs.lemmas.List.{length-set, length-replicate}
 use Rattle.aom_image.specs.Image.{Image}
 use Rattle.aom_image.specs.Views.{instr_at}
 use Rattle.aom_instructions.specs.declared.instr.Instr.{Instr}
-use Rattle.aom_instructions.specs.declared.instr.Instr.TheVariants.{Loop, Next}
 use Rattle.aom_image.specs.WellFormed.{WellFormed}
 use Rattle.aom_budget.proofs.ClassesLemmas.{linked_is_looped}
 use Rattle.aom_classes.specs.Bodies.{Body, IsLooped}
@@ -20,7 +19,7 @@ use Rattle.aom_typings.specs.Strongest.{IsMethodStrongest}
 use Rattle.aom_verify.specs.Sweep.{HasPlaces}
 use Rattle.aom_budget.proofs.VerifyLemmas.{has_instr}
 use Rattle.aom_typings.specs.Costs.{Region, Whole, Round}
-use Rattle.aom_budget.proofs.TypingsLemmas.{by_kind, next_is_no_loop, one_end}
+use Rattle.aom_budget.proofs.TypingsLemmas.{BeginsLoop, EndsRound, LoopIn, by_kind, next_is_no_loop, one_end}
 use Rattle.aom_budget.specs.Pricing.{AreKept, kept, after_in, Follows, IsPassing, region_of, found_by, plain_cost}
 use Rattle.aom_budget.specs.declared.pass.Round as rounds
 use Rattle.aom_budget.proofs.Passing.{Extends}
@@ -33,15 +32,15 @@ instr_there p m n place h within =
     has_instr p m (replicate n None) place (record { method = h.method; is = h.is; size = size ∙ h.size }) (omega (arith, within, size))
 
 -- a next closes a loop that begins before it
-pub next_closes : (p q : Image) → q ≡ p → WellFormed q → IsLinked p → (m place d to : ℕ) (i : Instr) → instr_at p m place ≡ Some i → i ≡ Next d to →
+pub next_closes : (p q : Image) → q ≡ p → WellFormed q → IsLinked p → (m place d to : ℕ) (i : Instr) → instr_at p m place ≡ Some i → EndsRound i d to →
     (from : ℕ) × (n : ℕ) × Body p m from place d n × (to ≡ suc from)
 next_closes p q same formed linked m place d to i stands is =
     (linked_is_looped p (subst WellFormed same formed) linked).closes m place d to (stands ∙ ap (λ j. Some j) is)
 
-pub no_loop : (i : Instr) → ((d n : ℕ) → i ≢ Loop d n) → loop_in (Some i) ≡ None
+pub no_loop : (i : Instr) → ((d n : ℕ) → BeginsLoop i d n → ⊥) → loop_in (Some i) ≡ None
 no_loop i h = by_kind (loop_in (Some i) ≡ None) i (λ loop next. loop) (λ d n e. absurd (h d n e)) (next_is_no_loop i)
 
-pub no_next : (i : Instr) → ((d to : ℕ) → i ≢ Next d to) → next_in (Some i) ≡ None
+pub no_next : (i : Instr) → ((d to : ℕ) → EndsRound i d to → ⊥) → next_in (Some i) ≡ None
 unfolding next_in
 no_next i h = by_kind (next_in (Some i) ≡ None) i (λ loop next. next) (λ d n e. ap (λ j. next_in (Some j)) e) (λ d to e. absurd (h d to e))
 
@@ -74,7 +73,7 @@ module _ (p : Image) (prices : List ℕ) (m : ℕ) (s : Shapes) (looped : IsLoop
           }
 
       pub visit_loop :
-          (d n : ℕ) → instr_at p m x ≡ Some (Loop d n) → after' ≡ after →
+          (d n : ℕ) → LoopIn (instr_at p m x) d n → after' ≡ after →
           ((sh : Shape) → at None s x ≡ Some sh → at 0 from' x ≡ kept (1 + (n - 1) * (at 0 from (suc x) - at 0 after x) + at 0 from (suc x))) →
           IsPassing p prices m s x from' after' (at None around x) around
       visit_loop d n stands same value = record {

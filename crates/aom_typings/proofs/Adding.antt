@@ -8,7 +8,6 @@ use Rattle.std.proofs.lemmas.Option.{slice_get_within}
 use Rattle.aom_image.specs.Image.{Image}
 use Rattle.aom_image.specs.Views.{instr_at, method_at}
 use Rattle.aom_instructions.specs.declared.instr.Instr.{Instr}
-use Rattle.aom_instructions.specs.declared.instr.Instr.TheVariants.{Loop, Next}
 use Rattle.aom_image.specs.declared.method.Method.{Method}
 use Rattle.aom_typings.proofs.ClassesLemmas.{linked_is_looped, linked_place, of_method}
 use Rattle.aom_classes.specs.Bodies.{Body, IsLooped}
@@ -18,7 +17,7 @@ use Rattle.aom_shape.specs.Needs.{Flow}
 use Rattle.aom_rules.specs.Rules.{flows}
 use Rattle.aom_shape.specs.Shape.{Shape}
 use Rattle.aom_rules.specs.Typing.{IsTyped, Typing, shape_at}
-use Rattle.aom_typings.specs.Prices.{Prices, Stands, own, price}
+use Rattle.aom_typings.specs.Prices.{LoopStands, NextStands, Prices, Stands, own, price}
 use Rattle.aom_typings.specs.Costs.{AmongFlows, Costs, GoesOut, IsPrice, Region, Round, Whole}
 use Rattle.aom_typings.specs.Costs.Costs.{ends, goes, loops, loops_in}
 use Rattle.aom_typings.specs.PriceLaws.{SweptIsPrice}
@@ -27,7 +26,7 @@ use Rattle.aom_typings.proofs.Going.{ruled_of}
 use Rattle.aom_typings.proofs.At.{IsSweptAt, place_of}
 use Rattle.aom_typings.proofs.Paths.{GoesOn, Rounds, ends_or_goes, outside_cost, rounds_of}
 use Rattle.aom_typings.proofs.Regions.{by_kind, here_is_inside, innermost, innermost_first, innermost_of_body, innermost_of_next, innermost_on, innermost_out}
-use Rattle.aom_typings.proofs.Regions.{next_is_no_loop, no_next_here, no_way_back, one_end, out_of_both, past_is_outside}
+use Rattle.aom_typings.proofs.Regions.{BeginsLoop, EndsRound, next_is_no_loop, no_next_here, no_way_back, one_end, out_of_both, past_is_outside}
 use Rattle.aom_typings.proofs.Ways.{IsReached, JumpsForward, led_to, way_of}
 use Rattle.aom_typings.proofs.Among.{by_flow, either_cond, either_max}
 use Rattle.aom_typings.proofs.Regions.{Past, passed}
@@ -130,9 +129,9 @@ module _ (p : Image) (t : Typing) (c : Prices) (a : Afters) (m : ℕ) (looped : 
                 record { cost = own p m c sh i + next.cost; met = goes w.inside at no_loop no_next among next.met; sum = sum; most = plain_most _ sum }
 
       -- ---- a loop
-      module _ (sh : Shape) (d n to : ℕ) (at : Stands p t m place sh (Loop d n)) (some : 0 < n) (body : Body p m place to d n) where
+      module _ (sh : Shape) (d n to : ℕ) (at : LoopStands p t m place sh d n) (some : 0 < n) (body : Body p m place to d n) where
         reached : IsReached t m (suc place)
-        reached = leads_on p t m typed place (suc place) sh (Loop d n) at (inl refl)
+        reached = leads_on p t m typed place (suc place) sh _ at (inl refl)
 
         round : Adds p t c a m (Round place to) (suc place)
         round = later (suc place) (Round place to) (omega arith) reached (innermost_of_body p looped m place to d n body)
@@ -200,13 +199,13 @@ module _ (p : Image) (t : Typing) (c : Prices) (a : Afters) (m : ℕ) (looped : 
             follows.met
 
       -- ---- the end of a round
-      module _ (sh : Shape) (d from n : ℕ) (at : Stands p t m place sh (Next d (suc from))) (body : Body p m from place d n) where
+      module _ (sh : Shape) (d from n : ℕ) (at : NextStands p t m place sh d (suc from)) (body : Body p m from place d n) where
         after_own : after a m r ≡ a m from
         after_own = let own_body = innermost_of_next p looped m place d from n r at.instr body w in ap (λ x. after a m x) own_body.1
 
         next_adds : Adds p t c a m r place
         next_adds =
-            let none = next_is_no_loop (Next d (suc from)) d (suc from) refl in
+            let none = next_is_no_loop _ d (suc from) refl in
             let found = (swept place).nexts d from sh at in
             record {
               cost = 1;
@@ -219,14 +218,14 @@ module _ (p : Image) (t : Typing) (c : Prices) (a : Afters) (m : ℕ) (looped : 
       place_adds : (sh : Shape) (i : Instr) → Stands p t m place sh i → Adds p t c a m r place
       place_adds sh i at = by_kind (Adds p t c a m r place) i (λ l n. plain_adds sh i at l n) loop next
         where
-          loop : (d n : ℕ) → i ≡ Loop d n → Adds p t c a m r place
+          loop : (d n : ℕ) → BeginsLoop i d n → Adds p t c a m r place
           loop d n e = grind (arith, nat_tests, looped.begins m place d n, loop_adds sh d n)
 
-          next : (d to : ℕ) → i ≡ Next d to → Adds p t c a m r place
+          next : (d to : ℕ) → EndsRound i d to → Adds p t c a m r place
           next d to e =
               let here = subst (λ j. Stands p t m place sh j) e at in
               let closes = looped.closes m place d to here.instr in
-              next_adds sh d closes.0 closes.1 (subst (λ x. Stands p t m place sh (Next d x)) closes.3 here) closes.2
+              next_adds sh d closes.0 closes.1 (subst (λ x. NextStands p t m place sh d x) closes.3 here) closes.2
 
     -- from the last place down
     adds_from : (count : ℕ) → ((place : ℕ) (i : Instr) → instr_at p m place ≡ Some i → place < count) →

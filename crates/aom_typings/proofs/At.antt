@@ -3,13 +3,12 @@ use Rattle.std.proofs.Common.{◌≡◌, ◌≤◌, ◌+◌, ◌-◌, ◌*◌, �
 use Rattle.std.specs.Prelude.{IsSome, max}
 use Rattle.aom_image.specs.Image.{Image}
 use Rattle.aom_instructions.specs.declared.instr.Instr.{Instr}
-use Rattle.aom_instructions.specs.declared.instr.Instr.TheVariants.{Loop, Next}
 use Rattle.aom_classes.specs.Bodies.{Body}
 use Rattle.aom_classes.specs.Loops.{loop_in, next_in}
 use Rattle.aom_rules.specs.Rules.{flows}
 use Rattle.aom_shape.specs.Shape.{Shape}
 use Rattle.aom_rules.specs.Typing.{Typing, shape_at}
-use Rattle.aom_typings.specs.Prices.{Prices, Stands, own}
+use Rattle.aom_typings.specs.Prices.{LoopStands, NextStands, Prices, Stands, own}
 use Rattle.aom_typings.specs.Costs.{Region}
 use Rattle.aom_typings.specs.Sweeping.{Afters, IsAfter, IsInnermost, IsSweptBy, IsSweptFrom, after, most_within}
 
@@ -17,8 +16,8 @@ use Rattle.aom_typings.specs.Sweeping.{Afters, IsAfter, IsInnermost, IsSweptBy, 
 pub record IsSweptAt (keep : ℕ → ℕ) (p : Image) (t : Typing) (c : Prices) (a : Afters) (m place : ℕ) : Type 0 where
   pub plain : (sh : Shape) (i : Instr) (r : Region) → Stands p t m place sh i → loop_in (Some i) ≡ None → next_in (Some i) ≡ None → IsInnermost p m place r →
       c.from m place ≡ keep (own p m c sh i + max (after a m r) (most_within c m r (flows p m place sh i)))
-  pub loops : (d n : ℕ) (sh : Shape) → Stands p t m place sh (Loop d n) → c.from m place ≡ keep (1 + (n - 1) * c.round m place + c.from m (suc place))
-  pub nexts : (d from : ℕ) (sh : Shape) → Stands p t m place sh (Next d (suc from)) → c.from m place ≡ keep (1 + a m from)
+  pub loops : (d n : ℕ) (sh : Shape) → LoopStands p t m place sh d n → c.from m place ≡ keep (1 + (n - 1) * c.round m place + c.from m (suc place))
+  pub nexts : (d from : ℕ) (sh : Shape) → NextStands p t m place sh d (suc from) → c.from m place ≡ keep (1 + a m from)
   pub rounds : (to d n : ℕ) → Body p m place to d n → IsSome (shape_at t m (suc place)) → c.from m (suc place) ≡ c.round m place + a m place
   pub afters : (from d n : ℕ) (r : Region) → Body p m from place d n → IsInnermost p m from r → IsAfter p t c a m from place r
 

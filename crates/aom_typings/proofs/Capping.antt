@@ -7,14 +7,13 @@ use Rattle.std.proofs.lemmas.Bool.{cases_lt}
 use Rattle.aom_image.specs.Image.{Image}
 use Rattle.aom_image.specs.Views.{instr_at, method_at}
 use Rattle.aom_instructions.specs.declared.instr.Instr.{Instr}
-use Rattle.aom_instructions.specs.declared.instr.Instr.TheVariants.{Loop, Next}
 use Rattle.aom_typings.proofs.ClassesLemmas.{linked_is_looped}
 use Rattle.aom_classes.specs.Bodies.{Body, IsLooped}
 use Rattle.aom_classes.specs.Loops.{loop_in, next_in}
 use Rattle.aom_rules.specs.Rules.{flows}
 use Rattle.aom_shape.specs.Shape.{Shape}
 use Rattle.aom_rules.specs.Typing.{IsTyped, Passes, Typing, shape_at}
-use Rattle.aom_typings.specs.Prices.{Prices, Stands, own, price}
+use Rattle.aom_typings.specs.Prices.{NextStands, Prices, Stands, own, price}
 use Rattle.aom_typings.specs.Costs.{GoesOut, Region, Round, Whole, destructor_price}
 use Rattle.aom_typings.specs.PriceLaws.{SweptUpToIsPrice}
 use Rattle.aom_typings.specs.Layers.{Pays, PaysBefore}
@@ -25,7 +24,7 @@ use Rattle.aom_typings.proofs.Capped.{Alike, alike_kept, alike_loop, alike_max, 
 use Rattle.aom_typings.proofs.Going.{going_alike}
 use Rattle.aom_typings.proofs.Making.{Found, are_prices, found_prices}
 use Rattle.aom_typings.proofs.Methods.{destructs_within, method_is_some, method_there}
-use Rattle.aom_typings.proofs.Regions.{by_kind, ends_after, innermost}
+use Rattle.aom_typings.proofs.Regions.{BeginsLoop, EndsRound, by_kind, ends_after, innermost}
 use Rattle.aom_typings.proofs.Related.{most_related, own_related}
 use Rattle.aom_typings.proofs.Ways.{IsReached, JumpsForward}
 use Rattle.aom_typings.proofs.Among.{each_below}
@@ -97,12 +96,12 @@ module _ (limit : ℕ) (p : Image) (t : Typing) (looped : IsLooped p) (typed : I
               (max (after b m region.0) (most_within e m region.0 (flows p m k sh i))) owned most in
               ap (λ x. min limit x) one ∙ (alike_kept limit _ ∙ (sums ∙ ap (λ x. min limit x) (sym other)))
 
-          loop : (d n : ℕ) → i ≡ Loop d n → Alike limit (c.from m k) (e.from m k)
+          loop : (d n : ℕ) → BeginsLoop i d n → Alike limit (c.from m k) (e.from m k)
           loop d n same =
               let here = subst (λ j. Stands p t m k sh j) same at in
               let begins = looped.begins m k d n here.instr in
               let body = begins.2 in
-              let next = leads_on p t m typed k (suc k) sh (Loop d n) here (inl refl) in
+              let next = leads_on p t m typed k (suc k) sh _ here (inl refl) in
               let some = reached_is_some t m (suc k) next in
               let one = (place_of (λ n. min limit n) p t c a capped m k).loops d n sh here in
               let other = (place_of (λ n. n) p t e b whole m k).loops d n sh here in
@@ -112,11 +111,11 @@ module _ (limit : ℕ) (p : Image) (t : Typing) (looped : IsLooped p) (typed : I
               ((place_of (λ n. min _ n) p t c a capped m k).rounds _ d n body some) ((place_of (λ n. n) p t e b whole m k).rounds begins.1 d n body some) in
               ap (λ x. min limit x) one ∙ (alike_kept limit _ ∙ (sums ∙ ap (λ x. min limit x) (sym other)))
 
-          next : (d to : ℕ) → i ≡ Next d to → Alike limit (c.from m k) (e.from m k)
+          next : (d to : ℕ) → EndsRound i d to → Alike limit (c.from m k) (e.from m k)
           next d to same =
               let here = subst (λ j. Stands p t m k sh j) same at in
               let closes = looped.closes m k d to here.instr in
-              let there = subst (λ x. Stands p t m k sh (Next d x)) closes.3 here in
+              let there = subst (λ x. NextStands p t m k sh d x) closes.3 here in
               let one = (place_of (λ n. min limit n) p t c a capped m k).nexts d closes.0 sh there in
               let other = (place_of (λ n. n) p t e b whole m k).nexts d closes.0 sh there in
               let follows = follow_alike closes.0 d closes.1 closes.2 in
@@ -140,7 +139,7 @@ module _ (limit : ℕ) (p : Image) (t : Typing) (looped : IsLooped p) (typed : I
     agrees_from : (count : ℕ) → ((place : ℕ) (i : Instr) → instr_at p m place ≡ Some i → place < count) → Agrees 0
     agrees_from count within = agrees_down count (record {
       from = λ place le reached. let passes = typed.each m place reached.0 reached.1 in absurd (omega (arith, le, within place passes.instr passes.stands));
-      after = λ from to d n le body. absurd (omega (arith, le, within to (Next d (suc from)) body.ends));
+      after = λ from to d n le body. absurd (omega (arith, le, within to _ body.ends));
     })
 
   -- ---- the methods
@@ -173,10 +172,10 @@ module _ (limit : ℕ) (p : Image) (t : Typing) (looped : IsLooped p) (typed : I
           plain : loop_in (Some passes.instr) ≡ None → next_in (Some passes.instr) ≡ None → price c m ≤ limit
           plain l n = let region = innermost p looped m 0 in kept _ _ ((place_of (λ n. min limit n) p t c a capped m 0).plain sh _ region.0 at l n region.1)
 
-          loop : (d n : ℕ) → passes.instr ≡ Loop d n → price c m ≤ limit
+          loop : (d n : ℕ) → BeginsLoop passes.instr d n → price c m ≤ limit
           loop d n same = kept _ _ ((place_of (λ n. min limit n) p t c a capped m 0).loops d n sh (subst (λ j. Stands p t m 0 sh j) same at))
 
-          next : (d to : ℕ) → passes.instr ≡ Next d to → price c m ≤ limit
+          next : (d to : ℕ) → EndsRound passes.instr d to → price c m ≤ limit
           next d to same = grind (arith, nat_tests, kept, place_of)
 
 -- ---- the law

@@ -9,7 +9,6 @@ use Rattle.aom_image.specs.Image.{Image}
 use Rattle.aom_image.specs.Views.{instr_at, instr_in, method_at}
 use Rattle.aom_image.specs.WellFormed.{WellFormed}
 use Rattle.aom_instructions.specs.declared.instr.Instr.{Instr}
-use Rattle.aom_instructions.specs.declared.instr.Instr.TheVariants.{Loop, Next}
 use Rattle.aom_image.specs.declared.method.Method.{Method}
 use Rattle.aom_image.specs.declared.method.Thing.{Thing}
 use Rattle.aom_typings.proofs.ClassesLemmas.{linked_is_looped}
@@ -33,7 +32,7 @@ use Rattle.aom_typings.proofs.Moving.{AreSameFrom, most_same, own_same, swept_sa
 use Rattle.aom_typings.proofs.Places.{loop_there, next_there, nothing_there, pays_after, plain_there}
 use Rattle.aom_typings.proofs.Outs.{body_out, exit_most}
 use Rattle.aom_typings.proofs.Paying.{law_pays}
-use Rattle.aom_typings.proofs.Regions.{by_kind, innermost, innermost_of_body, one_end, one_innermost}
+use Rattle.aom_typings.proofs.Regions.{BeginsLoop, EndsRound, LoopIn, NextIn, by_kind, innermost, innermost_of_body, one_end, one_innermost}
 use Rattle.aom_typings.proofs.Among.{below_next, either_max}
 use Rattle.aom_typings.proofs.ImageLemmas.{none_given, some_given}
 use Rattle.aom_typings.specs.Costs.{GoesOut}
@@ -180,7 +179,7 @@ module _ (p : Image) (t : Typing) (looped : IsLooped p) (typed : IsTyped p t) (l
             let on = most_same p old table m r _ (λ to among. set_place _ m k v m to (not_same k to (way_forward p t m (forward m) k to s i at n among))) in
             omega (arith, set_here w.from m k v, same, owned, on)
 
-    at_loop : (d n : ℕ) → instr_at p m k ≡ Some (Loop d n) → Made p t m k
+    at_loop : (d n : ℕ) → LoopIn (instr_at p m k) d n → Made p t m k
     at_loop d n there = lower v u w.after kept_others kept_loops (loop_there (λ n. n) p t table w.after m k d n there found round)
       where
         u : ℕ
@@ -204,7 +203,7 @@ module _ (p : Image) (t : Typing) (looped : IsLooped p) (typed : IsTyped p t) (l
             let paid = pays_after (λ n. n) p t looped typed old _ m _ _ (λ x le. le) w.here (sh, shape) (innermost_of_body p looped m k _ d n begins.2) in
             omega (arith, on, set_here w.round m k u, paid))
 
-    module _ (d from n : ℕ) (there : instr_at p m k ≡ Some (Next d (suc from))) (body : Body p m from k d n) where
+    module _ (d from n : ℕ) (there : NextIn (instr_at p m k) d (suc from)) (body : Body p m from k d n) where
       region : (r : Region) × IsInnermost p m from r
       region = innermost p looped m from
 
@@ -263,14 +262,14 @@ module _ (p : Image) (t : Typing) (looped : IsLooped p) (typed : IsTyped p t) (l
         plain : loop_in (Some i) ≡ None → next_in (Some i) ≡ None → Made p t m k
         plain l n = grind (arith, nat_tests, at_unreached i there l n, at_plain i there l n)
 
-        loop : (d n : ℕ) → i ≡ Loop d n → Made p t m k
+        loop : (d n : ℕ) → BeginsLoop i d n → Made p t m k
         loop d n e = at_loop d n (there ∙ ap (λ x. Some x) e)
 
-        next : (d to : ℕ) → i ≡ Next d to → Made p t m k
+        next : (d to : ℕ) → EndsRound i d to → Made p t m k
         next d to e =
             let here = there ∙ ap (λ x. Some x) e in
             let closes = looped.closes m k d to here in
-            at_next d closes.0 closes.1 (here ∙ ap (λ x. Some (Next d x)) closes.3) closes.2
+            at_next d closes.0 closes.1 (subst (λ x. NextIn (instr_at p m k) d x) closes.3 here) closes.2
 
     lowered : Made p t m k
     lowered = grind (arith, nat_tests, at_end, at_some)

@@ -4,7 +4,6 @@ use Rattle.std.proofs.Common.{◌≡◌, ◌≤◌, ◌+◌, ℕ, suc, true, Lis
 use Rattle.aom_image.specs.Image.{Image}
 use Rattle.aom_image.specs.WellFormed.{WellFormed}
 use Rattle.aom_instructions.specs.declared.instr.Instr.{Instr}
-use Rattle.aom_instructions.specs.declared.instr.Instr.TheVariants.{Loop, Next}
 use Rattle.aom_image.specs.declared.method.Thing.{Thing}
 use Rattle.aom_image.specs.declared.method.Thing.TheVariants.{Object}
 use Rattle.aom_typings.proofs.ClassesLemmas.{linked_is_looped}
@@ -15,7 +14,7 @@ use Rattle.aom_shape.specs.Needs.{Flow}
 use Rattle.aom_rules.specs.Rules.{flows}
 use Rattle.aom_shape.specs.Shape.{Shape}
 use Rattle.aom_rules.specs.Typing.{IsTyped, Typing}
-use Rattle.aom_typings.specs.Prices.{AllPaid, IsPriced, Prices, Stands, own, perhaps_price, sessions_cost}
+use Rattle.aom_typings.specs.Prices.{AllPaid, IsPriced, NextStands, Prices, Stands, own, perhaps_price, sessions_cost}
 use Rattle.aom_typings.specs.Costs.{AmongFlows, Region}
 use Rattle.aom_typings.specs.Most.{line, most_standing}
 use Rattle.aom_typings.proofs.Mosts.{most_stands_in}
@@ -24,7 +23,7 @@ use Rattle.aom_typings.specs.Sweeping.{Afters, IsInnermost, IsSwept, after, is_p
 use Rattle.aom_typings.proofs.At.{place_of}
 use Rattle.aom_typings.proofs.Going.{by_rule, ruled_of}
 use Rattle.aom_typings.proofs.Adding.{by_past, leads_on, reached_is_some, within_most}
-use Rattle.aom_typings.proofs.Regions.{by_kind, innermost}
+use Rattle.aom_typings.proofs.Regions.{BeginsLoop, EndsRound, by_kind, innermost}
 use Rattle.aom_typings.proofs.Ways.{IsReached}
 use Rattle.aom_typings.proofs.Regions.{Past, passed}
 use Rattle.aom_typings.proofs.Regions.Past.{past_end}
@@ -64,29 +63,29 @@ module _ (p : Image) (t : Typing) (c : Prices) (a : Afters) (looped : IsLooped p
       paid to among = let w = innermost p looped m place in paid_in w.0 w.1 to among
 
   -- a next and its loop
-  module _ (m place d to : ℕ) (sh : Shape) (at : Stands p t m place sh (Next d to)) where
+  module _ (m place d to : ℕ) (sh : Shape) (at : NextStands p t m place sh d to) where
     closing : (from : ℕ) × (n : ℕ) × Body p m from place d n × (to ≡ suc from)
     closing = looped.closes m place d to at.instr
 
     found : c.from m place ≡ 1 + a m closing.0
-    found = (place_of (λ n. n) p t c a swept m place).nexts d closing.0 sh (subst (λ x. Stands p t m place sh (Next d x)) closing.3 at)
+    found = (place_of (λ n. n) p t c a swept m place).nexts d closing.0 sh (subst (λ x. NextStands p t m place sh d x) closing.3 at)
 
     on_paid : 1 + c.from m (suc place) ≤ c.from m place
     on_paid =
         let round_it = innermost p looped m closing.0 in
         let out = ((place_of (λ n. n) p t c a swept m place).afters closing.0 d closing.1 round_it.0 closing.2 round_it.1).out (suc place)
-        (record { place = place; inside = (closing.2.later, omega arith); shape = sh; instr = Next d to; stands = at; flow = inr (inl refl); outside = omega arith }) in
+        (record { place = place; inside = (closing.2.later, omega arith); shape = sh; instr = _; stands = at; flow = inr (inl refl); outside = omega arith }) in
         omega (arith, found, out)
 
     round_paid : 1 + c.from m to ≤ c.from m place + c.round m closing.0
     round_paid =
-        let reached = leads_on p t m typed place to sh (Next d to) at (inl refl) in
+        let reached = leads_on p t m typed place to sh _ at (inl refl) in
         let there = subst (λ x. IsReached t m x) closing.3 reached in
         let round = (place_of (λ n. n) p t c a swept m closing.0).rounds place d closing.1 closing.2 (reached_is_some t m (suc closing.0) there) in
         let e = ap (λ x. c.from m x) closing.3 in
         omega (arith, found, round, e)
 
-  rounds_paid : (m place d from : ℕ) (sh : Shape) → Stands p t m place sh (Next d (suc from)) → 1 + c.from m (suc from) ≤ c.from m place + c.round m from
+  rounds_paid : (m place d from : ℕ) (sh : Shape) → NextStands p t m place sh d (suc from) → 1 + c.from m (suc from) ≤ c.from m place + c.round m from
   rounds_paid m place d from sh at =
       let w = closing m place d (suc from) sh at in
       let same : w.0 ≡ from = omega (arith, w.3) in
@@ -99,13 +98,13 @@ module _ (p : Image) (t : Typing) (c : Prices) (a : Afters) (looped : IsLooped p
       plain : loop_in (Some i) ≡ None → next_in (Some i) ≡ None → own p m c sh i ≤ c.from m place
       plain l n = let w = innermost p looped m place in omega (arith, (place_of (λ n. n) p t c a swept m place).plain sh i w.0 at l n w.1)
 
-      loop : (d n : ℕ) → i ≡ Loop d n → own p m c sh i ≤ c.from m place
+      loop : (d n : ℕ) → BeginsLoop i d n → own p m c sh i ≤ c.from m place
       loop d n e =
           let found = (place_of (λ n. n) p t c a swept m place).loops d n sh (subst (λ j. Stands p t m place sh j) e at) in
           let one = ap (λ j. own p m c sh j) e in
           omega (arith, found, one)
 
-      next : (d to : ℕ) → i ≡ Next d to → own p m c sh i ≤ c.from m place
+      next : (d to : ℕ) → EndsRound i d to → own p m c sh i ≤ c.from m place
       next d to e = grind (arith, nat_tests, on_paid m place d to sh)
 
   ruled : (x : Thing) → c.destruction x ≡ most_standing p (by_rule p c) x

@@ -6,18 +6,17 @@ use Rattle.std.specs.Prelude.{IsSome, max}
 use Rattle.aom_image.specs.Image.{Image}
 use Rattle.aom_image.specs.Views.{instr_at}
 use Rattle.aom_instructions.specs.declared.instr.Instr.{Instr}
-use Rattle.aom_instructions.specs.declared.instr.Instr.TheVariants.{Loop, Next}
 use Rattle.aom_classes.specs.Bodies.{IsLooped}
 use Rattle.aom_classes.specs.Loops.{loop_in, next_in}
 use Rattle.aom_rules.specs.Rules.{flows}
 use Rattle.aom_shape.specs.Shape.{Shape}
 use Rattle.aom_rules.specs.Typing.{IsTyped, Passes, Typing, shape_at}
-use Rattle.aom_typings.specs.Prices.{Prices, Stands, own}
+use Rattle.aom_typings.specs.Prices.{NextStands, Prices, Stands, own}
 use Rattle.aom_typings.specs.Costs.{Region}
 use Rattle.aom_typings.specs.Sweeping.{Afters, IsAfter, IsInnermost, after, most_within}
 use Rattle.aom_typings.proofs.At.{IsSweptAt}
 use Rattle.aom_typings.proofs.Adding.{leads_on, reached_is_some}
-use Rattle.aom_typings.proofs.Regions.{by_kind, innermost_of_next, no_loop_here, no_next_here, not_both}
+use Rattle.aom_typings.proofs.Regions.{BeginsLoop, EndsRound, LoopIn, NextIn, by_kind, innermost_of_next, no_loop_here, no_next_here, not_both, not_both_in}
 use Rattle.aom_typings.proofs.Ways.{IsReached}
 
 no_instr : (o : Option Instr) (i : Instr) → o ≡ None → o ≡ Some i → ⊥
@@ -36,28 +35,25 @@ module _ (keep : ℕ → ℕ) (p : Image) (t : Typing) (c : Prices) (a : Afters)
       c.from m place ≡ keep (own p m c sh i + max (after a m r) (most_within c m r (flows p m place sh i)))) → IsSweptAt keep p t c a m place
   plain_there i there no_loop no_next found = search (arith, nat_tests, instr_same, c.from m place, no_loop_here i, no_next_here i)
 
-  pub loop_there : (d n : ℕ) → instr_at p m place ≡ Some (Loop d n) → c.from m place ≡ keep (1 + (n - 1) * c.round m place + c.from m (suc place)) →
+  pub loop_there : (d n : ℕ) → LoopIn (instr_at p m place) d n → c.from m place ≡ keep (1 + (n - 1) * c.round m place + c.from m (suc place)) →
       (IsSome (shape_at t m (suc place)) → c.from m (suc place) ≡ c.round m place + a m place) → IsSweptAt keep p t c a m place
   loop_there d n there found round = record {
-    plain = λ sh j r at l k w. absurd (no_loop_here j d n l (instr_same (instr_at p m place) j (Loop d n) at.instr there));
+    plain = λ sh j r at l k w. absurd (no_loop_here j d n l (instr_same (instr_at p m place) j _ at.instr there));
     loops = grind (arith, nat_tests, instr_same);
-    nexts = λ e from sh at. absurd (not_both (Loop d n) d n e (suc from) refl (instr_same (instr_at p m place) (Loop d n) (Next e (suc from)) there at.instr));
+    nexts = λ e from sh at. absurd (not_both_in (instr_at p m place) d n e (suc from) there at.instr);
     rounds = λ to e k body reached. round reached;
     afters = grind (arith, nat_tests, not_both, instr_same);
   }
 
-  pub next_there : (d from : ℕ) → instr_at p m place ≡ Some (Next d (suc from)) → c.from m place ≡ keep (1 + a m from) →
+  pub next_there : (d from : ℕ) → NextIn (instr_at p m place) d (suc from) → c.from m place ≡ keep (1 + a m from) →
       ((r : Region) → IsInnermost p m from r → IsAfter p t c a m from place r) → IsSweptAt keep p t c a m place
   next_there d from there found follows = record {
-    plain = λ sh j r at l n w. absurd (no_next_here j d (suc from) n (instr_same (instr_at p m place) j (Next d (suc from)) at.instr there));
-    loops = λ e k sh at. absurd (not_both (Loop e k) e k d (suc from) refl (instr_same (instr_at p m place) (Loop e k) (Next d (suc from)) at.instr there));
+    plain = λ sh j r at l n w. absurd (no_next_here j d (suc from) n (instr_same (instr_at p m place) j _ at.instr there));
+    loops = λ e k sh at. absurd (not_both_in (instr_at p m place) e k d (suc from) at.instr there);
     nexts = grind (arith, nat_tests, instr_same);
     rounds = grind (arith, nat_tests, not_both, instr_same);
     afters = grind (arith, nat_tests, instr_same);
   }
-    where
-      from_same : (e f : ℕ) → Next d (suc from) ≡ Next e (suc f) → from ≡ f
-      from_same e f same = let one : suc from ≡ suc f = cc in omega (arith, one)
 
 -- what is found at a place is no less than what follows the region that it stands in, where that is within what is kept
 module _ (keep : ℕ → ℕ) (p : Image) (t : Typing) (looped : IsLooped p) (typed : IsTyped p t) (c : Prices) (a : Afters)
@@ -77,22 +73,22 @@ module _ (keep : ℕ → ℕ) (p : Image) (t : Typing) (looped : IsLooped p) (ty
       plain : loop_in (Some passes.instr) ≡ None → next_in (Some passes.instr) ≡ None → after a m r ≤ c.from m place
       plain l n = kept _ ((swept place (omega arith)).plain reached.0 passes.instr r at l n w) (omega arith)
 
-      loop : (d n : ℕ) → passes.instr ≡ Loop d n → after a m r ≤ c.from m place
+      loop : (d n : ℕ) → BeginsLoop passes.instr d n → after a m r ≤ c.from m place
       loop d n e =
           let here = subst (λ j. Stands p t m place reached.0 j) e at in
           let begins = looped.begins m place d n here.instr in
           let later = begins.2.later in
-          let next = leads_on p t m typed place (suc place) reached.0 (Loop d n) here (inl refl) in
+          let next = leads_on p t m typed place (suc place) reached.0 _ here (inl refl) in
           let found = (swept place (omega arith)).loops d n reached.0 here in
           let round = (swept place (omega arith)).rounds begins.1 d n begins.2 (reached_is_some t m (suc place) next) in
           let follows = (swept begins.1 (omega (arith, later))).afters place d n r begins.2 w in
           kept _ found (omega (arith, round, follows.around))
 
-      next : (d to : ℕ) → passes.instr ≡ Next d to → after a m r ≤ c.from m place
+      next : (d to : ℕ) → EndsRound passes.instr d to → after a m r ≤ c.from m place
       next d to e =
           let here = subst (λ j. Stands p t m place reached.0 j) e at in
           let closes = looped.closes m place d to here.instr in
-          let there = subst (λ x. Stands p t m place reached.0 (Next d x)) closes.3 here in
+          let there = subst (λ x. NextStands p t m place reached.0 d x) closes.3 here in
           let found = (swept place (omega arith)).nexts d closes.0 reached.0 there in
           let region = innermost_of_next p looped m place d closes.0 closes.1 r there.instr closes.2 w in
           kept _ found (omega (arith, ap (λ x. after a m x) region.1))

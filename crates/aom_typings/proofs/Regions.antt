@@ -19,9 +19,23 @@ use Rattle.aom_typings.proofs.Ways.Way.{back, jump, on}
 
 -- ---- instructions
 
--- an instruction begins a loop, ends a round, or does neither
-pub by_kind : (P : Type 0) (i : Instr) → (loop_in (Some i) ≡ None → next_in (Some i) ≡ None → P) → ((d n : ℕ) → i ≡ Loop d n → P) →
-    ((d to : ℕ) → i ≡ Next d to → P) → P
+-- an instruction begins a loop of that number with so many rounds, or ends a round of that number and goes back there
+abbrev pub BeginsLoop : Instr → (number rounds : ℕ) → Type 0
+BeginsLoop i d n = i ≡ Loop d n
+
+abbrev pub EndsRound : Instr → (number back : ℕ) → Type 0
+EndsRound i d to = i ≡ Next d to
+
+-- so the instruction does that stands somewhere
+abbrev pub LoopIn : Option Instr → (number rounds : ℕ) → Type 0
+LoopIn o d n = o ≡ Some (Loop d n)
+
+abbrev pub NextIn : Option Instr → (number back : ℕ) → Type 0
+NextIn o d to = o ≡ Some (Next d to)
+
+-- it does one of the two, or neither
+pub by_kind : (P : Type 0) (i : Instr) → (loop_in (Some i) ≡ None → next_in (Some i) ≡ None → P) → ((d n : ℕ) → BeginsLoop i d n → P) →
+    ((d to : ℕ) → EndsRound i d to → P) → P
 unfolding loop_in next_in
 by_kind P (Loop d n) plain loop next = loop d n refl
 by_kind P (Next d to) plain loop next = next d to refl
@@ -49,6 +63,16 @@ no_way_back i to none e = let next = goes_back i to e in no_next_here i next.0 t
 
 pub not_both : (i : Instr) (d n e to : ℕ) → i ≡ Loop d n → i ≡ Next e to → ⊥
 not_both i d n e to a b = let clash : Loop d n ≡ Next e to = sym a ∙ b in cc
+
+-- what stands there does one of them, once
+pub not_both_in : (o : Option Instr) (d n e to : ℕ) → LoopIn o d n → NextIn o e to → ⊥
+not_both_in o d n e to a b = let clash : Some (Loop d n) ≡ Some (Next e to) = sym a ∙ b in cc
+
+pub same_rounds : (o : Option Instr) (d n e l : ℕ) → LoopIn o d n → LoopIn o e l → n ≡ l
+same_rounds o d n e l a b = let one : Some (Loop d n) ≡ Some (Loop e l) = sym a ∙ b in cc
+
+pub same_back : (o : Option Instr) (d to e other : ℕ) → NextIn o d to → NextIn o e other → to ≡ other
+same_back o d to e other a b = let one : Some (Next d to) ≡ Some (Next e other) = sym a ∙ b in cc
 
 pub next_is_no_loop : (i : Instr) (d to : ℕ) → i ≡ Next d to → loop_in (Some i) ≡ None
 unfolding loop_in

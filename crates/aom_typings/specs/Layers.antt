@@ -63,6 +63,7 @@ PaysFor p m sh (An_operation j) k = j ≡ k
 PaysFor p m sh (A_destruction a) k = KindDestructs p (register sh a) k
 PaysFor p m sh A_cancel k = Cancelled p (method_class p m) k
 
+-- and so the instruction does
 abbrev pub Pays : Image → (m : ℕ) → Shape → Instr → ℕ → Type 0
 Pays p m sh i k = PaysFor p m sh (charge_of i) k
 

@@ -92,15 +92,22 @@ pub record Stands (p : Image) (t : Typing) (m place : ℕ) (sh : Shape) (i : Ins
   pub shape : shape_at t m place ≡ Some sh
   pub instr : instr_at p m place ≡ Some i
 
+-- so a loop of that number and so many rounds stands there, or a next of that number that goes back there
+abbrev pub LoopStands : Image → Typing → (m place : ℕ) → Shape → (number rounds : ℕ) → Type 0
+LoopStands p t m place sh d n = Stands p t m place sh (Loop d n)
+
+abbrev pub NextStands : Image → Typing → (m place : ℕ) → Shape → (number back : ℕ) → Type 0
+NextStands p t m place sh d to = Stands p t m place sh (Next d to)
+
 -- each reached place pays for what may follow it
 pub record IsPriced (p : Image) (t : Typing) (c : Prices) : Type 0 where
   pub ends : (m place : ℕ) (sh : Shape) (i : Instr) → Stands p t m place sh i → own p m c sh i ≤ c.from m place
   pub flows : (m place : ℕ) (sh : Shape) (i : Instr) → Stands p t m place sh i → loop_in (Some i) ≡ None → next_in (Some i) ≡ None → AllPaid c m (own p m c sh i) (c.from m place) (flows p m place sh i)
   -- a loop pays for all its rounds, the last of which is part of what follows
-  pub loops : (m place d n : ℕ) (sh : Shape) → Stands p t m place sh (Loop d n) → 1 + (n - 1) * c.round m place + c.from m (suc place) ≤ c.from m place
+  pub loops : (m place d n : ℕ) (sh : Shape) → LoopStands p t m place sh d n → 1 + (n - 1) * c.round m place + c.from m (suc place) ≤ c.from m place
   -- the last round goes on, and another begins for the price of a round
-  pub nexts : (m place d to : ℕ) (sh : Shape) → Stands p t m place sh (Next d to) → 1 + c.from m (suc place) ≤ c.from m place
-  pub rounds : (m place d from : ℕ) (sh : Shape) → Stands p t m place sh (Next d (suc from)) → 1 + c.from m (suc from) ≤ c.from m place + c.round m from
+  pub nexts : (m place d to : ℕ) (sh : Shape) → NextStands p t m place sh d to → 1 + c.from m (suc place) ≤ c.from m place
+  pub rounds : (m place d from : ℕ) (sh : Shape) → NextStands p t m place sh d (suc from) → 1 + c.from m (suc from) ≤ c.from m place + c.round m from
   -- a cell pays for its going, for its line of destructors, and a server for each session that it may have
   pub lines : (x : Thing) → 1 + line p (perhaps_price c) x + sessions_cost p (λ k. c.destruction (Object k)) x ≤ c.destruction x
   -- and where it is declared all that may stand there is paid for

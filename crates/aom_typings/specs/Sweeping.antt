@@ -2,7 +2,6 @@
 use Rattle.std.specs.Prelude.{ℕ, suc, ◌+◌, ◌-◌, ◌*◌, ◌≡◌, ◌≤◌, ◌⊎◌, max, min, Bool, false, nat_lt, cond, List, [], ◌∷◌, Option, Some, None, IsSome}
 use Rattle.aom_image.specs.Image.{Image}
 use Rattle.aom_instructions.specs.declared.instr.Instr.{Instr}
-use Rattle.aom_instructions.specs.declared.instr.Instr.TheVariants.{Loop, Next}
 use Rattle.aom_image.specs.declared.method.Thing.{Thing}
 use Rattle.aom_image.specs.declared.method.Thing.TheVariants.{Object}
 use Rattle.aom_classes.specs.Bodies.{Body, IsIn}
@@ -12,7 +11,7 @@ use Rattle.aom_shape.specs.Needs.{Flow}
 use Rattle.aom_rules.specs.Rules.{flows}
 use Rattle.aom_shape.specs.Shape.{Shape}
 use Rattle.aom_rules.specs.Typing.{Typing, shape_at}
-use Rattle.aom_typings.specs.Prices.{Prices, Stands, own, sessions_cost}
+use Rattle.aom_typings.specs.Prices.{LoopStands, NextStands, Prices, Stands, own, sessions_cost}
 use Rattle.aom_typings.specs.Costs.{Region, Whole, Round, Inside, GoesOut, destructor_price}
 
 -- ---- the innermost loop round a place
@@ -65,8 +64,9 @@ pub record IsSweptFrom (keep : ℕ → ℕ) (p : Image) (t : Typing) (c : Prices
   pub plain :
       (place : ℕ) (sh : Shape) (i : Instr) (r : Region) → down ≤ place → Stands p t m place sh i → loop_in (Some i) ≡ None → next_in (Some i) ≡ None → IsInnermost p m place r →
       c.from m place ≡ keep (own p m c sh i + max (after a m r) (most_within c m r (flows p m place sh i)))
-  pub loops : (place d n : ℕ) (sh : Shape) → down ≤ place → Stands p t m place sh (Loop d n) → c.from m place ≡ keep (1 + (n - 1) * c.round m place + c.from m (suc place))
-  pub nexts : (place d from : ℕ) (sh : Shape) → down ≤ place → Stands p t m place sh (Next d (suc from)) → c.from m place ≡ keep (1 + a m from)
+  pub loops : (place d n : ℕ) (sh : Shape) → down ≤ place → LoopStands p t m place sh d n →
+      c.from m place ≡ keep (1 + (n - 1) * c.round m place + c.from m (suc place))
+  pub nexts : (place d from : ℕ) (sh : Shape) → down ≤ place → NextStands p t m place sh d (suc from) → c.from m place ≡ keep (1 + a m from)
   -- a round is what is found at the body's first place, less what follows the loop
   pub rounds : (from to d n : ℕ) → down ≤ from → Body p m from to d n → IsSome (shape_at t m (suc from)) → c.from m (suc from) ≡ c.round m from + a m from
   pub afters : (from to d n : ℕ) (r : Region) → down ≤ to → Body p m from to d n → IsInnermost p m from r → IsAfter p t c a m from to r
