@@ -8,7 +8,6 @@ use Rattle.std.proofs.lemmas.Bool.{true≢false}
 use Rattle.aom_image.specs.Image.{Image}
 use Rattle.aom_image.specs.Views.{gives_of, gives_in, is_quiet, quiet_in, leaves, leaves_in, method_at}
 use Rattle.aom_instructions.specs.declared.instr.Instr.{Instr}
-use Rattle.aom_instructions.specs.declared.instr.Instr.TheVariants.{Push, PushOperation, Call, Trap}
 use Rattle.aom_instructions.specs.declared.instr.Target.{Target}
 use Rattle.aom_image.specs.declared.method.Gives.{Gives}
 use Rattle.aom_image.specs.declared.method.Gives.TheVariants.{Nothing, Word as A_word, Own as An_own, Maybe as A_maybe, Left}
@@ -18,7 +17,7 @@ use Rattle.aom_roles.specs.Shapes.{IsShaped, gives_left}
 use Rattle.aom_classes.specs.Linked.{IsLinked}
 use Rattle.aom_budget.proofs.ClassesLemmas.{all_there}
 use Rattle.aom_classes.specs.Overriding.{StandsIn, StandsInNamed, over_in, over_of}
-use Rattle.aom_rules.specs.Calls.{brought}
+use Rattle.aom_rules.specs.Calls.{brought, rule_call, rule_trap}
 use Rattle.aom_shape.specs.Entries.{without_top}
 use Rattle.aom_rules.specs.Laws.{HaveAtMost}
 use Rattle.aom_shape.specs.Needs.{Need, Flow}
@@ -99,13 +98,10 @@ rest_true [] ys h = h
 rest_true (x ∷ xs) ys h = rest_true xs ys h.1
 
 module _ (p : Image) (m : ℕ) (linked : IsLinked p) (quiet : is_quiet p m ≡ true) where
-  unleft : leaves p m ≡ true → ⊥
-  unleft e = true≢false (sym e ∙ quiet_stays p m linked quiet)
-
-  callee_quiet : (pc : ℕ) (sh : Shape) (target : Target) (k first c : ℕ) → AllTrue (rule_needs p m pc sh (Call target k first c)) → is_quiet p k ≡ true
+  callee_quiet : (pc : ℕ) (sh : Shape) (target : Target) (k first c : ℕ) → AllTrue (rule_call p m pc sh target k first c) → is_quiet p k ≡ true
   callee_quiet pc sh target k first c needs = grind (arith, nat_tests, rest_true)
 
-  untrapped : (pc : ℕ) (sh : Shape) (target : Target) (k first c : ℕ) → AllTrue (rule_needs p m pc sh (Trap target k first c)) → ⊥
+  untrapped : (pc : ℕ) (sh : Shape) (target : Target) (k first c : ℕ) → AllTrue (rule_trap p m pc sh target k first c) → ⊥
   untrapped pc sh target k first c needs = true≢false (sym needs.0 ∙ ap not quiet)
 
   null_low : (pc : ℕ) (sh : Shape) (kind : Kind) (r to : ℕ) → sh.entries ≡ [] → HaveAtMost 0 (flow_jump_null p m pc sh kind r to)
@@ -124,11 +120,7 @@ module _ (p : Image) (m : ℕ) (linked : IsLinked p) (quiet : is_quiet p m ≡ t
 
   quietly : (pc : ℕ) (sh : Shape) (i : Instr) → AllTrue (rule_needs p m pc sh i) → IsQuietly (ways_of p i)
   unfolding IsQuietly
-  quietly pc sh (Push r) needs = unleft needs.1.0
-  quietly pc sh (PushOperation r k) needs = unleft needs.1.0
-  quietly pc sh (Call target k first c) needs = callee_quiet pc sh target k first c needs
-  quietly pc sh (Trap target k first c) needs = untrapped pc sh target k first c needs
-  quietly pc sh _ needs = refl
+  quietly pc sh x needs = grind (arith, nat_tests, quiet_stays p m linked quiet, callee_quiet pc sh, untrapped pc sh)
 
   after_none : (pc : ℕ) (sh : Shape) (news : News) → IsQuietly (Goes_on news) → sh.entries ≡ [] → length (after p m pc sh news).entries ≤ 0
   unfolding IsQuietly
