@@ -2,6 +2,7 @@ pub mod Faults
 pub mod Greatest
 pub mod Extents
 pub mod Reaching
+pub mod Charging
 pub mod Pricing
 pub mod Costing
 pub mod Budgets

@@ -5,10 +5,12 @@ ghost use Rattle.aom_image.specs.Views.{method_at};
 ghost use Rattle.aom_typings.specs.Most.{most_run};
 ghost use Rattle.aom_roles.specs.Tables.{at};
 ghost use Rattle.aom_budget.specs.Costing.{AreCosts};
-ghost use Rattle.aom_budget.specs.Pricing.{cancel_by, destruction_by, kind_by, own_by};
+ghost use Rattle.aom_budget.specs.Charging.{charge_said};
+ghost use Rattle.aom_budget.specs.Pricing.{cancel_by, charge_by, destruction_by, kind_by, own_by};
 
 use crate::callees::class_of;
 use crate::cancels::raise_cancel_costs;
+use crate::charges::Charge;
 use crate::destructions::raise_destroyed;
 use crate::raising::raise_called;
 use crate::sums::Sums;
@@ -111,7 +113,28 @@ impl Costs {
         }
     }
 
-    /// What an instruction of a method costs itself, by the prices of the lower methods.
+    /// What it costs that an instruction of a method sets that going, by the prices of the lower methods.
+    fn of_charge(
+        &self,
+        linked: &Linked,
+        method: MethodNumber,
+        shape: &ShapeView<'_>,
+        charge: Charge,
+    ) -> u64
+        requires { AreCosts linked.now self.now }
+        ensures is { result ≡ charge_by linked.now method self.now.prices shape.now (charge_said charge) }
+        ensures low { result ≤ 4294967296 }
+    {
+        match charge {
+            Charge::Nothing => 0,
+            Charge::Call(called) => self.of_call(called),
+            Charge::Operation(pushed) => self.prices.at(pushed.number() as usize),
+            Charge::Destruction(register) => self.of_kind(shape.register(register)),
+            Charge::Cancel => self.of_cancel(class_of(linked, method)),
+        }
+    }
+
+    /// What the instruction costs itself.
     pub(crate) fn of_instr(
         &self,
         linked: &Linked,
@@ -123,14 +146,6 @@ impl Costs {
         ensures is { result ≡ own_by linked.now method self.now.prices shape.now instr.now }
         ensures low { result ≤ 4294967297 }
     {
-        match *instr {
-            Instr::Call(_, called, _, _) | Instr::Trap(_, called, _, _) => 1 + self.of_call(called),
-            Instr::PushOperation(_, pushed) => 1 + self.prices.at(pushed.number() as usize),
-            Instr::Push(register) | Instr::Delete(register) => {
-                1 + self.of_kind(shape.register(register))
-            }
-            Instr::Cancel => 1 + self.of_cancel(class_of(linked, method)),
-            _ => 1,
-        }
+        1 + self.of_charge(linked, method, shape, Charge::of(instr))
     }
 }

@@ -3,16 +3,18 @@ ghost use Rattle.std.specs.Prelude.{◌≡◌, ◌+◌, ◌<◌, ◌≤◌, suc,
 ghost use Rattle.aom_image.specs.Views.{method_at};
 ghost use Rattle.aom_roles.specs.Tables.{at};
 ghost use Rattle.aom_typings.specs.Strongest.{IsMethodStrongest};
-ghost use Rattle.aom_typings.specs.Calls.{callees};
+ghost use Rattle.aom_typings.specs.Calls.{called_for, callees};
 ghost use Rattle.aom_typings.specs.Depths.{Frames};
 ghost use Rattle.aom_typings.specs.Heights.{Heights};
-ghost use Rattle.aom_budget.specs.Extents.{IsMost, entered, FramesAt, EntriesAt, AreFilled};
+ghost use Rattle.aom_budget.specs.Charging.{charge_said};
+ghost use Rattle.aom_budget.specs.Extents.{IsMost, entered, entered_for, FramesAt, EntriesAt, AreFilled};
 ghost use Rattle.aom_budget.specs.Greatest.{most_at};
 ghost use Rattle.aom_budget.specs.Pricing.{price_by};
 ghost use Rattle.aom_budget.specs.Reaching.{AreReached};
 
 use crate::callees::{class_of, object_class};
 use crate::cancels::raise_cancel_depths;
+use crate::charges::Charge;
 use crate::extents::{Extents, MOST_ENTRIES, MOST_FRAMES};
 use crate::lines::raise_gone;
 use crate::raising::raise_called;
@@ -111,41 +113,37 @@ impl Finder {
         })
     }
 
-    /// The most of what an instruction may call.
+    /// The most of what may run for what an instruction sets going.
     fn most_called(
         &self,
         linked: &Linked,
         method: MethodNumber,
         shape: &ShapeView<'_>,
-        instr: &Instr,
+        charge: Charge,
     ) -> u64
         requires { AreReached linked.now self.now }
         ensures low { result ≤ 4294967296 }
-        ensures is { result ≡ most_at self.now.depths (callees linked.now method shape.now instr.now) }
+        ensures is { result ≡ most_at self.now.depths (called_for linked.now method shape.now (charge_said charge)) }
     {
-        match *instr {
-            Instr::Call(_, called, _, _) | Instr::Trap(_, called, _, _) => {
-                self.called.at(called.number() as usize)
-            }
-            Instr::PushOperation(_, pushed) => u64::from(self.depths.of_method(pushed)),
-            Instr::Push(register) | Instr::Delete(register) => {
+        match charge {
+            Charge::Nothing => 0,
+            Charge::Call(called) => self.called.at(called.number() as usize),
+            Charge::Operation(pushed) => u64::from(self.depths.of_method(pushed)),
+            Charge::Destruction(register) => {
                 of_class(&self.gone, object_class(shape.register(register)))
             }
-            Instr::Cancel => of_class(&self.cancelled, class_of(linked, method)),
-            _ => 0,
+            Charge::Cancel => of_class(&self.cancelled, class_of(linked, method)),
         }
     }
 
-    /// The most of what an instruction may enter.
-    fn most_entered(&self, linked: &Linked, instr: &Instr) -> u64
+    /// The most of what may be entered for it.
+    fn most_entered(&self, linked: &Linked, charge: Charge) -> u64
         requires { AreReached linked.now self.now }
         ensures low { result ≤ 4294967296 }
-        ensures is { result ≡ most_at self.now.heights (entered linked.now instr.now) }
+        ensures is { result ≡ most_at self.now.heights (entered_for linked.now (charge_said charge)) }
     {
-        match *instr {
-            Instr::Call(_, called, _, _) | Instr::Trap(_, called, _, _) => {
-                self.entered.at(called.number() as usize)
-            }
+        match charge {
+            Charge::Call(called) => self.entered.at(called.number() as usize),
             _ => 0,
         }
     }
@@ -163,7 +161,7 @@ impl Finder {
     {
         joined(
             1,
-            self.most_called(linked, method, shape, instr),
+            self.most_called(linked, method, shape, Charge::of(instr)),
             MOST_FRAMES + 1,
         )
     }
@@ -175,7 +173,7 @@ impl Finder {
     {
         joined(
             shape.height(),
-            self.most_entered(linked, instr),
+            self.most_entered(linked, Charge::of(instr)),
             MOST_ENTRIES + 1,
         )
     }

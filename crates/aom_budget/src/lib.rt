@@ -9,6 +9,7 @@
 mod accepted;
 mod callees;
 mod cancels;
+mod charges;
 mod costs;
 mod destructions;
 mod extents;

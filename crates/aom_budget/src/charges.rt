@@ -1,0 +1,34 @@
+//! What an instruction sets going: what it is charged for, and what it may call.
+ghost use Rattle.std.specs.Prelude.{◌≡◌};
+ghost use Rattle.aom_typings.specs.Charges.{charge_of};
+ghost use Rattle.aom_budget.specs.Charging.{charge_said};
+
+use aom_image::{Instr, MethodNumber, Register};
+
+/// What an instruction sets going, now or as it leaves the cleanup stack.
+#[derive(Clone, Copy)]
+pub(crate) enum Charge {
+    Nothing,
+    /// A method, or what overrides it.
+    Call(MethodNumber),
+    /// A method that runs as it leaves the cleanup stack.
+    Operation(MethodNumber),
+    /// What the register has goes.
+    Destruction(Register),
+    /// The request of what the method works on is cancelled.
+    Cancel,
+}
+
+impl Charge {
+    pub(crate) fn of(instr: &Instr) -> Charge
+        ensures { charge_said result ≡ charge_of instr.now }
+    {
+        match *instr {
+            Instr::Call(_, called, _, _) | Instr::Trap(_, called, _, _) => Charge::Call(called),
+            Instr::PushOperation(_, pushed) => Charge::Operation(pushed),
+            Instr::Push(register) | Instr::Delete(register) => Charge::Destruction(register),
+            Instr::Cancel => Charge::Cancel,
+            _ => Charge::Nothing,
+        }
+    }
+}
