@@ -2,15 +2,16 @@
 use Rattle.std.proofs.lemmas.Bool.Decides.{nat_tests}
 use Rattle.aom_progress.proofs.SafetyLemmas.{all_parts, body_quiet, straight_by}
 use Rattle.std.proofs.Common.{◌≡◌, ◌<◌, ◌≤◌, ◌+◌, ◌*◌, ◌∙◌, ℕ, ℤ, suc, Bool, true, false, List}
-use Rattle.std.proofs.Common.{◌∷◌, length, Option, Some, None, slice_get, refl, sym, ap, arith, subst}
+use Rattle.std.proofs.Common.{◌∷◌, length, Option, Some, None, slice_get, sym, ap, arith, subst}
 use Rattle.std.specs.Prelude.{not}
 use Rattle.aom_image.specs.Image.{Image}
 use Rattle.aom_image.specs.Views.{arguments_of, is_quiet, method_at, method_class}
 use Rattle.aom_instructions.specs.declared.instr.Instr.{Instr}
-use Rattle.aom_instructions.specs.declared.instr.Instr.TheVariants.{Call, Cancel, Delete, Return, Trap}
+use Rattle.aom_instructions.specs.declared.instr.Instr.TheVariants.{Cancel, Delete, Return}
 use Rattle.aom_instructions.specs.declared.instr.Target.{Target}
 use Rattle.aom_image.specs.declared.method.Gives.{Gives}
 use Rattle.aom_image.specs.declared.method.Method.{Method as Method_declared}
+use Rattle.aom_classes.specs.Calls.{CallsBelow, RunsBelow}
 use Rattle.aom_classes.specs.Jumps.{jump_of}
 use Rattle.aom_classes.specs.Linked.{IsLinked}
 use Rattle.aom_classes.specs.Loops.{LoopsNest, loop_in}
@@ -32,8 +33,8 @@ use Rattle.aom_semantics.specs.Words.{here}
 use Rattle.aom_progress.specs.Worths.{over_worth}
 use Rattle.aom_progress.specs.Ranks.{cell_rank, frame_rank, is_going, left_in, operations, price, rank, rank_worths, standing, tasks_rank, waiting_rank}
 use Rattle.aom_progress.specs.Within.{left}
-use Rattle.aom_progress.proofs.Levels.{begun_paid, called_before, called_lower, cell_paid, cell_some, cell_two}
-use Rattle.aom_progress.proofs.Levels.{loud_leaver, price_some, run_paid, trapped_before, undo_paid}
+use Rattle.aom_progress.proofs.Levels.{begun_paid, body_before, called_lower, cell_paid, cell_some, cell_two}
+use Rattle.aom_progress.proofs.Levels.{loud_leaver, price_some, run_paid, runs_below, undo_paid}
 use Rattle.aom_progress.proofs.Places.{back, enters, jumps, leaves, straight_on}
 use Rattle.aom_progress.proofs.Cells.{field_stands, operations_below, standing_asked, standing_goes, standing_moved, standing_new}
 use Rattle.aom_progress.proofs.Cells.{standing_passes, standing_stored, standing_opened, standing_redeemed, standing_without}
@@ -84,14 +85,13 @@ module _ (p : Image) (linked : IsLinked p) (c : Choice) (s : State) (fr : Frame)
   unfolding method_at
   nests = at_place (λ _ x. LoopsNest x.code) p.methods fr.method d linked.loops declared_there
 
-  calls : (target : Target) (m first x : ℕ) → slice_get d.code fr.place ≡ Some (Call target m first x) → only_if (is_quiet p fr.method) (is_quiet p m) ≡ true →
-      rank p (applied p fr ts s (Calls target m first)) < before
-  unfolding loop_in
-  calls target m first x stands quiet =
-      let less = paid fr.counters (suc fr.place) (straight (Call target m first x) stands refl) in
+  calls : (i : Instr) (target : Target) (m first : ℕ) → slice_get d.code fr.place ≡ Some i → loop_in (Some i) ≡ None → CallsBelow p fr.method m →
+      only_if (is_quiet p fr.method) (is_quiet p m) ≡ true → rank p (applied p fr ts s (Calls target m first)) < before
+  calls i target m first stands plain below quiet =
+      let less = paid fr.counters (suc fr.place) (straight i stands plain) in
       let view = target_view p fr ts s target (method_class p m) in
       let k = run_by p fr ts s target m in
-      let lower = called_lower p fr.method k (called_before p linked fr.method fr.place d target m first x declared_there stands view)
+      let lower = called_lower p fr.method k (body_before p fr.method m view below)
       (λ q. body_quiet p linked.overriders.each m view (subst (λ b. only_if b (is_quiet p m) ≡ true) q quiet)) in
       let run = run_paid p k _ lower in
       let passed = passed_less standing standing_passes p fr ts s (length (Run fr ∷ ts)) (arguments_of p m) first 0 s.cells in
@@ -112,13 +112,12 @@ module _ (p : Image) (linked : IsLinked p) (c : Choice) (s : State) (fr : Frame)
     scaled_le,
   )
 
-  traps : (target : Target) (m first x : ℕ) → slice_get d.code fr.place ≡ Some (Trap target m first x) → is_quiet p fr.method ≡ false →
-      rank p (applied p fr ts s (Sets_trap target m first)) < before
-  unfolding loop_in
-  traps target m first x stands loud =
-      let less = paid fr.counters (suc fr.place) (straight (Trap target m first x) stands refl) in
+  traps : (i : Instr) (target : Target) (m first : ℕ) → slice_get d.code fr.place ≡ Some i → loop_in (Some i) ≡ None → CallsBelow p fr.method m →
+      is_quiet p fr.method ≡ false → rank p (applied p fr ts s (Sets_trap target m first)) < before
+  traps i target m first stands plain below loud =
+      let less = paid fr.counters (suc fr.place) (straight i stands plain) in
       let k = run_by p fr ts s target m in
-      let lower = called_lower p fr.method k (grind (arith, nat_tests, trapped_before p linked fr.method fr.place d target m first x declared_there stands))
+      let lower = called_lower p fr.method k (body_before p fr.method m (target_view p fr ts s target (method_class p m)) below)
       (λ q. absurd (true≢false (sym q ∙ loud))) in
       let run = run_paid p k _ lower in
       let passed = passed_less standing standing_passes p fr ts s (length (Trapped ∷ Run fr ∷ ts)) (arguments_of p m) first 0 s.cells in
@@ -173,6 +172,13 @@ module _ (p : Image) (linked : IsLinked p) (c : Choice) (s : State) (fr : Frame)
     abbrev Ruled : Instr → Type 0
     Ruled i = AllTrue (rule_needs p fr.method fr.place sh i)
 
+    -- what it runs comes before the method
+    abbrev Below : Instr → Type 0
+    Below i = RunsBelow p fr.method d.class i
+
+    runs : (i : Instr) → slice_get d.code fr.place ≡ Some i → Below i
+    runs i stands = runs_below p linked fr.method fr.place d i declared_there stands
+
     -- what makes, or leaves, is not quiet
     loud_maker : (i : Instr) → makes (Some i) ≡ true → Ruled i → is_quiet p fr.method ≡ false
     loud_maker i e r = grind (arith, loud_by (is_quiet p fr.method))
@@ -222,9 +228,12 @@ module _ (p : Image) (linked : IsLinked p) (c : Choice) (s : State) (fr : Frame)
     falls undos i stands r (Counts depth n) f returns plain lasts lower = counts i stands depth n f
     falls undos i stands r (Repeats depth n to) f returns plain lasts lower = grind (arith, nat_tests, goes, back, nests)
     falls undos i stands r (Calls target m first) f returns plain lasts lower =
-        calls target m first f.0 (stands ∙ ap (λ x. Some x) f.1) (grind (arith, nat_tests, all_parts))
+        calls i target m first stands (straight_by p c fr ts s i (Calls target m first) f) (subst Below f.1 (runs i stands))
+        (grind (arith, nat_tests, all_parts))
     falls undos i stands r (Cancels m) f returns plain lasts lower = grind (arith, nat_tests, cancels m)
-    falls undos i stands r (Sets_trap target m first) f returns plain lasts lower = grind (arith, nat_tests, traps target m first f.0, loud_by)
+    falls undos i stands r (Sets_trap target m first) f returns plain lasts lower =
+        traps i target m first stands (straight_by p c fr ts s i (Sets_trap target m first) f) (subst Below f.1 (runs i stands))
+        (loud_by (is_quiet p fr.method) (subst Ruled f.1 r).0)
     falls undos i stands r (Returns g a) f returns plain lasts lower = returns g a (stands ∙ ap (λ x. Some x) f.0)
     falls undos i stands r (Leaves code u) f returns plain lasts lower =
         leaves_on i stands (straight_by p c fr ts s i (Leaves code u) f) (loud_leaving i code f.1 r) (count_after u) (more u)

@@ -8,8 +8,7 @@ use Rattle.std.proofs.lemmas.Option.{slice_get_within}
 use Rattle.aom_image.specs.Image.{Image}
 use Rattle.aom_image.specs.Views.{is_quiet, leaves, leaves_in, method_at, quiet_in}
 use Rattle.aom_instructions.specs.declared.instr.Instr.{Instr}
-use Rattle.aom_instructions.specs.declared.instr.Instr.TheVariants.{Call, Cancel, Trap}
-use Rattle.aom_instructions.specs.declared.instr.Target.{Target}
+use Rattle.aom_instructions.specs.declared.instr.Instr.TheVariants.{Cancel}
 use Rattle.aom_image.specs.declared.method.Method.{Method}
 use Rattle.aom_image.specs.declared.class.ClassKind.{ClassKind}
 use Rattle.aom_image.specs.declared.method.Role.{Role}
@@ -145,22 +144,15 @@ pub begun_paid : (p : Image) → IsLinked p → (o : Object) (height : ℕ) (bel
 begun_paid p linked o height below = grind (arith, nat_tests, pow_step, double_le, closing_two p linked, destructed_paid p linked o height below)
 
 -- what an instruction of a method runs comes before the method
-runs_below : (p : Image) → IsLinked p → (m place : ℕ) (d : Method) (i : Instr) → method_at p m ≡ Some d → slice_get d.code place ≡ Some i → RunsBelow p m d.class i
+pub runs_below : (p : Image) → IsLinked p → (m place : ℕ) (d : Method) (i : Instr) → method_at p m ≡ Some d → slice_get d.code place ≡ Some i →
+    RunsBelow p m d.class i
 unfolding method_at
 runs_below p linked m place d i is stands = all_there (RunsBelow p m d.class) d.code place i (at_place (CallsOrdered p) p.methods m d linked.calls is).code stands
 
 -- so what runs in the place of a method that is called does
-body_before : (p : Image) (m m' : ℕ) (view : Option ℕ) → CallsBelow p m m' → body_of p m' view < m
+pub body_before : (p : Image) (m m' : ℕ) (view : Option ℕ) → CallsBelow p m m' → body_of p m' view < m
 unfolding method_at
 body_before p m m' view below = grind (arith, nat_tests, body_runs p m' view, overrides_there p)
-
-pub called_before : (p : Image) → IsLinked p → (m place : ℕ) (d : Method) (target : Target) (m' first c : ℕ) →
-    method_at p m ≡ Some d → slice_get d.code place ≡ Some (Call target m' first c) → (view : Option ℕ) → body_of p m' view < m
-called_before p linked m place d target m' first c is stands view = body_before p m m' view (runs_below p linked m place d (Call target m' first c) is stands)
-
-pub trapped_before : (p : Image) → IsLinked p → (m place : ℕ) (d : Method) (target : Target) (m' first c : ℕ) →
-    method_at p m ≡ Some d → slice_get d.code place ≡ Some (Trap target m' first c) → (view : Option ℕ) → body_of p m' view < m
-trapped_before p linked m place d target m' first c is stands view = body_before p m m' view (runs_below p linked m place d (Trap target m' first c) is stands)
 
 -- an operation is paid by its item, with two left
 pub undo_paid : (p : Image) (m : ℕ) → IsUndo p m → left_in (method_at p m) [] 0 * price p m + 2 ≤ cell_rank p
