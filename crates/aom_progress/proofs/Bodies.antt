@@ -7,7 +7,7 @@ use Rattle.std.proofs.lemmas.Bool.{eq-eqb, ltb-true, lt-ltb, true≢false}
 use Rattle.std.proofs.lemmas.Bool.Decides.{nat_tests}
 use Rattle.std.proofs.lemmas.Option.{slice_get_within, same_Some}
 use Rattle.aom_instructions.specs.declared.instr.Instr.{Instr}
-use Rattle.aom_instructions.specs.declared.instr.Instr.TheVariants.{Loop}
+use Rattle.aom_progress.proofs.TypingsLemmas.{LoopIn}
 use Rattle.aom_classes.specs.Loops.{loop_in, loop_at, Ending, next_in, next_at, Closes, LoopsNest}
 use Rattle.aom_classes.specs.Scanning.{Enters}
 use Rattle.aom_progress.proofs.ClassesLemmas.{ClosedBefore, both as both_true, must_pass, next_there, scanned_at}
@@ -84,11 +84,11 @@ body_in code number p place w = grind (arith, nat_tests, standing_at code w.end,
 -- ---- the numbers of loops within each other
 
 -- a loop within the body of another has another number
-pub other_number : (code : List Instr) (c d p r : ℕ) (n : ℕ) → LoopsNest code → IsIn code c p r → slice_get code r ≡ Some (Loop d n) → c ≢ d
+pub other_number : (code : List Instr) (c d p r : ℕ) (n : ℕ) → LoopsNest code → IsIn code c p r → LoopIn (slice_get code r) d n → c ≢ d
 unfolding loop_in
 other_number code c d p r n nest w stands same =
     let s = scanned_at code r nest (let h = slice_get_within code r _ stands in omega (arith, h)) in
-    let passes = must_pass code r (Loop d n) s.0 stands s.1 nest in
+    let passes = must_pass code r _ s.0 stands s.1 nest in
     let open_still : slice_get s.0 c ≡ Some p = ⊎_elim (λ (o : slice_get s.0 c ≡ Some p). o)
     (λ (b : ClosedBefore code r c p). let one = nest.closed p c w.closes.begins in
     let u = one.only w.end w.closes in let v = one.only b.place b.closes in absurd (omega (arith, u, v, b.below, w.upto)))

@@ -6,7 +6,6 @@ use Rattle.aom_image.specs.Image.{Image}
 use Rattle.aom_image.specs.declared.method.Thing.TheVariants.{Object as An_object_of}
 use Rattle.aom_image.specs.Views.{method_class, arguments_of, method_at}
 use Rattle.aom_instructions.specs.declared.instr.Instr.{Instr}
-use Rattle.aom_instructions.specs.declared.instr.Instr.TheVariants.{Next}
 use Rattle.aom_instructions.specs.declared.instr.Target.{Target}
 use Rattle.aom_image.specs.declared.method.Gives.{Gives}
 use Rattle.aom_image.specs.declared.method.Method.{Method as Method_declared}
@@ -22,7 +21,7 @@ use Rattle.aom_shape.specs.declared.kind.Kind.{Kind}
 use Rattle.aom_progress.proofs.SafetyLemmas.{At, kind_fits, straight_by}
 use Rattle.aom_progress.proofs.ImageLemmas.{some_given}
 use Rattle.aom_roles.specs.Families.{parent_above}
-use Rattle.aom_progress.proofs.TypingsLemmas.{line_first, line_next}
+use Rattle.aom_progress.proofs.TypingsLemmas.{NextIn, line_first, line_next}
 use Rattle.aom_typings.specs.Most.{line, line_after}
 use Rattle.aom_semantics.specs.Calls.{run_by, target_view, below_top, ended_well, passed_cells, result_cells, returned}
 use Rattle.aom_safety.specs.Claims.{Layer, tasks_of, Method}
@@ -40,7 +39,7 @@ use Rattle.aom_progress.specs.Within.{loops_worth, total}
 use Rattle.aom_progress.proofs.Rounds.{back, closed_loop, enters, jumps, leaves, straight_on}
 use Rattle.aom_progress.proofs.Sums.{scaled, scaled_le}
 use Rattle.aom_progress.proofs.Worths.{passed_less, returned_less, to_trap_less}
-use Rattle.aom_typings.specs.Prices.{call_price, IsPriced, Prices, Stands, kind_price, price, perhaps_price, sessions_cost}
+use Rattle.aom_typings.specs.Prices.{call_price, IsPriced, NextStands, Prices, Stands, kind_price, price, perhaps_price, sessions_cost}
 use Rattle.aom_progress.specs.Worths.{over_worth}
 use Rattle.aom_progress.specs.Left.{is_entry, left, left_worths, method_left, objects_left, operations_left, rounds_left}
 use Rattle.aom_progress.specs.Left.{rounds_price, tasks_left, waiting_left, closings_left, end_left, sessions_left}
@@ -202,7 +201,7 @@ module _ (p : Image) (t : Typing) (c : Prices) (linked : IsLinked p) (priced : I
           goes (put_at 0 fr.counters depth 0) (suc fr.place) 0 pushed closings less (omega arith) (omega arith)
 
   -- another round is one that was paid for
-  again : (depth to n : ℕ) → slice_get d.code fr.place ≡ Some (Next depth to) → Stands p t fr.method fr.place sh (Next depth to) →
+  again : (depth to n : ℕ) → NextIn (slice_get d.code fr.place) depth to → NextStands p t fr.method fr.place sh depth to →
       counter fr depth - 1 ≡ suc n → Pays (Repeats depth (suc n) to)
   again depth to n stands it e =
       let r = closed_loop d.code fr.place depth to nests stands in

@@ -2,7 +2,7 @@
 use Rattle.std.proofs.Common.{◌≡◌, ◌<◌, ◌≤◌, ◌+◌, ◌-◌, ◌*◌, ◌^◌, ◌∙◌, ℕ, refl, suc, List, length, Some, None, slice_get, ap, arith}
 use Rattle.std.proofs.lemmas.Option.{slice_get_within}
 use Rattle.aom_instructions.specs.declared.instr.Instr.{Instr}
-use Rattle.aom_instructions.specs.declared.instr.Instr.TheVariants.{Loop, Next}
+use Rattle.aom_progress.proofs.TypingsLemmas.{LoopIn, NextIn}
 use Rattle.aom_classes.specs.Jumps.{JumpsWell, KeepsWithin, jump_of}
 use Rattle.aom_classes.specs.Loops.{LoopsNest, loop_in}
 use Rattle.aom_progress.proofs.ClassesLemmas.{at_place}
@@ -20,8 +20,8 @@ weight_some code k = pow_some (all_rounds code) (length code - k)
 weight_less : (code : List Instr) (k to : ℕ) → k < length code → k < to → weight code to < weight code k
 weight_less code k to within later = pow_less (all_rounds code) (length code - to) (length code - k) (omega (arith, within, later))
 
-rounds_less : (code : List Instr) (k : ℕ) (d n : ℕ) → slice_get code k ≡ Some (Loop d n) → n ≤ all_rounds code
-rounds_less code k d n e = one_of_all rounds_of all_rounds (λ x xs. refl) code k (Loop d n) e
+rounds_less : (code : List Instr) (k : ℕ) (d n : ℕ) → LoopIn (slice_get code k) d n → n ≤ all_rounds code
+rounds_less code k d n e = one_of_all rounds_of all_rounds (λ x xs. refl) code k _ e
 
 -- a loop's place weighs more than its body does for all rounds
 weight_loop : (code : List Instr) (k n : ℕ) → k < length code → n ≤ all_rounds code → weight code (suc k) + n * weight code (suc k) < weight code k
@@ -54,20 +54,20 @@ jumps code cs k to i well stands jump =
     omega (arith, less, rounds.jumps code (rounds_weight code) (grows code) cs k to i well stands jump)
 
 -- a loop begins all its rounds
-pub enters : (code : List Instr) (cs : List ℕ) (k d n : ℕ) → LoopsNest code → slice_get code k ≡ Some (Loop d n) →
+pub enters : (code : List Instr) (cs : List ℕ) (k d n : ℕ) → LoopsNest code → LoopIn (slice_get code k) d n →
     left code (put_at 0 cs d n) (suc k) < left code cs k
 enters code cs k d n nest stands =
-    let pays = weight_loop code k n (slice_get_within code k (Loop d n) stands) (rounds_less code k d n stands) in
+    let pays = weight_loop code k n (slice_get_within code k _ stands) (rounds_less code k d n stands) in
     omega (arith, pays, rounds.enters code (rounds_weight code) (grows code) cs k d n nest stands)
 
 -- the last round is over
-pub leaves : (code : List Instr) (cs : List ℕ) (k d t : ℕ) → slice_get code k ≡ Some (Next d t) → left code (put_at 0 cs d 0) (suc k) < left code cs k
+pub leaves : (code : List Instr) (cs : List ℕ) (k d t : ℕ) → NextIn (slice_get code k) d t → left code (put_at 0 cs d 0) (suc k) < left code cs k
 leaves code cs k d t stands =
-    let less = weight_less code k (suc k) (slice_get_within code k (Next d t) stands) (omega arith) in
+    let less = weight_less code k (suc k) (slice_get_within code k _ stands) (omega arith) in
     omega (arith, less, rounds.leaves code (rounds_weight code) (grows code) cs k d t stands)
 
 -- one more round begins
-pub back : (code : List Instr) (cs : List ℕ) (k d t n : ℕ) → LoopsNest code → slice_get code k ≡ Some (Next d t) → at 0 cs d - 1 ≡ suc n →
+pub back : (code : List Instr) (cs : List ℕ) (k d t n : ℕ) → LoopsNest code → NextIn (slice_get code k) d t → at 0 cs d - 1 ≡ suc n →
     left code (put_at 0 cs d (suc n)) t < left code cs k
 back code cs k d t n nest stands fewer =
     let r = rounds.closed_loop code k d t nest stands in

@@ -6,7 +6,7 @@ use Rattle.std.specs.Prelude.{◌≢◌}
 use Rattle.std.proofs.lemmas.Bool.{cases_lt, eq-eqb, ne_eqb}
 use Rattle.std.proofs.lemmas.Option.{slice_get_within, same_Some}
 use Rattle.aom_instructions.specs.declared.instr.Instr.{Instr}
-use Rattle.aom_instructions.specs.declared.instr.Instr.TheVariants.{Loop, Next}
+use Rattle.aom_progress.proofs.TypingsLemmas.{LoopIn, NextIn}
 use Rattle.aom_classes.specs.Jumps.{Body, JumpsWell, back_of, begins_loop, jump_of}
 use Rattle.aom_classes.specs.Loops.{Closes, Ending, LoopsNest, loop_at, loop_in, next_at, next_in}
 use Rattle.aom_progress.proofs.ClassesLemmas.{at_place, loop_there, next_there, next_within}
@@ -48,7 +48,7 @@ jumps_within code k to i well stands jump p d w =
     record { after = both.0; end = w.end; upto = both.1; closes = w.closes }
 
 -- which loop a next closes
-pub closed_loop : (code : List Instr) (k d t : ℕ) → LoopsNest code → slice_get code k ≡ Some (Next d t) → (r : ℕ) × Closes code d r k × (t ≡ suc r)
+pub closed_loop : (code : List Instr) (k d t : ℕ) → LoopsNest code → NextIn (slice_get code k) d t → (r : ℕ) × Closes code d r k × (t ≡ suc r)
 unfolding next_in
 closed_loop code k d t nest stands = grind (arith, nat_tests, same_Some)
 
@@ -103,11 +103,11 @@ module _ (code : List Instr) (worth : ℕ → ℕ → ℕ) (grows : (p a b : ℕ
   jumps cs k to i well stands jump = forward cs cs k to (λ p d w. (jumps_within code k to i well stands jump p d w, omega arith))
 
   -- a loop begins all its rounds, which come to what it counts for
-  pub enters : (cs : List ℕ) (k d n : ℕ) → LoopsNest code → slice_get code k ≡ Some (Loop d n) → all_loops (put_at 0 cs d n) (suc k) ≤ all_loops cs k + worth n k
+  pub enters : (cs : List ℕ) (k d n : ℕ) → LoopsNest code → LoopIn (slice_get code k) d n → all_loops (put_at 0 cs d n) (suc k) ≤ all_loops cs k + worth n k
   unfolding loop_in
   enters cs k d n nest stands =
       let cs' = put_at 0 cs d n in
-      let within = slice_get_within code k (Loop d n) stands in
+      let within = slice_get_within code k _ stands in
       let most : of_loop cs' (suc k) k ≤ worth n k = grind (arith, nat_tests, at_same, at_most) in
       let sums = total_but (λ p. of_loop cs' (suc k) p) (λ p. of_loop cs k p) k (length code) 0 (worth n k) within others (omega (arith, most)) in
       omega (arith, sums)
@@ -127,12 +127,12 @@ module _ (code : List Instr) (worth : ℕ → ℕ → ℕ) (grows : (p a b : ℕ
       others p other = no_more cs (put_at 0 cs d n) k (suc k) p (around p other)
 
   -- the last round is over
-  pub leaves : (cs : List ℕ) (k d t : ℕ) → slice_get code k ≡ Some (Next d t) → all_loops (put_at 0 cs d 0) (suc k) ≤ all_loops cs k
+  pub leaves : (cs : List ℕ) (k d t : ℕ) → NextIn (slice_get code k) d t → all_loops (put_at 0 cs d 0) (suc k) ≤ all_loops cs k
   unfolding loop_in
   leaves cs k d t stands = forward cs (put_at 0 cs d 0) k (suc k) (λ p c w. (from_here code k p c (ap loop_in stands) w, grind (arith, nat_tests, at-put_at)))
 
   -- one more round begins of the loop that a next closes, with a counter that is no greater
-  module _ (cs : List ℕ) (k d t n : ℕ) (nest : LoopsNest code) (stands : slice_get code k ≡ Some (Next d t)) (fewer : n ≤ at 0 cs d) (r : ℕ)
+  module _ (cs : List ℕ) (k d t n : ℕ) (nest : LoopsNest code) (stands : NextIn (slice_get code k) d t) (fewer : n ≤ at 0 cs d) (r : ℕ)
       (it : Closes code d r k) where
     -- the loop at r has its number, and those round it have others
     other_loop : (c p : ℕ) → IsIn code c p r → c ≢ d
