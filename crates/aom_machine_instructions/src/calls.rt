@@ -12,7 +12,7 @@ ghost use Rattle.std.specs.Prelude.{ℕ, suc, List, ◌<◌, ◌≤◌, ◌+◌,
 ghost use Rattle.aom_image.specs.Image.{Image};
 ghost use Rattle.aom_image.specs.Views.{gives_of, instr_at, method_at, method_class};
 ghost use Rattle.aom_instructions.specs.declared.instr.Instr.TheVariants.{Call, Return, Stop, Trap};
-ghost use Rattle.aom_semantics.specs.Calls.{result_register};
+ghost use Rattle.aom_semantics.specs.Calls.{callee_in, result_register};
 ghost use Rattle.aom_machine_instructions.specs.Acts.{Does, DoesIn, resulted};
 ghost use Rattle.aom_machine_instructions.specs.Calls.{body_on, callee_here, is_this, target_here, view_on};
 ghost use Rattle.aom_cells.specs.Heap.{Lives, class_at, null};
@@ -34,6 +34,16 @@ pub fn result_of(instr: Instr) -> u8
     match instr {
         Instr::Call(_, _, _, to) | Instr::Trap(_, _, _, to) => to.number(),
         _ => 0,
+    }
+}
+
+/// The method that an instruction calls, with a trap or without.
+pub fn callee_of(instr: Instr) -> Option<MethodNumber>
+    ensures { result ≡ callee_in (Some instr) }
+{
+    match instr {
+        Instr::Call(_, method, _, _) | Instr::Trap(_, method, _, _) => Some(method),
+        _ => None,
     }
 }
 

@@ -15,7 +15,7 @@ ghost use Rattle.aom_machine_state.specs.Room.{CalleeThere, CallsThere, ReturnsT
 ghost use Rattle.aom_machine_instructions.specs.Moves.{Moves};
 ghost use Rattle.aom_machine_state.specs.Stands.{Stands};
 
-use crate::calls::result_of;
+use crate::calls::{callee_of, result_of};
 use crate::{cleanup, servers};
 use aom_cells::NULL;
 use aom_frames::{Dispatch, Stage, Task, TaskKind};
@@ -172,9 +172,8 @@ fn called_gives(instr: Instr, linked: &Linked) -> Gives
     requires { CalleeThere linked.now (Some instr) }
     ensures { result ≡ called linked.now (Some instr) }
 {
-    match instr {
-        Instr::Call(_, method, _, _) => linked.method(method).gives,
-        Instr::Trap(_, method, _, _) => linked.method(method).gives,
-        _ => Gives::Nothing,
+    match callee_of(instr) {
+        Some(method) => linked.method(method).gives,
+        None => Gives::Nothing,
     }
 }

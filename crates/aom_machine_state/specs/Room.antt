@@ -1,12 +1,11 @@
 -- The room that a run needs: methods at hand are less and less deep, and so is what the cleanup stack would run.
-use Rattle.std.specs.Prelude.{ℕ, suc, Bool, true, not, ◌||◌, ◌+◌, ◌<◌, ◌≤◌, ◌≡◌, ◌^◌, cond, nat_lt, List, [], ◌∷◌, length, Option, Some, None, IsSome}
+use Rattle.std.specs.Prelude.{ℕ, suc, Bool, true, not, ◌||◌, ◌+◌, ◌<◌, ◌≤◌, ◌≡◌, ◌^◌, cond, nat_lt, List, [], ◌∷◌, length, Option, Some, None, IfSome, IsSome}
 use Rattle.aom_image.specs.Image.{Image}
 use Rattle.aom_image.specs.Views.{instr_at, is_quiet, leaves, method_at}
 use Rattle.aom_instructions.specs.declared.instr.Instr.{Instr}
-use Rattle.aom_instructions.specs.declared.instr.Instr.TheVariants.{Call, Trap}
 use Rattle.aom_frames.specs.declared.task.Task.{Task as Machine_task}
 use Rattle.aom_frames.specs.declared.task.Task.TheVariants.{Run as Runs_frame, Trapped as Is_trap, Destroy as Destroys, Unwind as Unwinds, Dispatched as Ends}
-use Rattle.aom_semantics.specs.Calls.{result_register}
+use Rattle.aom_semantics.specs.Calls.{callee_in, result_register}
 use Rattle.aom_typings.specs.Calls.{Among, destructors, thing_class}
 use Rattle.aom_semantics.specs.Places.{Entry, Going, Object, Cell, held}
 use Rattle.aom_semantics.specs.State.{Task, Run, Trapped, Closing, Destroy, Unwind, Dispatched, Item, An_object, An_operation, A_mark, State}
@@ -124,9 +123,7 @@ ReturnsTo p _ = ⊥
 
 -- the method that an instruction calls is there
 abbrev pub CalleeThere : Image → Option Instr → Type 0
-CalleeThere p (Some (Call target m first c)) = IsSome (method_at p m)
-CalleeThere p (Some (Trap target m first c)) = IsSome (method_at p m)
-CalleeThere p _ = Unit {0}
+CalleeThere p o = IfSome (callee_in o) (λ m. IsSome (method_at p m))
 
 -- so it is for the method at hand under a trap
 abbrev pub CallsThere : Image → List Machine_task → Type 0

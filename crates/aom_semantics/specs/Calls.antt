@@ -196,16 +196,24 @@ module _ (p : Image) (fr : Frame) (ts : List Task) (s : State) where
   entered target m first height =
       record (frame_as (run_by target m) (target_home target (method_class p m)) (target_view target (method_class p m)) height) { words = passed_words (arguments_of p m) first }
 
--- the register of a call's result, and what the called method gives
+-- the register of a call's result, and the method that is called
 abbrev pub result_register : Option Instr → ℕ
 result_register (Some (Call target m first c)) = c
 result_register (Some (Trap target m first c)) = c
 result_register _ = 0
 
+abbrev pub callee_in : Option Instr → Option ℕ
+callee_in (Some (Call target m first c)) = Some m
+callee_in (Some (Trap target m first c)) = Some m
+callee_in _ = None
+
+-- what that method gives
+abbrev pub given_by : Image → Option ℕ → Gives
+given_by p None = Nothing
+given_by p (Some m) = gives_of p m
+
 abbrev pub called : Image → Option Instr → Gives
-called p (Some (Call target m first c)) = gives_of p m
-called p (Some (Trap target m first c)) = gives_of p m
-called p _ = Nothing
+called p o = given_by p (callee_in o)
 
 -- the register whose object goes with the result
 abbrev pub result_source : Gives → ℕ → Option ℕ
