@@ -1,11 +1,12 @@
 -- The cell of the method that runs lives, and where an instruction reads or writes its words there is one.
 use Rattle.std.proofs.lemmas.Bool.Decides.{nat_tests}
-use Rattle.std.proofs.Common.{arith, List, ◌≡◌, ℕ, [], Some, subst}
+use Rattle.std.proofs.Common.{arith, List, ◌≡◌, ℕ, true, [], Some, subst}
+use Rattle.std.specs.Prelude.{nat_lt}
 use Rattle.aom_image.specs.Image.{Image}
 use Rattle.aom_image.specs.Views.{instr_at}
 use Rattle.aom_instructions.specs.declared.instr.Instr.{Instr}
-use Rattle.aom_instructions.specs.declared.instr.Instr.TheVariants.{Load, Store}
 use Rattle.aom_roles.specs.Tests.{AllTrue}
+use Rattle.aom_roles.specs.Things.{holder_of, word_count}
 use Rattle.aom_cells.specs.Heap.{Lives}
 use Rattle.aom_semantics.specs.State.{Choice, Frame, State, Task}
 use Rattle.aom_semantics.specs.Moves.{needs}
@@ -63,10 +64,11 @@ module _ (p : Image) (m : Parts) where
       let n = needs_met i next in
       says n.0 h.frame h.below (requested i (at_step h.state)) n.1
 
-  pub finds_loaded : (a w : ℕ) → IsNext p (Load a w) m → Lives m.cells (this m)
-  finds_loaded a w next = let n = needs_met (Load a w) next in
-      next.housed (has_cell p (counting next.counts m) (at_hand p (counting next.counts m) next.stands next.runs) w n.1.0)
-
-  pub finds_stored : (w b : ℕ) → IsNext p (Store w b) m → Lives m.cells (this m)
-  finds_stored w b next = let n = needs_met (Store w b) next in
-      next.housed (has_cell p (counting next.counts m) (at_hand p (counting next.counts m) next.stands next.runs) w n.1.0)
+  -- an instruction that needs a word of its method's cell finds the cell
+  pub finds_words : (i : Instr) (w : ℕ) → IsNext p i m →
+      ((c : Choice) (fr : Frame) (ts : List Task) (s : State) → AllTrue (needs p c fr ts s i) → nat_lt w (word_count p (holder_of p fr.method)) ≡ true) →
+      Lives m.cells (this m)
+  finds_words i w next says =
+      let h = at_hand p (counting next.counts m) next.stands next.runs in
+      let n = needs_met i next in
+      next.housed (has_cell p (counting next.counts m) h w (says n.0 h.frame h.below (requested i (at_step h.state)) n.1))

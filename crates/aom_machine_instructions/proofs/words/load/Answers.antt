@@ -3,11 +3,11 @@ use Rattle.std.specs.Int.{w32}
 use Rattle.std.proofs.lemmas.Int.{to_z-of_z}
 use Rattle.aom_machine_state.specs.Places.{WritesWord}
 use Rattle.aom_machine_instructions.proofs.FieldActs.{load_does}
-use Rattle.aom_machine_instructions.proofs.Housing.{finds_loaded}
+use Rattle.aom_machine_instructions.proofs.Housing.{finds_words}
 use Rattle.aom_machine_instructions.proofs.words.load.Goals as goal
 
 pub field_word-value-requires-clause-lives : goal.field_word-value-requires-clause-lives
-field_word-value-requires-clause-lives c = finds_loaded c.requires.0 c.args.parts.now c.args.to c.args.word c.requires.1
+field_word-value-requires-clause-lives c = finds_words c.requires.0 c.args.parts.now _ c.args.word c.requires.1 (λ ch fr ts s needs. needs.0)
 
 pub returns : goal.returns
 returns c = λ refused.

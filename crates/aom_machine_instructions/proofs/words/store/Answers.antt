@@ -3,11 +3,11 @@ use Rattle.std.specs.Int.{w32}
 use Rattle.std.proofs.lemmas.Int.{to_z-of_z}
 use Rattle.aom_machine_state.specs.Fields.{this, PutsWord}
 use Rattle.aom_machine_instructions.proofs.FieldActs.{store_does}
-use Rattle.aom_machine_instructions.proofs.Housing.{finds_stored}
+use Rattle.aom_machine_instructions.proofs.Housing.{finds_words}
 use Rattle.aom_machine_instructions.proofs.words.store.Goals as goal
 
 pub set_field_word-requires-clause-lives : goal.set_field_word-requires-clause-lives
-set_field_word-requires-clause-lives c = finds_stored c.requires.0 c.args.parts.now c.args.word c.args.from c.requires.1
+set_field_word-requires-clause-lives c = finds_words c.requires.0 c.args.parts.now _ c.args.word c.requires.1 (λ ch fr ts s needs. needs.0)
 
 pub returns : goal.returns
 returns c = λ refused.
