@@ -1,6 +1,6 @@
 -- What a debugger answers that declines: by cases of what is asked.
 use Rattle.std.proofs.Common.{◌≡◌, ◌<◌, ◌≤◌, ◌||◌, ◌++◌, ◌∷◌, [], ℕ, Bool, true, false, List, Option, Some, None}
-use Rattle.std.proofs.Common.{Result, Ok, Err, arith, rules, ap, codes, cond, inl, inr, length, nat_lt, refl}
+use Rattle.std.proofs.Common.{Result, Ok, Err, arith, rules, ap, codes, cond, inl, inr, length, nat_lt, refl, subst, sym}
 use Rattle.std.specs.Prelude.{IfErr, IfOk}
 use Rattle.std.proofs.lemmas.Bool.Decides.{nat_tests}
 use Rattle.std.specs.Str.{bytes_eq}
@@ -24,7 +24,7 @@ use Rattle.aom_debug_names.specs.Lines.{spot_in}
 use Rattle.aom_debug_names.specs.Commands.{command_by, has_text, is_mark, mark_at, mark_in, mark_named, mark_numbered}
 use Rattle.aom_debug_names.specs.Commands.{mark_said, mark_there, marked, numbered, or_named}
 use Rattle.aom_debug.specs.Commands.{is_count, spot_named}
-use Rattle.aom_debug.specs.Debugging.{Answer, CountsNot, Declined, Goes, GoesNamed, Marks, MarksAt, Outgoing, steps_of}
+use Rattle.aom_debug.specs.Debugging.{Answer, CountsNot, Declined, FindsNone, Goes, GoesNamed, Marks, MarksAt, Outgoing, Untils, steps_of}
 use Rattle.aom_debug.specs.Obeying.{Heeds, Obeys, Passes}
 use Rattle.aom_debug.specs.declared.debugger.Debugger.{Debugger}
 
@@ -89,34 +89,52 @@ module _ {X : Type 0} {B : X → Type 0} where
   kept_mover old new (Ok done) same changed = ap (λ (d : Debugger X B). d.mover) same
   kept_mover old new (Err fault) same changed = ap (λ (d : Debugger X B). d.mover) changed
 
-  module _ (d : Debugger X B) (out : Option (List ℕ)) (failed : Bool) (ill : d.has_failed ≡ true) where
-    declined : Declined d d (record { before = out; now = out; failed = failed })
+  module _ (d : Debugger X B) (out : Option (List ℕ)) (failed : Bool) where
+    -- nothing goes out
+    abbrev still : Outgoing
+    still = record { before = out; now = out; failed = failed }
+
+    declined : Declined d d still
     declined = record { same = refl; silent = refl }
 
-    either : (b : Bool) (n : ℕ) → cond b (Goes (steps_of n) d d (record { before = out; now = out; failed = failed }) (Err Ended))
-        (CountsNot d d (record { before = out; now = out; failed = failed }) (Err Ended))
-    either true n = (inl ill, declined)
-    either false n = (ill, declined)
+    module _ (ill : d.has_failed ≡ true) where
+      either : (b : Bool) (n : ℕ) → cond b (Goes (steps_of n) d d still (Err Ended)) (CountsNot d d still (Err Ended))
+      either true n = (inl ill, declined)
+      either false n = (ill, declined)
 
-    pub named_either : (o : Option Spot) → GoesNamed o d d (record { before = out; now = out; failed = failed }) (Err Ended)
-    named_either None = (ill, declined)
-    named_either (Some spot) = (inl ill, declined)
+      named_either : (o : Option Spot) → GoesNamed o d d still (Err Ended)
+      named_either None = (ill, declined)
+      named_either (Some spot) = (inl ill, declined)
 
-    obeys_failed : (command : Command) → Obeys command d d (record { before = out; now = out; failed = failed }) (Err Ended)
-    obeys_failed (Step n) = either (is_count n) n
-    obeys_failed Next = (inl ill, declined)
-    obeys_failed Finish = (inl ill, declined)
-    obeys_failed Turn = (inl ill, declined)
-    obeys_failed Go = (inl ill, declined)
-    obeys_failed (Until method place) = named_either (spot_named d.mover.machine.core.image method place)
-    obeys_failed (Break method place) = (ill, declined)
-    obeys_failed (Unbreak method place) = (ill, declined)
-    obeys_failed _ = (ill, declined)
+      obeys_failed : (command : Command) → Obeys command d d still (Err Ended)
+      obeys_failed (Step n) = either (is_count n) n
+      obeys_failed Next = (inl ill, declined)
+      obeys_failed Finish = (inl ill, declined)
+      obeys_failed Turn = (inl ill, declined)
+      obeys_failed Go = (inl ill, declined)
+      obeys_failed (Until method place) = named_either (spot_named d.mover.machine.core.image method place)
+      obeys_failed (Break method place) = (ill, declined)
+      obeys_failed (Unbreak method place) = (ill, declined)
+      obeys_failed _ = (ill, declined)
 
-    pub heeds_failed : (said : Result (Option Command) DebugFault) → Heeds said d d (record { before = out; now = out; failed = failed }) (Err Ended)
-    heeds_failed (Err fault) = (ill, declined)
-    heeds_failed (Ok None) = (ill, declined)
-    heeds_failed (Ok (Some command)) = obeys_failed command
+      pub heeds_failed : (said : Result (Option Command) DebugFault) → Heeds said d d still (Err Ended)
+      heeds_failed (Err fault) = (ill, declined)
+      heeds_failed (Ok None) = (ill, declined)
+      heeds_failed (Ok (Some command)) = obeys_failed command
+
+    -- where the numbers name nothing
+    module _ (method place : Number) where
+      pub marks_none : (may : Spot → List Spot → Bool) (marked : Spot → List Spot → List Spot) (fault : DebugFault) →
+          FindsNone (spot_named d.mover.machine.core.image method place ≡ None) d fault → Marks may marked method place d d still (Err fault)
+      marks_none may marked NoSuch none = (none.0, inl none.1, declined)
+      marks_none may marked Ended ill = (ill, declined)
+      marks_none may marked _ none = absurd none
+
+      pub untils_none : (fault : DebugFault) → FindsNone (spot_named d.mover.machine.core.image method place ≡ None) d fault →
+          Untils method place d d still (Err fault)
+      untils_none NoSuch none = subst (λ o. GoesNamed o d d still (Err NoSuch)) (sym none.1) (none.0, declined)
+      untils_none Ended ill = named_either ill (spot_named d.mover.machine.core.image method place)
+      untils_none _ none = absurd none
 
   pub passes_on : (d : Debugger X B) (out : Option (List ℕ)) (failed : Bool) → d.has_failed ≡ false →
       (fault : DebugFault) → (fault ≡ Ended → ⊥) → Passes (Err fault) d d (record { before = out; now = out; failed = failed }) (Err fault)

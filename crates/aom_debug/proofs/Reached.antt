@@ -4,15 +4,15 @@ use Rattle.std.specs.Prelude.{IfErr, IfOk}
 use Rattle.aom_roles.specs.Things.{words_of}
 use Rattle.aom_semantics.specs.Places.{service_of}
 use Rattle.aom_semantics.specs.State.{State}
-use Rattle.aom_machine_state.specs.Stands.{StandsFor as CoreStandsFor}
+use Rattle.aom_debug_moves.specs.Calls.{StandsFor}
 use Rattle.aom_debug_words.specs.Ways.{Way}
 use Rattle.aom_debug_words.specs.declared.fault.DebugFault.{DebugFault}
-use Rattle.aom_debug_words.specs.declared.fault.DebugFault.TheVariants.{NoSuch}
+use Rattle.aom_debug_words.specs.declared.fault.DebugFault.TheVariants.{Ended, NoSuch}
 use Rattle.aom_debug_views.specs.Telling.{Tells, TellsPart, answers_text}
 use Rattle.aom_debug_paths.specs.declared.following.Found.{Found}
-use Rattle.aom_debug_paths.specs.Paths.{IsFound, owned_at, waiting_lines, word_lines}
-use Rattle.aom_debug.proofs.DebugPathsLemmas.{queue_found, words_found}
-use Rattle.aom_debug.specs.Debugging.{Answer, Looks, LooksAt, Outgoing, Seen, SeenPart, SeesQueue, SeesWords}
+use Rattle.aom_debug_paths.specs.Paths.{owned_at, waiting_lines, word_lines}
+use Rattle.aom_debug.proofs.DebugPathsLemmas.{queue_found, queue_none, words_found, words_none}
+use Rattle.aom_debug.specs.Debugging.{Answer, Finds, FindsNone, LacksQueue, LacksWords, Looks, LooksAt, Outgoing, Seen, SeenPart, SeesQueue, SeesWords}
 use Rattle.aom_debug.specs.declared.debugger.Debugger.{Debugger}
 use Rattle.std.proofs.lemmas.Result.{IfErr-weaker, IfOk-weaker}
 
@@ -24,9 +24,24 @@ module _ {X : Type 0} {B : X → Type 0} (shows : Debugger X B → State → Lis
   looks_at (Err NoSuch) x = absurd x
   looks_at (Err _) x = x
 
--- the object is there in each state
-abbrev pub IsThere : {X : Type 0} {B : X → Type 0} → Debugger X B → Way → Found → Type 0
-IsThere d w f = (s : State) → CoreStandsFor d.mover.machine.core s → IsFound (owned_at s w) (Some f)
+-- what was not found each state lacks
+module _ {X : Type 0} {B : X → Type 0} (w : Way) (d : Debugger X B) (out : Option (List ℕ)) (failed : Bool) where
+  abbrev LooksNowhere : (Debugger X B → State → List ℕ → Type 0) → (Debugger X B → State → Type 0) → DebugFault → Type 0
+  LooksNowhere shows lacks fault = LooksAt shows lacks d d (record { before = out; now = out; failed = failed }) (Err fault)
+
+  looks_nowhere : (shows : Debugger X B → State → List ℕ → Type 0) (lacks : Debugger X B → State → Type 0) →
+      (Finds w d None → (s : State) → StandsFor d.mover.machine s → lacks d s) →
+      (fault : DebugFault) → FindsNone (Finds w d None) d fault → LooksNowhere shows lacks fault
+  looks_nowhere shows lacks so NoSuch none = (none.0, record { same = refl; silent = refl }, so none.1)
+  looks_nowhere shows lacks so Ended ill = (ill, record { same = refl; silent = refl })
+  looks_nowhere shows lacks so _ none = absurd none
+
+  pub words_nowhere : (fault : DebugFault) → FindsNone (Finds w d None) d fault → LooksNowhere (SeesWords w) (LacksWords w) fault
+  words_nowhere = looks_nowhere (SeesWords w) (LacksWords w)
+      (λ none s st. words_none d.mover.machine.core.image s.cells (owned_at s w) (none s st.stands))
+
+  pub queue_nowhere : (fault : DebugFault) → FindsNone (Finds w d None) d fault → LooksNowhere (SeesQueue w) (LacksQueue w) fault
+  queue_nowhere = looks_nowhere (SeesQueue w) (LacksQueue w) (λ none s st. queue_none s.cells (owned_at s w) (none s st.stands))
 
 module _ {X : Type 0} {B : X → Type 0} (d : Debugger X B) (w : Way) (f : Found) (before now : Option (List ℕ)) where
   abbrev words_text : State → List ℕ
@@ -35,7 +50,7 @@ module _ {X : Type 0} {B : X → Type 0} (d : Debugger X B) (w : Way) (f : Found
   abbrev queue_text : State → List ℕ
   queue_text s = answers_text (waiting_lines (service_of s.cells f.cell).queue)
 
-  module _ (is : IsThere d w f) where
+  module _ (is : Finds w d (Some f)) where
     pub words_seen : (told : Answer) → IfOk told (λ _. Tells d.mover.machine.core words_text before now) → IfOk told (λ _. Seen (SeesWords w) d before now)
     words_seen told tells = IfOk-weaker told _ _
         (λ done t s st. (_, (_, words_found d.mover.machine.core.image s.cells (owned_at s w) f (is s st.stands), refl), t.out s st.stands)) tells

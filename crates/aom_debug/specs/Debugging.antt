@@ -19,7 +19,9 @@ use Rattle.aom_debug_moves.specs.declared.courses.Course.{Course}
 use Rattle.aom_debug_moves.specs.declared.over.Awaited.{Awaited}
 use Rattle.aom_debug_moves.specs.declared.courses.Course.TheVariants as course
 use Rattle.aom_debug_views.specs.Telling.{Tells, TellsPart}
-use Rattle.aom_debug_paths.specs.Paths.{queue_answers, words_answers}
+use Rattle.aom_debug_paths.specs.Paths.{IsFound, owned_at, queue_answers, words_answers}
+use Rattle.aom_debug_paths.specs.declared.following.Found.{Found}
+use Rattle.aom_machine_state.specs.Stands.{StandsFor as CoreStandsFor}
 use Rattle.aom_debug_words.specs.Ways.{Way}
 use Rattle.aom_debug.specs.Commands.{NamesNone, ShowsActives, ShowsBreaks, ShowsCells, ShowsCleanup, ShowsClock, ShowsFrames, ShowsHelp, ShowsOwners, ShowsQueue, ShowsRecent, ShowsTimers, ShowsWords, is_count, moved_text, place_text, spot_named}
 use Rattle.aom_debug.specs.declared.debugger.Debugger.{Debugger}
@@ -120,6 +122,12 @@ module _ {X : Type 0} {B : X → Type 0} where
   abbrev pub GoesOver : Awaited → Debugger X B → Debugger X B → Outgoing → Answer → Type 0
   GoesOver scope old new out answer = Goes (overs_of scope) old new out answer
 
+  -- nothing is found: what was told before is not out, or else there is none
+  abbrev pub FindsNone : Type 0 → Debugger X B → DebugFault → Type 0
+  FindsNone none d NoSuch = (d.has_failed ≡ false) × none
+  FindsNone none d Ended = d.has_failed ≡ true
+  FindsNone none d fault = ⊥
+
   -- no place of the image
   abbrev pub NamesNot : Debugger X B → Debugger X B → Outgoing → Answer → Type 0
   NamesNot old new out (Err NoSuch) = (old.has_failed ≡ false) × Declined old new out
@@ -214,6 +222,10 @@ module _ {X : Type 0} {B : X → Type 0} where
   abbrev pub LooksAt : (Debugger X B → State → List ℕ → Type 0) → (Debugger X B → State → Type 0) → Debugger X B → Debugger X B → Outgoing → Answer → Type 0
   LooksAt shows lacks old new out (Err NoSuch) = (old.has_failed ≡ false) × Declined old new out × ((s : State) → StandsFor old.mover.machine s → lacks old s)
   LooksAt shows lacks old new out answer = Looks shows old new out answer
+
+  -- what is found there is the object that each state has there, or it has none
+  abbrev pub Finds : Way → Debugger X B → Option Found → Type 0
+  Finds w d found = (s : State) → CoreStandsFor d.mover.machine.core s → IsFound (owned_at s w) found
 
   abbrev pub SeesWords : Way → Debugger X B → State → List ℕ → Type 0
   SeesWords w d s text = ShowsWords d.mover.machine.core.image s w text

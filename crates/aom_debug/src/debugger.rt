@@ -8,7 +8,6 @@ ghost use Rattle.aom_natives.specs.Slots.{AllAgree};
 ghost use Rattle.aom_debug_moves.specs.Movers.{IsReady, Keeps};
 ghost use Rattle.aom_debug.specs.Debugging.{GivesUp, Goes, Runs, Sets, SetsAt, Shows, Steps, Turns, goes_of, has_ended};
 
-use crate::marking::spot_named;
 use crate::showing::tell_place;
 use aom_debug_moves::{Course, Mover, Progress, Sink, go};
 use aom_debug_names::SourceNames;
@@ -198,13 +197,8 @@ impl<'a> Debugger<'a> {
         ensures keeps { Keeps self.old.mover self.new.mover }
         ensures answer { Sets method place self.old self.new (record { before = W.out out.old; now = W.out out.new; failed = W.failed out.new }) result }
     {
-        if self.has_failed {
-            return Err(DebugFault::Ended);
-        }
-        match spot_named(self.mover.machine.core.accepted().linked(), method, place) {
-            Some(spot) => self.set(spot, out),
-            None => Err(DebugFault::NoSuch),
-        }
+        let spot = self.spot(method, place)?;
+        self.set(spot, out)
     }
 
     /// Sets a breakpoint.

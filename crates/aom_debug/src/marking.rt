@@ -1,8 +1,10 @@
 //! The place that two numbers name.
-ghost use Rattle.std.specs.Prelude.{◌≡◌, slice_get};
+ghost use Rattle.std.specs.Prelude.{◌≡◌, false, IfErr, IfOk, None, Some, slice_get};
 ghost use Rattle.aom_debug.specs.Commands.{spot_at, spot_named};
+ghost use Rattle.aom_debug.specs.Debugging.{FindsNone};
 
-use aom_debug_words::Spot;
+use crate::Debugger;
+use aom_debug_words::{DebugFault, Spot};
 use aom_image::Method;
 use aom_linked::Linked;
 use aom_text::Number;
@@ -24,10 +26,26 @@ fn spot_in(methods: &[Method], number: u16, place: u16) -> Option<Spot>
 }
 
 /// The place that two numbers name, if they name one.
-pub fn spot_named(linked: &Linked, method: Number, place: Number) -> Option<Spot>
+fn spot_named(linked: &Linked, method: Number, place: Number) -> Option<Spot>
     ensures { result ≡ spot_named linked.now method place }
 {
     let number = method.within(0, MOST)? as u16;
     let place = place.within(0, MOST)? as u16;
     spot_in(linked.image().methods().as_slice(), number, place)
+}
+
+impl<'a> Debugger<'a> {
+    /// The place that two numbers name, where all that was told before is out.
+    pub(crate) fn spot(&self, method: Number, place: Number) -> Result<Spot, DebugFault>
+        ensures ok { IfOk result (λ spot. (self.now.has_failed ≡ false) × (spot_named self.now.mover.machine.core.image method place ≡ Some spot)) }
+        ensures err { IfErr result (λ fault. FindsNone (spot_named self.now.mover.machine.core.image method place ≡ None) self.now fault) }
+    {
+        if self.has_failed {
+            return Err(DebugFault::Ended);
+        }
+        match spot_named(self.mover.machine.core.accepted().linked(), method, place) {
+            Some(spot) => Ok(spot),
+            None => Err(DebugFault::NoSuch),
+        }
+    }
 }

@@ -5,7 +5,6 @@ ghost use Rattle.aom_debug_moves.specs.Movers.{IsReady, Keeps};
 ghost use Rattle.aom_debug.specs.Debugging.{GoesOver, Untils};
 
 use crate::Debugger;
-use crate::marking::spot_named;
 use aom_debug_moves::{Awaited, Course, Sink};
 use aom_debug_words::DebugFault;
 use aom_natives::Native;
@@ -36,12 +35,7 @@ impl<'a> Debugger<'a> {
         ensures keeps { Keeps self.old.mover self.new.mover }
         ensures answer { Untils method place self.old self.new (record { before = W.out out.old; now = W.out out.new; failed = W.failed out.new }) result }
     {
-        if self.has_failed {
-            return Err(DebugFault::Ended);
-        }
-        match spot_named(self.mover.machine.core.accepted().linked(), method, place) {
-            Some(spot) => self.go_by(Course::Place(spot), out),
-            None => Err(DebugFault::NoSuch),
-        }
+        let spot = self.spot(method, place)?;
+        self.go_by(Course::Place(spot), out)
     }
 }

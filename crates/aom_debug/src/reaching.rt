@@ -1,29 +1,19 @@
 //! Looks at the object that is owned at a path.
-ghost use Rattle.std.specs.Prelude.{◌≡◌, IfErr, IfOk, IfSome};
+ghost use Rattle.std.specs.Prelude.{◌≡◌, false, IfErr, IfOk, None, Some};
 ghost use Rattle.aom_cells.specs.Heap.{Lives};
 ghost use Rattle.aom_natives.specs.Slots.{AllAgree};
-ghost use Rattle.aom_machine_state.specs.Stands.{StandsFor as CoreStandsFor};
 ghost use Rattle.aom_roles.specs.Things.{words_of};
 ghost use Rattle.aom_semantics.specs.Places.{service_of};
-ghost use Rattle.aom_semantics.specs.State.{State};
 ghost use Rattle.aom_debug_moves.specs.Movers.{IsReady, Keeps};
-ghost use Rattle.aom_debug_paths.specs.Paths.{IsFound, owned_at, waiting_lines, word_lines};
+ghost use Rattle.aom_debug_paths.specs.Paths.{waiting_lines, word_lines};
 ghost use Rattle.aom_debug_views.specs.Telling.{Tells, TellsPart, answers_text};
-ghost use Rattle.aom_debug.specs.Debugging.{LacksQueue, LacksWords, LooksAt, SeesQueue, SeesWords};
+ghost use Rattle.aom_debug.specs.Debugging.{Finds, FindsNone, LacksQueue, LacksWords, LooksAt, SeesQueue, SeesWords};
 
 use crate::Debugger;
 use aom_debug_moves::{Machine, Sink};
 use aom_debug_paths::{Found, object_at, tell_queue, tell_words};
 use aom_debug_words::{DebugFault, Path};
 use aom_natives::Native;
-
-/// The object that is owned at a path, if one is.
-fn object_in(machine: &Machine, path: &Path) -> Option<Found>
-    ensures lives { IfSome result (λ f. Lives machine.now.core.parts.cells f.cell) }
-    ensures found { (s : State) → CoreStandsFor machine.now.core s → IsFound (owned_at s path.now) result }
-{
-    object_at(machine.core.parts(), machine.core.accepted(), path)
-}
 
 /// Writes its words.
 fn show_words<W: Sink>(machine: &Machine, found: Found, out: &mut W) -> Result<(), DebugFault>
@@ -49,6 +39,21 @@ fn show_queue<W: Sink>(machine: &Machine, found: Found, out: &mut W) -> Result<(
 }
 
 impl<'a> Debugger<'a> {
+    /// The object that is owned at a path, where all that was told before is out.
+    fn found(&self, path: &Path) -> Result<Found, DebugFault>
+        ensures ok { IfOk result (λ f. (self.now.has_failed ≡ false) × Lives self.now.mover.machine.core.parts.cells f.cell × Finds path.now self.now (Some f)) }
+        ensures err { IfErr result (λ fault. FindsNone (Finds path.now self.now None) self.now fault) }
+    {
+        if self.has_failed {
+            return Err(DebugFault::Ended);
+        }
+        let core = &self.mover.machine.core;
+        match object_at(core.parts(), core.accepted(), path) {
+            Some(found) => Ok(found),
+            None => Err(DebugFault::NoSuch),
+        }
+    }
+
     /// The words of the object that is owned at a path.
     pub fn words_at<W: Sink>(&mut self, path: Path, out: &mut W) -> Result<(), DebugFault>
         requires agree { AllAgree (λ l. l.ids) (λ l. (⟦<dyn Native as Native>⟧ l.native.vtable).owed l.native.value) self.old.mover.machine.natives.slots.items }
@@ -57,16 +62,9 @@ impl<'a> Debugger<'a> {
         ensures keeps { Keeps self.old.mover self.new.mover }
         ensures answer { LooksAt (SeesWords path) (LacksWords path) self.old self.new (record { before = W.out out.old; now = W.out out.new; failed = W.failed out.new }) result }
     {
-        if self.has_failed {
-            return Err(DebugFault::Ended);
-        }
-        match object_in(&self.mover.machine, &path) {
-            Some(found) => {
-                let told = show_words(&self.mover.machine, found, out);
-                self.kept(told)
-            }
-            None => Err(DebugFault::NoSuch),
-        }
+        let found = self.found(&path)?;
+        let told = show_words(&self.mover.machine, found, out);
+        self.kept(told)
     }
 
     /// What waits at the object that is owned at a path, the first first.
@@ -77,15 +75,8 @@ impl<'a> Debugger<'a> {
         ensures keeps { Keeps self.old.mover self.new.mover }
         ensures answer { LooksAt (SeesQueue path) (LacksQueue path) self.old self.new (record { before = W.out out.old; now = W.out out.new; failed = W.failed out.new }) result }
     {
-        if self.has_failed {
-            return Err(DebugFault::Ended);
-        }
-        match object_in(&self.mover.machine, &path) {
-            Some(found) => {
-                let told = show_queue(&self.mover.machine, found, out);
-                self.kept(told)
-            }
-            None => Err(DebugFault::NoSuch),
-        }
+        let found = self.found(&path)?;
+        let told = show_queue(&self.mover.machine, found, out);
+        self.kept(told)
     }
 }

@@ -5,7 +5,6 @@ ghost use Rattle.aom_debug_moves.specs.Movers.{IsReady, Keeps};
 ghost use Rattle.aom_debug.specs.Debugging.{Unsets, UnsetsAt};
 
 use crate::Debugger;
-use crate::marking::spot_named;
 use aom_debug_moves::Sink;
 use aom_debug_views::tell;
 use aom_debug_words::{Answer, DebugFault, Spot};
@@ -26,13 +25,8 @@ impl<'a> Debugger<'a> {
         ensures keeps { Keeps self.old.mover self.new.mover }
         ensures answer { Unsets method place self.old self.new (record { before = W.out out.old; now = W.out out.new; failed = W.failed out.new }) result }
     {
-        if self.has_failed {
-            return Err(DebugFault::Ended);
-        }
-        match spot_named(self.mover.machine.core.accepted().linked(), method, place) {
-            Some(spot) => self.unset(spot, out),
-            None => Err(DebugFault::NoSuch),
-        }
+        let spot = self.spot(method, place)?;
+        self.unset(spot, out)
     }
 
     /// Takes it away.

@@ -1,37 +1,31 @@
 -- A place that the numbers name has no breakpoint then, and where they name none nothing changes.
-use Rattle.std.proofs.Common.{◌∙◌, inl, refl, sym}
+use Rattle.std.proofs.lemmas.Result.{err_from_is_err_and}
 use Rattle.aom_debug_words.specs.Marks.{has_spot, without_spot}
 use Rattle.aom_debug.proofs.DebugMovesLemmas.{keeps_all}
-use Rattle.aom_debug.proofs.Declining.{marked_mover, marked_named}
+use Rattle.aom_debug.proofs.Declining.{marked_mover, marked_named, marks_none}
 use Rattle.aom_debug.proofs.debugger.Debugger.unbreak_at.Goals as goal
 
-pub returns-then-self-clause-agree : goal.returns-then-self-clause-agree
-returns-then-self-clause-agree g c = c.requires.agree
+pub returns-in_err-spot-clause-agree : goal.returns-in_err-spot-clause-agree
+returns-in_err-spot-clause-agree g c = c.requires.agree
 
-pub returns-then-self-clause-keeps : goal.returns-then-self-clause-keeps
-returns-then-self-clause-keeps g c = keeps_all c.args.self.now.mover c.requires.ready
+pub returns-in_err-spot-clause-keeps : goal.returns-in_err-spot-clause-keeps
+returns-in_err-spot-clause-keeps g c = keeps_all c.args.self.now.mover c.requires.ready
 
-pub returns-in-Some-clause-agree : goal.returns-in-Some-clause-agree
-returns-in-Some-clause-agree g c =
-    rw (marked_mover has_spot without_spot c.in-Some.spot c.args.self.now c.unset.new.self _ c.unset.result c.unset.ensures) c.requires.agree
+pub returns-in_err-spot-clause-answer : goal.returns-in_err-spot-clause-answer
+returns-in_err-spot-clause-answer g c =
+    let e = err_from_is_err_and c.from_residual.result c.from_residual.ensures.1 in
+    rw (e.1, e.2) (marks_none c.args.self.now _ _ c.args.method c.args.place has_spot without_spot _ c.in_err-spot.ensures.err)
 
-pub returns-in-Some-clause-keeps : goal.returns-in-Some-clause-keeps
-returns-in-Some-clause-keeps g c = rw (marked_mover has_spot without_spot c.in-Some.spot c.args.self.now c.unset.new.self _ c.unset.result c.unset.ensures)
+pub returns-clause-agree : goal.returns-clause-agree
+returns-clause-agree g c =
+    rw (marked_mover has_spot without_spot c.in_ok-spot.spot c.args.self.now c.unset.new.self _ c.unset.result c.unset.ensures) c.requires.agree
+
+pub returns-clause-keeps : goal.returns-clause-keeps
+returns-clause-keeps g c = rw (marked_mover has_spot without_spot c.in_ok-spot.spot c.args.self.now c.unset.new.self _ c.unset.result c.unset.ensures)
     (keeps_all c.args.self.now.mover c.requires.ready)
 
-pub returns-in-Some-clause-answer : goal.returns-in-Some-clause-answer
-returns-in-Some-clause-answer g c =
-    let named = rw (c.linked.ensures, c.accepted.ensures) at c.spot_named.ensures in
-    marked_named has_spot without_spot c.in-Some.spot c.args.self.now c.unset.new.self _ c.args.method c.args.place c.if-self.false
-    (sym named ∙ c.in-Some.is) c.unset.result c.unset.ensures
-
-pub returns-in-None-clause-agree : goal.returns-in-None-clause-agree
-returns-in-None-clause-agree g c = c.requires.agree
-
-pub returns-in-None-clause-keeps : goal.returns-in-None-clause-keeps
-returns-in-None-clause-keeps g c = keeps_all c.args.self.now.mover c.requires.ready
-
-pub returns-in-None-clause-answer : goal.returns-in-None-clause-answer
-returns-in-None-clause-answer g c =
-    let named = rw (c.linked.ensures, c.accepted.ensures) at c.spot_named.ensures in
-    (c.if-self.false, inl (sym named ∙ c.in-None.is), record { same = refl; silent = refl })
+pub returns-clause-answer : goal.returns-clause-answer
+returns-clause-answer g c =
+    let named = c.in_ok-spot.ensures.ok in
+    marked_named has_spot without_spot c.in_ok-spot.spot c.args.self.now c.unset.new.self _ c.args.method c.args.place named.0 named.1
+    c.unset.result c.unset.ensures

@@ -1,20 +1,21 @@
 -- A place that the numbers name is gone to, and where they name none nothing changes.
-use Rattle.std.proofs.Common.{◌∙◌, ap, refl, subst, sym}
+use Rattle.std.proofs.Common.{subst, sym}
+use Rattle.std.proofs.lemmas.Result.{err_from_is_err_and}
 use Rattle.aom_debug.proofs.DebugMovesLemmas.{keeps_all}
-use Rattle.aom_debug.specs.Commands.{spot_named}
 use Rattle.aom_debug.specs.Debugging.{GoesNamed}
-use Rattle.aom_debug.proofs.Declining.{named_either}
+use Rattle.aom_debug.proofs.Declining.{untils_none}
 use Rattle.aom_debug.proofs.debugger.Debugger.until.Goals as goal
 
-pub returns-then-self-clause-agree : goal.returns-then-self-clause-agree
-returns-then-self-clause-agree g c = c.requires.agree
+pub returns-in_err-spot-clause-agree : goal.returns-in_err-spot-clause-agree
+returns-in_err-spot-clause-agree g c = c.requires.agree
 
-pub returns-then-self-clause-keeps : goal.returns-then-self-clause-keeps
-returns-then-self-clause-keeps g c = keeps_all c.args.self.now.mover c.requires.ready
+pub returns-in_err-spot-clause-keeps : goal.returns-in_err-spot-clause-keeps
+returns-in_err-spot-clause-keeps g c = keeps_all c.args.self.now.mover c.requires.ready
 
-pub returns-then-self-clause-answer : goal.returns-then-self-clause-answer
-returns-then-self-clause-answer g c =
-    named_either c.args.self.now _ _ c.if-self.true (spot_named c.args.self.now.mover.machine.core.image c.args.method c.args.place)
+pub returns-in_err-spot-clause-answer : goal.returns-in_err-spot-clause-answer
+returns-in_err-spot-clause-answer g c =
+    let e = err_from_is_err_and c.from_residual.result c.from_residual.ensures.1 in
+    rw (e.1, e.2) (untils_none c.args.self.now _ _ c.args.method c.args.place _ c.in_err-spot.ensures.err)
 
 pub go_by-requires-clause-agree : goal.go_by-requires-clause-agree
 go_by-requires-clause-agree g c = c.requires.agree
@@ -22,26 +23,13 @@ go_by-requires-clause-agree g c = c.requires.agree
 pub go_by-requires-clause-ready : goal.go_by-requires-clause-ready
 go_by-requires-clause-ready g c = c.requires.ready
 
-pub returns-in-Some-clause-agree : goal.returns-in-Some-clause-agree
-returns-in-Some-clause-agree g c = c.go_by.ensures.agree
+pub returns-clause-agree : goal.returns-clause-agree
+returns-clause-agree g c = c.go_by.ensures.agree
 
-pub returns-in-Some-clause-keeps : goal.returns-in-Some-clause-keeps
-returns-in-Some-clause-keeps g c = c.go_by.ensures.keeps
+pub returns-clause-keeps : goal.returns-clause-keeps
+returns-clause-keeps g c = c.go_by.ensures.keeps
 
-pub returns-in-Some-clause-answer : goal.returns-in-Some-clause-answer
-returns-in-Some-clause-answer g c =
-    let named = rw (c.linked.ensures, c.accepted.ensures) at c.spot_named.ensures in
-    subst (λ o. GoesNamed o c.args.self.now c.go_by.new.self
+pub returns-clause-answer : goal.returns-clause-answer
+returns-clause-answer g c = subst (λ o. GoesNamed o c.args.self.now c.go_by.new.self
     (record { before = g.W.Sink.out c.args.out.now; now = g.W.Sink.out c.go_by.new.out; failed = g.W.Sink.failed c.go_by.new.out }) c.go_by.result)
-    (sym c.in-Some.is ∙ named) c.go_by.ensures.answer
-
-pub returns-in-None-clause-agree : goal.returns-in-None-clause-agree
-returns-in-None-clause-agree g c = c.requires.agree
-
-pub returns-in-None-clause-keeps : goal.returns-in-None-clause-keeps
-returns-in-None-clause-keeps g c = keeps_all c.args.self.now.mover c.requires.ready
-
-pub returns-in-None-clause-answer : goal.returns-in-None-clause-answer
-returns-in-None-clause-answer g c =
-    let named = rw (c.linked.ensures, c.accepted.ensures) at c.spot_named.ensures in
-    rw (sym named ∙ c.in-None.is) (c.if-self.false, record { same = refl; silent = refl })
+    (sym c.in_ok-spot.ensures.ok.1) c.go_by.ensures.answer

@@ -1,55 +1,41 @@
 -- What was told is what each state shows of the object that was found; where none was, each state has none there.
-use Rattle.std.proofs.Common.{Some, ap, refl, subst, sym}
-use Rattle.std.specs.Prelude.{IfSome}
-use Rattle.aom_cells.specs.Heap.{Lives}
-use Rattle.aom_semantics.specs.Places.{Object}
+use Rattle.std.proofs.lemmas.Result.{err_from_is_err_and}
 use Rattle.aom_debug.proofs.DebugMovesLemmas.{keeps_all}
-use Rattle.aom_debug_paths.specs.Paths.{IsFound, owned_at}
-use Rattle.aom_debug.proofs.DebugPathsLemmas.{words_none}
 use Rattle.aom_debug.specs.Debugging.{LacksWords, SeesWords}
 use Rattle.aom_debug.proofs.Answering.{looked}
 use Rattle.aom_debug.proofs.Declining.{kept_mover}
-use Rattle.aom_debug.proofs.Reached.{IsThere, looks_at, words_part, words_seen}
+use Rattle.aom_debug.proofs.Reached.{looks_at, words_nowhere, words_part, words_seen}
 use Rattle.aom_debug.proofs.debugger.Debugger.words_at.Goals as goal
 
-pub returns-then-self-clause-agree : goal.returns-then-self-clause-agree
-returns-then-self-clause-agree g c = c.requires.agree
+pub returns-in_err-found-clause-agree : goal.returns-in_err-found-clause-agree
+returns-in_err-found-clause-agree g c = c.requires.agree
 
-pub returns-then-self-clause-keeps : goal.returns-then-self-clause-keeps
-returns-then-self-clause-keeps g c = keeps_all c.args.self.now.mover c.requires.ready
+pub returns-in_err-found-clause-keeps : goal.returns-in_err-found-clause-keeps
+returns-in_err-found-clause-keeps g c = keeps_all c.args.self.now.mover c.requires.ready
+
+pub returns-in_err-found-clause-answer : goal.returns-in_err-found-clause-answer
+returns-in_err-found-clause-answer g c =
+    let e = err_from_is_err_and c.from_residual.result c.from_residual.ensures.1 in
+    rw (e.1, e.2) (words_nowhere c.args.path c.args.self.now _ _ _ c.in_err-found.ensures.err)
 
 pub show_words-told-requires : goal.show_words-told-requires
-show_words-told-requires g c = subst (λ o. IfSome o (λ f. Lives c.args.self.now.mover.machine.core.parts.cells f.cell)) c.in-Some.is c.object_in.ensures.lives
+show_words-told-requires g c = c.in_ok-found.ensures.ok.1
 
-pub returns-in-Some-clause-agree : goal.returns-in-Some-clause-agree
-returns-in-Some-clause-agree g c = rw (kept_mover c.args.self.now c.kept.new.self c.show_words-told.result c.kept.ensures.ok c.kept.ensures.err) c.requires.agree
+pub returns-clause-agree : goal.returns-clause-agree
+returns-clause-agree g c = rw (kept_mover c.args.self.now c.kept.new.self c.show_words-told.result c.kept.ensures.ok c.kept.ensures.err) c.requires.agree
 
-pub returns-in-Some-clause-keeps : goal.returns-in-Some-clause-keeps
-returns-in-Some-clause-keeps g c = rw (kept_mover c.args.self.now c.kept.new.self c.show_words-told.result c.kept.ensures.ok c.kept.ensures.err)
+pub returns-clause-keeps : goal.returns-clause-keeps
+returns-clause-keeps g c = rw (kept_mover c.args.self.now c.kept.new.self c.show_words-told.result c.kept.ensures.ok c.kept.ensures.err)
     (keeps_all c.args.self.now.mover c.requires.ready)
 
-pub returns-in-Some-clause-answer : goal.returns-in-Some-clause-answer
-returns-in-Some-clause-answer g c =
+pub returns-clause-answer : goal.returns-clause-answer
+returns-clause-answer g c =
     let d = c.args.self.now in
     let w = c.args.path in
-    let f = c.in-Some.found in
-    let there : IsThere d w f = λ s st. subst (λ o. IsFound (owned_at s w) o) c.in-Some.is (c.object_in.ensures.found s st) in
+    let f = c.in_ok-found.found in
+    let there = c.in_ok-found.ensures.ok.2 in
+    let told = c.show_words-told in
     looks_at (SeesWords w) (LacksWords w) d c.kept.new.self _ c.kept.result (looked (SeesWords w) d c.kept.new.self (g.W.Sink.out c.args.out.now)
-    (g.W.Sink.out c.show_words-told.new.out) (g.W.Sink.failed c.show_words-told.new.out) c.show_words-told.result c.kept.result c.if-self.false
-    c.kept.ensures.answer c.kept.ensures.ok c.kept.ensures.err (words_seen d w f _ _ there c.show_words-told.result c.show_words-told.ensures.ok)
-    (words_part d w f _ _ there _ c.show_words-told.result c.show_words-told.ensures.err))
-
-pub returns-in-None-clause-agree : goal.returns-in-None-clause-agree
-returns-in-None-clause-agree g c = c.requires.agree
-
-pub returns-in-None-clause-keeps : goal.returns-in-None-clause-keeps
-returns-in-None-clause-keeps g c = keeps_all c.args.self.now.mover c.requires.ready
-
-pub returns-in-None-clause-answer : goal.returns-in-None-clause-answer
-returns-in-None-clause-answer g c =
-    let m = c.args.self.now.mover.machine.core in
-    let w = c.args.path in (
-      c.if-self.false,
-      record { same = refl; silent = refl },
-      (λ s st. words_none m.image s.cells (owned_at s w) (subst (λ o. IsFound (owned_at s w) o) c.in-None.is (c.object_in.ensures.found s st.stands))),
-    )
+    (g.W.Sink.out told.new.out) (g.W.Sink.failed told.new.out) told.result c.kept.result c.in_ok-found.ensures.ok.0
+    c.kept.ensures.answer c.kept.ensures.ok c.kept.ensures.err (words_seen d w f _ _ there told.result told.ensures.ok)
+    (words_part d w f _ _ there _ told.result told.ensures.err))
