@@ -1,5 +1,6 @@
 mod Over
 mod Telling
+mod Series
 mod Showing
 mod Trees
 mod Enlisted

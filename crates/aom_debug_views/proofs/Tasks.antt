@@ -136,11 +136,11 @@ module _ (p : Image) (m : Parts) where
   pub register_value : (k i : ℕ) (f : Machine_frame) → over tasks k ≡ Some (Runs_frame f) → value m (Register k i) ≡ slice_index_or f.registers i null
   register_value k i f there = register_there tasks k i ∙ ap (λ o. register_over o i) there
 
-  pub going_shows : (k : ℕ) → Shows M (going_in tasks k) (Going k)
-  going_shows k = record { each = λ s st. st.agrees.values (Going k) }
+  pub going_shows : (k n : ℕ) → n ≡ going_in tasks k → Shows M n (Going k)
+  going_shows k n is = record { each = λ s st. is ∙ st.agrees.values (Going k) }
 
-  pub entry_shows : (k : ℕ) → Shows M (entry_in m.entries.items k) (Entry k)
-  entry_shows k = record { each = λ s st. st.agrees.values (Entry k) }
+  pub entry_shows : (k n : ℕ) → n ≡ entry_in m.entries.items k → Shows M n (Entry k)
+  entry_shows k n is = record { each = λ s st. is ∙ st.agrees.values (Entry k) }
 
   pub root_shows : Shows M m.root (Elsewhere Root)
   root_shows = record { each = λ s st. st.agrees.values (Elsewhere Root) }

@@ -1,7 +1,7 @@
 -- What goes out piece by piece: one text after another is out, or a beginning of them all.
 use Rattle.std.proofs.lemmas.Bool.Decides.{nat_tests}
 use Rattle.std.proofs.Common.{◌≡◌, ◌∙◌, ◌<◌, ℕ, zero, suc, ◌+◌, List, [], ◌∷◌, ◌++◌, Option, Some, None, Bool, true, false, ◌==◌, length, min, take}
-use Rattle.std.proofs.Common.{slice_get, refl, sym, ap, append_assoc, add-one, arith}
+use Rattle.std.proofs.Common.{slice_get, refl, sym, ap, subst, append_assoc, add-one, arith}
 use Rattle.std.specs.Prelude.{map, option_map}
 use Rattle.std.specs.List.{flat_map}
 use Rattle.std.proofs.Math.Seq.{take-append-add}
@@ -12,8 +12,12 @@ use Rattle.std.proofs.lemmas.List.Concat.{flat_map_single}
 use Rattle.aom_semantics.specs.State.{State}
 use Rattle.aom_machine_state.specs.Stands.{Machine, StandsFor}
 use Rattle.aom_run.specs.Runs.{after}
+use Rattle.aom_transcript.specs.Text.{ended}
+use Rattle.aom_debug_words.specs.declared.answer.Answer.{Answer}
 use Rattle.aom_debug_words.specs.declared.fault.DebugFault.{DebugFault}
-use Rattle.aom_debug_views.specs.Telling.{IsCut, Tells, TellsPart, gathered, listed}
+use Rattle.aom_debug_names.specs.Names.{Names}
+use Rattle.aom_debug_names.specs.Answers.{answer_by}
+use Rattle.aom_debug_views.specs.Telling.{IsCut, Tells, TellsPart, answers_by, gathered, listed}
 
 -- ---- texts
 
@@ -183,6 +187,33 @@ module _ {A : Type 0} (line : A → List ℕ) (m : Machine) (a b : State → Lis
 module _ {X B : Type 0} (f : X → B) where
   pub items_answered : (xs : List X) → gathered (λ k. listed (option_map f (slice_get xs k))) (length xs) ≡ map f xs
   items_answered xs = gathered_items (λ o. listed (option_map f o)) xs ∙ flat_map_single f xs
+
+-- an answer on its line
+abbrev pub of_answer : Names → Answer → List ℕ
+of_answer ns answer = ended (answer_by ns answer)
+
+module _ {X : Type 0} (ns : Names) (f : X → Answer) (xs : List X) where
+  abbrev told_of : ℕ → List Answer
+  told_of k = listed (option_map f (slice_get xs k))
+
+  abbrev IsOut : ℕ → Option (List ℕ) → Option (List ℕ) → Type 0
+  IsOut n before now = now ≡ after before (answers_by ns (gathered told_of n))
+
+  -- one more is told, or a beginning of it
+  pub item_more : (i : ℕ) (o : Option Answer) (before here now : Option (List ℕ)) → IsOut i before here → o ≡ option_map f (slice_get xs i) →
+      now ≡ after here (answers_by ns (listed o)) → IsOut (i + 1) before now
+  item_more i o before here now so_far is out =
+      line_sent (of_answer ns) told_of before here now i so_far (out ∙ ap (λ a. after here (answers_by ns (listed a))) is)
+
+  pub items_cut : (i : ℕ) (o : Option Answer) (fault : DebugFault) (failed : Bool) (before here now : Option (List ℕ)) → i < length xs → IsOut i before here →
+      o ≡ option_map f (slice_get xs i) → IsCut (answers_by ns (listed o)) fault failed here now → IsCut (answers_by ns (map f xs)) fault failed before now
+  items_cut i o fault failed before here now less so_far is cut = subst (λ ys. IsCut (answers_by ns ys) fault failed before now) (items_answered f xs)
+      (lines_cut (of_answer ns) told_of before here now i (length xs) (listed o) fault failed less so_far (ap listed is) cut)
+
+  -- all are
+  pub items_all : (n : ℕ) (before now : Option (List ℕ)) → n ≡ length xs → IsOut n before now → now ≡ after before (answers_by ns (map f xs))
+  items_all n before now all out = out ∙ ap (λ k. after before (answers_by ns (gathered told_of k))) all
+      ∙ ap (λ ys. after before (answers_by ns ys)) (items_answered f xs)
 
 -- ---- a text in parts
 

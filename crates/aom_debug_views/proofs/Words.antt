@@ -9,9 +9,7 @@ use Rattle.aom_image.specs.Image.{Image}
 use Rattle.aom_image.specs.Views.{arguments_of, instr_at, method_at, method_class}
 use Rattle.aom_image.specs.declared.method.Argument.{Argument}
 use Rattle.aom_image.specs.declared.method.Argument.TheVariants.{Word as A_word, Own as An_own}
-use Rattle.aom_image.specs.declared.method.Thing.{Thing}
 use Rattle.aom_image.specs.declared.method.Thing.TheVariants.{Message}
-use Rattle.aom_shape.specs.declared.kind.Age.{Age}
 use Rattle.aom_instructions.specs.declared.instr.Instr.{Instr}
 use Rattle.aom_instructions.specs.declared.instr.Instr.TheVariants.{Call, Delete, Reply, Trap}
 use Rattle.aom_instructions.specs.declared.instr.Target.{Target}
@@ -24,14 +22,14 @@ use Rattle.aom_rules.specs.Rules.{rule_needs, ways_of}
 use Rattle.aom_rules.specs.Typing.{Typing, shape_at}
 use Rattle.aom_shape.specs.Arguments.{arguments_moved}
 use Rattle.aom_shape.specs.Kinds.{is_own_for, may_be_destroyed, register, set_register}
-use Rattle.aom_shape.specs.Order.{Weaker, alike, maybe_null, maybe_own, unset_null, unset_word}
+use Rattle.aom_shape.specs.Order.{Weaker, alike}
 use Rattle.aom_shape.specs.Shape.{Shape}
 use Rattle.aom_roles.specs.Tables.{at}
 use Rattle.aom_shape.specs.declared.kind.Kind.{Kind}
-use Rattle.aom_shape.specs.declared.kind.Kind.TheVariants.{Null, Own, Unset, Word}
+use Rattle.aom_shape.specs.declared.kind.Kind.TheVariants.{Null, Unset, Word}
 use Rattle.aom_semantics.specs.Owned.{over}
 use Rattle.aom_semantics.specs.Places.{Cell, Object, Register, held}
-use Rattle.aom_semantics.specs.State.{Closing, Destroy, Dispatched, Frame, Run, State, Task, Trapped, Unwind, word}
+use Rattle.aom_semantics.specs.State.{Frame, Run, State, Task, word}
 use Rattle.aom_debug_views.proofs.SafetyLemmas.{all_parts}
 use Rattle.aom_debug_views.proofs.SemanticsLemmas.{at-put_at}
 use Rattle.aom_typings.specs.Shapes.{Shapes}
@@ -47,21 +45,9 @@ use Rattle.aom_debug_views.proofs.Tasks.{frame_there, parted, register_value, wo
 
 -- ---- two strongest typings of a method say the same of each register
 
-word_alone : (k : Kind) → Weaker Word k → k ≡ Word
-word_alone _ alike = refl
-
-null_alone : (k : Kind) → Weaker Null k → k ≡ Null
-null_alone _ alike = refl
-
-own_alone : (t : Thing) (a : Age) (k : Kind) → Weaker (Own t a) k → k ≡ Own t a
-own_alone t a _ alike = refl
-
 same_kind : (a b : Kind) → Weaker a b → Weaker b a → a ≡ b
-same_kind a _ alike back = refl
-same_kind _ _ unset_word back = word_alone _ back
-same_kind _ _ unset_null back = null_alone _ back
-same_kind _ _ maybe_null back = null_alone _ back
-same_kind _ _ maybe_own back = own_alone _ _ _ back
+same_kind _ _ alike back = refl
+same_kind _ _ _ back = elim back [ ]
 
 same_shapes : (p : Image) (m : ℕ) (a b : Shapes) → IsMethodStrongest p m a → IsMethodStrongest p m b →
     (pc : ℕ) (sh : Shape) → at None a pc ≡ Some sh → (next : Shape) × (at None b pc ≡ Some next) × ((i : ℕ) → register next i ≡ register sh i)
@@ -113,11 +99,7 @@ under_words : (p : Image) (t : Typing) (cs : List Cell) (above : List Task) (fr 
     Waits p t cs (length below) fr
 under_words p t cs [] fr below w = w.0
 under_words p t cs (Run g ∷ above) fr below w = under_words p t cs above fr below w.1
-under_words p t cs (Trapped ∷ above) fr below w = under_words p t cs above fr below w
-under_words p t cs (Destroy ∷ above) fr below w = under_words p t cs above fr below w
-under_words p t cs (Closing ∷ above) fr below w = under_words p t cs above fr below w
-under_words p t cs (Unwind code ∷ above) fr below w = under_words p t cs above fr below w
-under_words p t cs (Dispatched d ∷ above) fr below w = under_words p t cs above fr below w
+under_words p t cs (_ ∷ above) fr below w = under_words p t cs above fr below w
 
 word_said : (p : Image) (k : Kind) (w : Option ℤ) (o : Option Object) → k ≡ Word → KindSays p k w o → IsSome w
 word_said p k w o is says = (subst (λ x. KindSays p x w o) is says).0

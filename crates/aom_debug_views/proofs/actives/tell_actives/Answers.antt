@@ -3,22 +3,16 @@ use Rattle.std.proofs.Common.{ℕ, List, ap, arith, length}
 use Rattle.std.specs.Prelude.{slice_get}
 use Rattle.std.proofs.lemmas.List.{length-map}
 use Rattle.std.proofs.lemmas.Result.{err_from_is_err_and}
-use Rattle.aom_transcript.specs.Text.{ended}
 use Rattle.aom_scheduler.specs.declared.entry.ScheduleEntry.{ScheduleEntry}
 use Rattle.aom_image.specs.Image.{Image}
 use Rattle.aom_semantics.specs.State.{State}
 use Rattle.aom_machine_state.specs.declared.parts.Parts.{Parts}
-use Rattle.aom_debug_names.specs.Names.{Names}
-use Rattle.aom_debug_names.specs.Answers.{answer_by}
 use Rattle.aom_debug_words.specs.declared.answer.Answer.{Answer}
 use Rattle.aom_debug_views.specs.Actives.{active_at}
 use Rattle.aom_debug_views.specs.Telling.{listed}
 use Rattle.aom_debug_views.proofs.Enlisted.{actives_cut, actives_told, names_of}
-use Rattle.aom_debug_views.proofs.Telling.{tells_all, tells_next, tells_part}
+use Rattle.aom_debug_views.proofs.Telling.{of_answer, tells_all, tells_next, tells_part}
 use Rattle.aom_debug_views.proofs.actives.tell_actives.Goals as goal
-
-abbrev of_answer : Names → Answer → List ℕ
-of_answer ns answer = ended (answer_by ns answer)
 
 abbrev told : Image → Parts → State → ℕ → List Answer
 told p m s k = listed (active_at p s.cells (slice_get (names_of m) k))

@@ -1,18 +1,11 @@
 -- How many there are, and then the classes.
-use Rattle.std.proofs.Common.{◌≡◌, ◌∙◌, ℕ, List, ap, length}
+use Rattle.std.proofs.Common.{◌≡◌, ◌∙◌, ap, length}
 use Rattle.std.proofs.lemmas.Result.{IfErr-weaker, IfOk-weaker, err_from_is_err_and}
 use Rattle.aom_image.specs.Image.{Image}
-use Rattle.aom_transcript.specs.Text.{ended}
-use Rattle.aom_debug_names.specs.Names.{Names}
-use Rattle.aom_debug_names.specs.Answers.{answer_by}
-use Rattle.aom_debug_words.specs.declared.answer.Answer.{Answer}
 use Rattle.aom_debug_views.specs.Sights.{first_classes}
 use Rattle.aom_debug_views.proofs.Counting.{all_cells, count_cut, count_told}
-use Rattle.aom_debug_views.proofs.Telling.{cut_first, cut_later, tells_both}
+use Rattle.aom_debug_views.proofs.Telling.{cut_first, cut_later, of_answer, tells_both}
 use Rattle.aom_debug_views.proofs.cells.tell_cells.Goals as goal
-
-abbrev of_answer : Names → Answer → List ℕ
-of_answer ns answer = ended (answer_by ns answer)
 
 pub returns-in_err-tell_by-clause-err : goal.returns-in_err-tell_by-clause-err
 returns-in_err-tell_by-clause-err g c =

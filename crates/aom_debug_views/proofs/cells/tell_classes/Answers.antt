@@ -1,18 +1,12 @@
 -- One class after another is told, by number.
 use Rattle.std.proofs.Common.{ℕ, List, ap, arith}
 use Rattle.std.proofs.lemmas.Result.{err_from_is_err_and}
-use Rattle.aom_transcript.specs.Text.{ended}
 use Rattle.aom_semantics.specs.State.{State}
-use Rattle.aom_debug_names.specs.Names.{Names}
-use Rattle.aom_debug_names.specs.Answers.{answer_by}
 use Rattle.aom_debug_words.specs.declared.answer.Answer.{Answer}
 use Rattle.aom_debug_views.specs.Sights.{class_answer, count_class}
 use Rattle.aom_debug_views.specs.Telling.{listed}
-use Rattle.aom_debug_views.proofs.Telling.{tells_all, tells_next, tells_part}
+use Rattle.aom_debug_views.proofs.Telling.{of_answer, tells_all, tells_next, tells_part}
 use Rattle.aom_debug_views.proofs.cells.tell_classes.Goals as goal
-
-abbrev of_answer : Names → Answer → List ℕ
-of_answer ns answer = ended (answer_by ns answer)
 
 abbrev told : State → ℕ → List Answer
 told s class = listed (class_answer class (count_class class s.cells))

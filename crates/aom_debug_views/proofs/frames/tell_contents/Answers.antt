@@ -1,21 +1,15 @@
 -- One register after another.
 use Rattle.std.proofs.Common.{ℕ, List, ap, arith}
 use Rattle.std.proofs.lemmas.Result.{err_from_is_err_and}
-use Rattle.aom_transcript.specs.Text.{ended}
 use Rattle.aom_shape.specs.Kinds.{register}
 use Rattle.aom_shape.specs.Shape.{Shape}
 use Rattle.aom_semantics.specs.Owned.{over}
 use Rattle.aom_semantics.specs.State.{State}
-use Rattle.aom_debug_names.specs.Names.{Names}
-use Rattle.aom_debug_names.specs.Answers.{answer_by}
 use Rattle.aom_debug_words.specs.declared.answer.Answer.{Answer}
 use Rattle.aom_debug_views.specs.Frames.{register_in}
 use Rattle.aom_debug_views.specs.Telling.{listed}
-use Rattle.aom_debug_views.proofs.Telling.{tells_all, tells_next, tells_part}
+use Rattle.aom_debug_views.proofs.Telling.{of_answer, tells_all, tells_next, tells_part}
 use Rattle.aom_debug_views.proofs.frames.tell_contents.Goals as goal
-
-abbrev of_answer : Names → Answer → List ℕ
-of_answer ns answer = ended (answer_by ns answer)
 
 abbrev told : Shape → ℕ → State → ℕ → List Answer
 told sh depth s i = listed (register_in (λ k. register sh k) s.cells depth (over s.tasks depth) i)

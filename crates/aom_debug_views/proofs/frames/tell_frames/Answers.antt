@@ -1,18 +1,11 @@
 -- One depth after another, from the outermost.
-use Rattle.std.proofs.Common.{ℕ, List, arith, length}
+use Rattle.std.proofs.Common.{arith, length}
 use Rattle.std.proofs.lemmas.Result.{err_from_is_err_and}
-use Rattle.aom_transcript.specs.Text.{ended}
 use Rattle.aom_machine_state.specs.Stands.{Machine}
-use Rattle.aom_debug_names.specs.Names.{Names}
-use Rattle.aom_debug_names.specs.Answers.{answer_by}
-use Rattle.aom_debug_words.specs.declared.answer.Answer.{Answer}
 use Rattle.aom_debug_views.specs.Frames.{frame_answers}
 use Rattle.aom_debug_views.proofs.Tasks.{as_many_tasks}
-use Rattle.aom_debug_views.proofs.Telling.{part_further, tells_all, tells_further}
+use Rattle.aom_debug_views.proofs.Telling.{of_answer, part_further, tells_all, tells_further}
 use Rattle.aom_debug_views.proofs.frames.tell_frames.Goals as goal
-
-abbrev of_answer : Names → Answer → List ℕ
-of_answer ns answer = ended (answer_by ns answer)
 
 pub returns-in_err-tell_method-clause-err : goal.returns-in_err-tell_method-clause-err
 returns-in_err-tell_method-clause-err g c =

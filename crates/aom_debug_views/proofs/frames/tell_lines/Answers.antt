@@ -1,22 +1,16 @@
 -- Where it stands, its registers, its loops and its trap, one after the other.
 use Rattle.std.proofs.Common.{◌++◌, ℕ, List}
 use Rattle.std.proofs.lemmas.Result.{IfErr-weaker, IfOk-weaker, err_from_is_err_and}
-use Rattle.aom_transcript.specs.Text.{ended}
 use Rattle.aom_shape.specs.Kinds.{register}
 use Rattle.aom_shape.specs.Shape.{Shape}
 use Rattle.aom_semantics.specs.Owned.{over}
 use Rattle.aom_semantics.specs.State.{State}
 use Rattle.aom_machine_state.specs.Stands.{Machine}
-use Rattle.aom_debug_names.specs.Names.{Names}
-use Rattle.aom_debug_names.specs.Answers.{answer_by}
 use Rattle.aom_debug_words.specs.declared.answer.Answer.{Answer}
 use Rattle.aom_debug_views.specs.Frames.{loops_in, place_in, registers_in, trap_in}
 use Rattle.aom_debug_views.specs.Telling.{listed}
-use Rattle.aom_debug_views.proofs.Telling.{cut_first, cut_later, tells_both}
+use Rattle.aom_debug_views.proofs.Telling.{cut_first, cut_later, of_answer, tells_both}
 use Rattle.aom_debug_views.proofs.frames.tell_lines.Goals as goal
-
-abbrev of_answer : Names → Answer → List ℕ
-of_answer ns answer = ended (answer_by ns answer)
 
 -- the four parts, and what comes after each
 abbrev head : ℕ → State → List Answer

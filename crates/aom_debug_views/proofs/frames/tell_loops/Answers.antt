@@ -1,20 +1,14 @@
 -- One loop after another.
 use Rattle.std.proofs.Common.{◌∙◌, ℕ, List, ap, arith}
 use Rattle.std.proofs.lemmas.Result.{err_from_is_err_and}
-use Rattle.aom_transcript.specs.Text.{ended}
 use Rattle.aom_semantics.specs.Owned.{over}
 use Rattle.aom_semantics.specs.State.{State}
-use Rattle.aom_debug_names.specs.Names.{Names}
-use Rattle.aom_debug_names.specs.Answers.{answer_by}
 use Rattle.aom_debug_words.specs.declared.answer.Answer.{Answer}
 use Rattle.aom_debug_views.specs.Frames.{loop_answer, loop_in}
 use Rattle.aom_debug_views.specs.Telling.{listed}
 use Rattle.aom_debug_views.proofs.Contents.{loop_told}
-use Rattle.aom_debug_views.proofs.Telling.{tells_all, tells_next, tells_part}
+use Rattle.aom_debug_views.proofs.Telling.{of_answer, tells_all, tells_next, tells_part}
 use Rattle.aom_debug_views.proofs.frames.tell_loops.Goals as goal
-
-abbrev of_answer : Names → Answer → List ℕ
-of_answer ns answer = ended (answer_by ns answer)
 
 abbrev told : ℕ → State → ℕ → List Answer
 told depth s i = listed (loop_in (over s.tasks depth) i)
