@@ -23,7 +23,7 @@ use Rattle.aom_debug_moves.proofs.RunLemmas.{moving_spares}
 use Rattle.aom_debug_words.specs.declared.spot.Spot.{Spot}
 use Rattle.aom_debug_moves.specs.Moves.{Arrives, TurnsOnce, stays as no_turns, turns}
 use Rattle.aom_debug_moves.specs.Courses.{InDispatch, IsOver, Rests, WalksOn}
-use Rattle.aom_debug_moves.proofs.Passing.{running_of}
+use Rattle.aom_debug_moves.proofs.Sending.{running_of}
 use Rattle.aom_debug_moves.proofs.Strides.{moving_walk}
 
 -- how many dispatches there may be yet, and then how many events are to come

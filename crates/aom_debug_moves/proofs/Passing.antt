@@ -1,5 +1,5 @@
 -- To a place to stay: steps in one dispatch after another, what goes out, and what is noted.
-use Rattle.std.proofs.Common.{arith, ◌≡◌, ◌≢◌, ◌⊎◌, ◌∙◌, ℕ, suc, Bool, true, false, List, [], ◌++◌, Option, None, refl, sym, ap, subst, inl, inr}
+use Rattle.std.proofs.Common.{arith, ◌≡◌, ◌≢◌, ◌⊎◌, ◌∙◌, ℕ, suc, Bool, true, false, List, [], ◌++◌, Option, refl, sym, ap, subst, inl, inr}
 use Rattle.std.proofs.Common.{append-nil, append_assoc}
 use Rattle.aom_image.specs.Image.{Image}
 use Rattle.aom_semantics.specs.State.{State}
@@ -18,7 +18,7 @@ use Rattle.aom_debug_moves.proofs.RunLemmas.{reaches_both}
 use Rattle.aom_debug_words.specs.declared.spot.Spot.{Spot}
 use Rattle.aom_debug_moves.specs.Moves.{Arrives, Strides, stays as no_turns, turns}
 use Rattle.aom_debug_moves.proofs.Keeping.{heard_as}
-use Rattle.aom_debug_moves.proofs.Sending.{breaks_then, moving_stride, reaches_arrived, sent_both}
+use Rattle.aom_debug_moves.proofs.Sending.{breaks_then, moving_stride, reaches_arrived, running_of, sent_both}
 use Rattle.aom_debug_moves.specs.Courses.{Courses, GoesOn, HasBegun, InDispatch, IsOver, IsThere, Passes, Rests, Walks, WalksIfAny, WalksOn}
 use Rattle.aom_debug_moves.specs.Courses.{stays_at}
 use Rattle.aom_debug_moves.specs.declared.walking.Until.{Until}
@@ -41,11 +41,7 @@ reaches_passed p outside stays old s _ _ _ _ (passes_more {n} {mid} {new} {lines
     reaches_both p outside s lines v (first ++ later) u (reaches_passed p outside stays old s n mid lines v before) (reaches_both p outside v first w later u
     (reaches_arrived p outside v first w comes) (run_of p outside w later u (moving_stride p outside.refused mid new w later u once)))
 
--- something is at hand
-pub running_of : (s : State) → IsAtHand s → progress_of s ≡ Running
-running_of s hand = ap (λ e. progress_by e s.tasks) hand.going ∙ ap (λ ts. progress_by None ts) hand.busy.2
-
--- nothing is, where the run is over
+-- nothing is at hand, where the run is over
 over_by : {T : Type 0} (e : Option Ending) (ts : List T) → is_some e ≡ true → progress_by e ts ≢ Running
 over_by e ts over is = grind arith
 

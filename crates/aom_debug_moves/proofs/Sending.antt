@@ -30,7 +30,7 @@ if_any None x = tt
 if_any (Some a) x = x
 
 -- something is at hand
-running_of : (s : State) → IsAtHand s → progress_of s ≡ Running
+pub running_of : (s : State) → IsAtHand s → progress_of s ≡ Running
 running_of s hand = ap (λ e. progress_by e s.tasks) hand.going ∙ ap (λ ts. progress_by None ts) hand.busy.2
 
 -- steps and what is none are moves
@@ -78,9 +78,6 @@ sent_both before mid out a b first later = later ∙ ap (λ o. after o (text_of 
 
 turned_not_running : Turned ≡ Running → ⊥
 turned_not_running e = absurd cc
-
-turned_state : (s : State) → progress_of s ≡ Turned → IsBetween s
-turned_state s is = between s is
 
 not_over : (u : State) (ending : Ending) → u.rest.ended ≡ Some ending → progress_of u ≡ Turned → ⊥
 not_over u ending over is = let no : Ended ending ≡ Turned = sym (ap (λ e. progress_by e u.tasks) over) ∙ is in cc
@@ -208,7 +205,7 @@ module _ {X : Type 0} {B : X → Type 0} where
       arrives_on resting y s stands =
           let f = x s stands in
           let g = y f.1 f.4 in
-          let is : IsBetween f.1 = turned_state f.1 (sym (is_as_far m.core f.1 f.4.stands) ∙ resting) in
+          let is : IsBetween f.1 = between f.1 (sym (is_as_far m.core f.1 f.4.stands) ∙ resting) in
           (f.0 ++ g.0, g.1, turns f.2 is g.2, sent_both before mid out f.0 g.0 f.3 g.3, g.4)
 
       pub arrives_cut : Breaks (Reaches p outside) m mid out c → Breaks (Reaches p outside) a before out c

@@ -16,6 +16,8 @@ use Rattle.aom_debug_moves.specs.Over.{depth_of}
 use Rattle.aom_debug_moves.specs.declared.over.Awaited.{Awaited}
 use Rattle.aom_debug_moves.specs.declared.courses.Course.{Course}
 use Rattle.aom_debug_moves.specs.declared.courses.Course.TheVariants as course
+use Rattle.aom_debug_moves.specs.declared.dispatch.Stretch.{Stretch}
+use Rattle.aom_debug_moves.specs.declared.dispatch.Stretch.TheVariants as stretch
 use Rattle.aom_debug_moves.specs.declared.walking.Until.{Until}
 use Rattle.aom_debug_moves.specs.declared.walking.Until.TheVariants.{EndOfDispatch, Breakpoint, Depth, Place}
 
@@ -94,6 +96,13 @@ WalksOver p refused scope spots old new s = WalksThere p refused (λ v. stays_at
 
 abbrev pub GoesOver : Image → Environment → Awaited → List Spot → Courses
 GoesOver p outside scope spots = InDispatch p outside (WalksOver p outside.refused scope spots)
+
+-- ---- so far in a dispatch
+
+abbrev pub stretch_of : Image → List ℕ → List Spot → Stretch → Courses
+stretch_of p refused spots stretch.Whole = WalksThere p refused (λ s. root_is_due p s)
+stretch_of p refused spots (stretch.Over scope) = WalksOver p refused scope spots
+stretch_of p refused spots (stretch.OnTo until) = WalksOn p refused (λ s. stays_at p until spots s)
 
 -- ---- so many steps
 

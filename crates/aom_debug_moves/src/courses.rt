@@ -2,11 +2,11 @@
 ghost use Rattle.aom_natives.specs.Slots.{AllAgree};
 ghost use Rattle.aom_semantics.specs.World.{Reaches};
 ghost use Rattle.aom_debug_moves.specs.Movers.{IsReady, Keeps, Went, outside_of};
-ghost use Rattle.aom_debug_moves.specs.Courses.{GoesBy, GoesOn, InDispatch, TurnsOver, WalksOn, course_of, stays_at, way_of};
+ghost use Rattle.aom_debug_moves.specs.Courses.{GoesBy, GoesOn, course_of, stays_at, way_of};
 
+use crate::dispatch::{Stretch, go_in_dispatch};
 use crate::limit::cut_at_limit;
-use crate::over::go_over;
-use crate::walking::{Until, is_idle, is_there, walk, walk_unless};
+use crate::walking::{Until, is_idle, walk_unless};
 use crate::{Awaited, Mover, arrive, stride};
 use aom_debug_words::{Breakpoints, Spot};
 use aom_machine::Progress;
@@ -48,42 +48,6 @@ fn go_steps<W: Sink>(mover: &mut Mover, steps: u32, out: &mut W) -> Option<Progr
     Some(mover.machine.core.progress())
 }
 
-/// To the end of the dispatch at hand, or of the next, or to the end of the run.
-fn go_turn<W: Sink>(mover: &mut Mover, breakpoints: &Breakpoints, out: &mut W) -> Option<Progress>
-    requires agree { AllAgree (λ l. l.ids) (λ l. (⟦<dyn Native as Native>⟧ l.native.vtable).owed l.native.value) mover.old.machine.natives.slots.items }
-    requires ready { IsReady mover.old }
-    ensures agree { AllAgree (λ l. l.ids) (λ l. (⟦<dyn Native as Native>⟧ l.native.vtable).owed l.native.value) mover.new.machine.natives.slots.items }
-    ensures keeps { Keeps mover.old mover.new }
-    ensures went { Went (TurnsOver mover.old.machine.core.image (outside_of mover.old) mover.old.recent mover.new.recent) (Reaches mover.old.machine.core.image (outside_of mover.old)) mover.old (W.out out.old) (W.out out.new) (W.failed out.new) result mover.new }
-{
-    match arrive(mover, out)? {
-        Progress::Running => walk(mover, Until::EndOfDispatch, breakpoints, out),
-        other => Some(other),
-    }
-}
-
-/// To the next dispatch, and on in it unless its first instruction is a place to stay.
-fn pass<W: Sink>(
-    mover: &mut Mover,
-    until: Until,
-    breakpoints: &Breakpoints,
-    out: &mut W,
-) -> Option<Progress>
-    requires agree { AllAgree (λ l. l.ids) (λ l. (⟦<dyn Native as Native>⟧ l.native.vtable).owed l.native.value) mover.old.machine.natives.slots.items }
-    requires ready { IsReady mover.old }
-    ensures agree { AllAgree (λ l. l.ids) (λ l. (⟦<dyn Native as Native>⟧ l.native.vtable).owed l.native.value) mover.new.machine.natives.slots.items }
-    ensures keeps { Keeps mover.old mover.new }
-    ensures went { Went (InDispatch mover.old.machine.core.image (outside_of mover.old) (WalksOn mover.old.machine.core.image mover.old.turn.refused (λ s. stays_at mover.old.machine.core.image until breakpoints.now s)) mover.old.recent mover.new.recent) (Reaches mover.old.machine.core.image (outside_of mover.old)) mover.old (W.out out.old) (W.out out.new) (W.failed out.new) result mover.new }
-{
-    match arrive(mover, out)? {
-        Progress::Running => {
-            let rests = is_there(&mover.machine, until, breakpoints);
-            walk_unless(rests, mover, until, breakpoints, out)
-        }
-        other => Some(other),
-    }
-}
-
 /// Until a place to stay, but for where it begins, or to the end of the run.
 fn go_on<W: Sink>(
     mover: &mut Mover,
@@ -104,7 +68,7 @@ fn go_on<W: Sink>(
             Progress::Turned => {}
             other => return Some(other),
         }
-        progress = pass(mover, until, breakpoints, out)?;
+        progress = go_in_dispatch(mover, Stretch::OnTo(until), breakpoints, out)?;
     }
 }
 
@@ -123,9 +87,9 @@ fn follow<W: Sink>(
 {
     match course {
         Course::Steps(steps) => go_steps(mover, steps, out),
-        Course::EndOfDispatch => go_turn(mover, breakpoints, out),
+        Course::EndOfDispatch => go_in_dispatch(mover, Stretch::Whole, breakpoints, out),
         Course::Breakpoint => go_on(mover, Until::Breakpoint, breakpoints, out),
-        Course::Over(scope) => go_over(mover, scope, breakpoints, out),
+        Course::Over(scope) => go_in_dispatch(mover, Stretch::Over(scope), breakpoints, out),
         Course::Place(spot) => go_on(mover, Until::Place(spot), breakpoints, out),
     }
 }

@@ -20,6 +20,7 @@
 
 mod arriving;
 mod courses;
+mod dispatch;
 mod ends;
 mod laws;
 mod limit;

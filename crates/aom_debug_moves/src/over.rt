@@ -1,24 +1,18 @@
 //! Until a step is over with all that it calls, or the innermost method.
 ghost use Rattle.std.specs.Prelude.{◌≡◌, length, nat_le, reverse, slice_get};
 ghost use Rattle.aom_image.specs.Image.{Image};
-ghost use Rattle.aom_natives.specs.Slots.{AllAgree};
 ghost use Rattle.aom_machine_state.specs.Stands.{StandsFor as PartsStandFor};
 ghost use Rattle.aom_semantics.specs.State.{State};
-ghost use Rattle.aom_semantics.specs.World.{Reaches};
 ghost use Rattle.aom_run.specs.Calls.{Stands, StandsFor};
-ghost use Rattle.aom_debug_moves.specs.Movers.{IsReady, Keeps, Went, outside_of};
-ghost use Rattle.aom_debug_moves.specs.Courses.{GoesOver, is_next};
+ghost use Rattle.aom_debug_moves.specs.Courses.{is_next};
 ghost use Rattle.aom_debug_moves.specs.Next.{next_of, spot_of};
 ghost use Rattle.aom_debug_moves.specs.Over.{depth_of, runs_there, under_method};
 
-use crate::walking::{Until, walk};
-use crate::{Mover, arrive, spot_at};
-use aom_debug_words::{Breakpoints, Spot};
+use crate::spot_at;
+use aom_debug_words::Spot;
 use aom_frames::Task;
-use aom_machine::Progress;
 use aom_machine_state::Parts;
-use aom_natives::Native;
-use aom_run::{Machine, Sink};
+use aom_run::Machine;
 
 /// What is to be over.
 #[derive(Clone, Copy)]
@@ -50,7 +44,7 @@ fn under_method(parts: &Parts) -> usize
 }
 
 /// How many tasks may be at hand where that is over.
-fn depth_of(machine: &Machine, scope: Awaited) -> usize
+pub(crate) fn depth_of(machine: &Machine, scope: Awaited) -> usize
     ensures { (s : State) → StandsFor machine.now s → result ≡ depth_of scope s.tasks }
 {
     match scope {
@@ -74,27 +68,5 @@ pub(crate) fn is_next(machine: &Machine, spot: Spot) -> bool
     match spot_at(machine.core.parts(), machine.core.accepted().linked()) {
         Some(next) => next.is(spot),
         None => false,
-    }
-}
-
-/// Until that is over, in the dispatch at hand or in the next, or an instruction with a breakpoint is next.
-pub(crate) fn go_over<W: Sink>(
-    mover: &mut Mover,
-    scope: Awaited,
-    breakpoints: &Breakpoints,
-    out: &mut W,
-) -> Option<Progress>
-    requires agree { AllAgree (λ l. l.ids) (λ l. (⟦<dyn Native as Native>⟧ l.native.vtable).owed l.native.value) mover.old.machine.natives.slots.items }
-    requires ready { IsReady mover.old }
-    ensures agree { AllAgree (λ l. l.ids) (λ l. (⟦<dyn Native as Native>⟧ l.native.vtable).owed l.native.value) mover.new.machine.natives.slots.items }
-    ensures keeps { Keeps mover.old mover.new }
-    ensures went { Went (GoesOver mover.old.machine.core.image (outside_of mover.old) scope breakpoints.now mover.old.recent mover.new.recent) (Reaches mover.old.machine.core.image (outside_of mover.old)) mover.old (W.out out.old) (W.out out.new) (W.failed out.new) result mover.new }
-{
-    match arrive(mover, out)? {
-        Progress::Running => {
-            let depth = depth_of(&mover.machine, scope);
-            walk(mover, Until::Depth(depth), breakpoints, out)
-        }
-        other => Some(other),
     }
 }

@@ -51,9 +51,9 @@ returns-in_err-progress-2-clause-went g c =
     let stays = λ (s : State). stays_at p c.args.until c.args.breakpoints.now s in
     let i = c.loop-progress.invariant in
     let m = c.loop-progress.mover in
-    let n = c.pass.new.mover in
+    let n = c.go_in_dispatch.new.mover in
     let here = g.W.Sink.out c.loop-progress.out in
-    let out = g.W.Sink.out c.pass.new.out in
+    let out = g.W.Sink.out c.go_in_dispatch.new.out in
     let off = c.in_err-progress-2.ensures.went in
     let cut = heard_as i.keeps (λ q o. Breaks (Reaches q o) m.machine here out n.machine) off.1 in
     rw c.from_residual-in_err-progress-2.ensures (off.0, far_cut p _ stays a.recent m.recent a.machine m.machine n.machine _ here out i.so_far cut)
@@ -63,7 +63,7 @@ loop-progress-smaller g c =
     let a = c.args.mover.now in
     let keeps = c.loop-progress.invariant.keeps in
     let m = c.loop-progress.mover in
-    let n = c.pass.new.mover in
+    let n = c.go_in_dispatch.new.mover in
     let some = c.in_ok-progress-2.ensures.went in
     let on = passed a m n keeps c.args.until c.args.breakpoints.now _ _ some.0 in
     let resting = sym c.loop-progress.invariant.far ∙ c.in-Turned.is in
@@ -80,15 +80,15 @@ loop-progress-preserved g c =
     let p = a.machine.core.image in
     let i = c.loop-progress.invariant in
     let m = c.loop-progress.mover in
-    let n = c.pass.new.mover in
+    let n = c.go_in_dispatch.new.mover in
     let stays = λ (s : State). stays_at p c.args.until c.args.breakpoints.now s in
     let some = c.in_ok-progress-2.ensures.went in
     let on = passed a m n i.keeps c.args.until c.args.breakpoints.now _ _ some.0 in
     record {
       so_far = goes_far p (outside_of a) stays a.recent m.recent a.machine m.machine n.machine _ _ _ i.so_far n.recent on;
       far = some.1;
-      keeps = keeps_on i.keeps c.pass.ensures.keeps;
-      agree = c.pass.ensures.agree;
+      keeps = keeps_on i.keeps c.go_in_dispatch.ensures.keeps;
+      agree = c.go_in_dispatch.ensures.agree;
     }
 
 pub walk_unless-requires-clause-agree : goal.walk_unless-requires-clause-agree
@@ -112,14 +112,14 @@ returns-in_default-clause-agree g c = c.loop-progress.invariant.agree
 pub returns-in_default-clause-keeps : goal.returns-in_default-clause-keeps
 returns-in_default-clause-keeps g c = c.loop-progress.invariant.keeps
 
-pub pass-requires-clause-agree : goal.pass-requires-clause-agree
-pass-requires-clause-agree g c = c.loop-progress.invariant.agree
+pub go_in_dispatch-requires-clause-agree : goal.go_in_dispatch-requires-clause-agree
+go_in_dispatch-requires-clause-agree g c = c.loop-progress.invariant.agree
 
-pub pass-requires-clause-ready : goal.pass-requires-clause-ready
-pass-requires-clause-ready g c = c.loop-progress.invariant.keeps.ready
+pub go_in_dispatch-requires-clause-ready : goal.go_in_dispatch-requires-clause-ready
+go_in_dispatch-requires-clause-ready g c = c.loop-progress.invariant.keeps.ready
 
 pub returns-in_err-progress-2-clause-agree : goal.returns-in_err-progress-2-clause-agree
-returns-in_err-progress-2-clause-agree g c = c.pass.ensures.agree
+returns-in_err-progress-2-clause-agree g c = c.go_in_dispatch.ensures.agree
 
 pub returns-in_err-progress-2-clause-keeps : goal.returns-in_err-progress-2-clause-keeps
-returns-in_err-progress-2-clause-keeps g c = keeps_on c.loop-progress.invariant.keeps c.pass.ensures.keeps
+returns-in_err-progress-2-clause-keeps g c = keeps_on c.loop-progress.invariant.keeps c.go_in_dispatch.ensures.keeps
