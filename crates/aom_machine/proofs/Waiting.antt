@@ -24,10 +24,10 @@ use Rattle.aom_roles.specs.Tables.{at, put_at}
 use Rattle.aom_rules.specs.Typing.{Typing, shape_at}
 use Rattle.aom_shape.specs.declared.kind.Kind.{Kind}
 use Rattle.aom_shape.specs.declared.kind.Kind.TheVariants.{Null, Unset}
-use Rattle.aom_machine.proofs.SafetyLemmas.{all_parts, each_unslotted_alike, ended_alike, guarded_goes, guarded_met, held_dropped, held_served, held_set_word}
-use Rattle.aom_machine.proofs.SafetyLemmas.{method_layer, queue_dropped, redeemed_by_alike, register_fits, rerequested_alike, resessioned_alike}
+use Rattle.aom_machine.proofs.SafetyLemmas.{all_parts, each_unslotted_alike, ended_alike, guarded_goes, guarded_met, held_dropped, held_elsewhere, held_served}
+use Rattle.aom_machine.proofs.SafetyLemmas.{held_set_word, method_layer, queue_dropped, redeemed_by_alike, register_fits, rerequested_alike, resessioned_alike}
 use Rattle.aom_machine.proofs.SafetyLemmas.{steps_are_moves}
-use Rattle.aom_machine.proofs.SemanticsLemmas.{at-put_at, held_without, same_place-true}
+use Rattle.aom_machine.proofs.SemanticsLemmas.{at-put_at, held_without}
 use Rattle.aom_semantics.specs.Calls.{accepted_cells, needs_each, needs_entering, needs_target, passed_cells, result_cells, returned}
 use Rattle.aom_semantics.specs.Cleanup.{to_trap, top_place}
 use Rattle.aom_semantics.specs.Destruction.{begun, destructed, line_on, first_session, parting}
@@ -138,23 +138,6 @@ module _ (p : Image) (fr : Frame) (ts : List Task) (s : State) where
 
 -- ---- operands move
 
--- what leaves a place is there no more
-held_left : (cs : List Cell) (q r e : Place) → same_place r e ≡ false → held (moved q r cs) e ≡ cond (same_place q e) None (held cs e)
-held_left cs q r e apart = by (same_place q e) refl
-  where
-    left : (cs : List Cell) → same_place q e ≡ true → held (moved q r cs) e ≡ None
-    left [] h = refl
-    left (c ∷ cs) h = go (same_place c.owner q) refl (left cs h)
-      where
-        go : (b : Bool) → same_place c.owner q ≡ b → held (moved q r cs) e ≡ None →
-            cond (same_place (cond b r c.owner) e) (Some c.object) (held (moved q r cs) e) ≡ None
-        go true x rest = ap (λ y. cond y (Some c.object) (held (moved q r cs) e)) apart ∙ rest
-        go false x rest = ap (λ y. cond y (Some c.object) (held (moved q r cs) e)) (ap (λ z. same_place c.owner z) (sym (same_place-true q e h)) ∙ x) ∙ rest
-
-    by : (b : Bool) → same_place q e ≡ b → held (moved q r cs) e ≡ cond b None (held cs e)
-    by true h = left cs h
-    by false h = held_apart cs q r e h apart
-
 module _ (p : Image) (fr : Frame) (ts : List Task) (s : State) where
   -- the registers of the method that runs
   abbrev Says : List Cell → Shape → Type 0
@@ -162,7 +145,7 @@ module _ (p : Image) (fr : Frame) (ts : List Task) (s : State) where
 
   emptied : (cs : List Cell) (sh : Shape) (a : ℕ) (to : Place) → ((i : ℕ) → same_place to (Register (length ts) i) ≡ false) → word fr a ≡ None → Says cs sh
       → Says (moved (here fr ts s a) to cs) (set_register sh a Null)
-  emptied cs sh a to apart wordless says i = grind (arith, nat_tests, at-put_at Unset sh.registers a i Null, held_left cs, eq-eqb, eqb-true a i)
+  emptied cs sh a to apart wordless says i = grind (arith, nat_tests, at-put_at Unset sh.registers a i Null, held_elsewhere cs, eq-eqb, eqb-true a i)
 
   arguments_says : (depth : ℕ) (xs : List Argument) (first to : ℕ) (cs : List Cell) (sh : Shape) → length ts < depth → AllTrue (needs_each p fr ts s xs first) →
       Says cs sh → Says (passed_cells p fr ts s depth xs first to cs) (arguments_moved xs first sh)

@@ -1,6 +1,6 @@
 -- What the code needs to know of the cleanup stack, and of the methods that a trap calls.
 use Rattle.std.proofs.lemmas.Bool.Decides.{nat_tests}
-use Rattle.std.proofs.Common.{suc, ◌≡◌, ◌≤◌, ◌<◌, ◌+◌, ◌^◌, ℕ, Bool, true, length, List, [], ◌∷◌, IsSome, refl, sym, ap, ◌∙◌, subst, arith}
+use Rattle.std.proofs.Common.{suc, ◌≡◌, ◌<◌, ◌+◌, ◌^◌, ℕ, Bool, true, length, List, [], ◌∷◌, IsSome, refl, sym, ap, ◌∙◌, subst, arith}
 use Rattle.std.specs.Prelude.{is_some}
 use Rattle.std.proofs.lemmas.Bool.{eqb-true}
 use Rattle.aom_image.specs.Image.{Image}
@@ -18,7 +18,7 @@ use Rattle.aom_semantics.specs.Cleanup.{tops_entry, tops_object, top_is_whole}
 use Rattle.aom_semantics.specs.Places.{Entry, held}
 use Rattle.aom_semantics.specs.State.{Frame, Task, Run, Trapped, Item, State}
 use Rattle.aom_safety.specs.WellTyped.{Good, LeavesNone, WellTyped}
-use Rattle.aom_machine_instructions.proofs.SafetyLemmas.{all_parts, entry_object, mark_layer, method_layer}
+use Rattle.aom_machine_instructions.proofs.SafetyLemmas.{all_parts, entry_object, length_forms, length_objects, mark_layer, method_layer}
 use Rattle.aom_frames.specs.Tasks.{Runs, method_here, place_here, below_first}
 use Rattle.aom_frames.specs.declared.task.Task.{Task as Machine_task}
 use Rattle.aom_frames.specs.declared.task.Task.TheVariants.{Run as Runs_frame, Trapped as Is_trap}
@@ -78,15 +78,7 @@ module _ (p : Image) (m : Parts) where
 -- as many items as below the entries are those below
 no_more : (es : List CleanupEntry) (fs : List Form) → length (objects es fs) ≡ length fs → objects es fs ≡ fs
 no_more [] fs e = refl
-no_more (x ∷ es) fs e = let more = longer es fs in absurd (omega arith)
-  where
-    longer : (es : List CleanupEntry) (fs : List Form) → length fs ≤ length (objects es fs)
-    longer [] fs = omega arith
-    longer (x ∷ es) fs = let more = longer es fs in omega arith
-
-length_forms : (js : List Item) → length (forms js) ≡ length js
-length_forms [] = refl
-length_forms (j ∷ js) = ap suc (length_forms js)
+no_more (x ∷ es) fs e = let more = length_objects es fs in absurd (omega arith)
 
 mark_tops : (is : List Machine_item) (js : List Item) (fs : List Form) → SameItems is js → forms js ≡ Mark_form ∷ fs → IsMarked is
 mark_tops x y fs same e = grind arith
