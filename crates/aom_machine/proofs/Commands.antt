@@ -2,7 +2,7 @@
 use Rattle.std.proofs.lemmas.Bool.Decides.{nat_tests}
 use Rattle.std.proofs.Common.{ap, arith, Bool, length, List, None, Option, refl, Some, subst, suc, sym, true, ℕ, ◌++◌, ◌<◌, ◌≤◌, ◌==◌, ◌∙◌, ◌∷◌, ◌≡◌, []}
 use Rattle.std.specs.Prelude.{Err, IfSome, Ok, Result, is_some, nat_lt, option_map, ◌||◌}
-use Rattle.std.proofs.lemmas.Bool.{eq-eqb}
+use Rattle.std.proofs.lemmas.Bool.{eq-eqb, or_right}
 use Rattle.std.proofs.lemmas.Option.{none-some, same_Some}
 use Rattle.aom_active.specs.Agrees.{Active}
 use Rattle.aom_clients.specs.Clients as kept
@@ -56,10 +56,7 @@ named_alike x = grind arith
 all_kept : (store : Store) (ms : List ℕ) → Once ms → ((m : ℕ) → is_among m ms ≡ true → is_some (message_at store m) ≡ true) → AreKept store ms
 all_kept store [] once each = tt
 all_kept store (m ∷ ms) once each =
-    (each m (ap (λ b. b || is_among m ms) (eq-eqb m m refl)), once.0, all_kept store ms once.1 (λ k e. each k (later (m == k) (is_among k ms) e)))
-  where
-    later : (a b : Bool) → b ≡ true → (a || b) ≡ true
-    later x b e = grind arith
+    (each m (ap (λ b. b || is_among m ms) (eq-eqb m m refl)), once.0, all_kept store ms once.1 (λ k e. each k (or_right (m == k) (is_among k ms) e)))
 
 module _ (p : Image) (m : Parts) (s : State) (st : StandsFor (record { image = p; parts = m }) s) (idle : s.tasks ≡ []) (c : ℕ) (one : c < 64) where
   abbrev same : SameClients m.clients s.cells s.clients

@@ -20,13 +20,12 @@ use Rattle.std.proofs.lemmas.Bool.{eq-eqb, eqb-true, false≢true, ne_eqb}
 use Rattle.std.proofs.lemmas.Bool.Decides.{leb_tells}
 use Rattle.std.proofs.lemmas.List.{length-set}
 use Rattle.aom_image.specs.Image.{Image}
-use Rattle.aom_image.specs.Views.{arguments_in, arguments_of, class_in, method_at, method_class}
+use Rattle.aom_image.specs.Views.{arguments_of, method_at, method_class}
 use Rattle.aom_instructions.specs.declared.instr.Instr.TheVariants.{Call, Trap}
 use Rattle.aom_instructions.specs.declared.instr.Target.{Target}
 use Rattle.aom_instructions.specs.declared.instr.Target.TheVariants.{This, Register as On_register, Field as On_field, Entry as On_entry}
 use Rattle.aom_image.specs.declared.method.Argument.{Argument}
 use Rattle.aom_image.specs.declared.method.Argument.TheVariants.{Word as Takes_word, Own as Takes_own}
-use Rattle.aom_image.specs.declared.method.Method.{Method as Method_decl}
 use Rattle.aom_roles.specs.Tests.{AllTrue}
 use Rattle.aom_cells.specs.Heap.{cell_at, class_of, class_at, Lives, Heap, null}
 use Rattle.aom_roles.specs.Tables.{put_at}
@@ -58,15 +57,6 @@ use Rattle.aom_machine_instructions.proofs.WordActs.{plain_at}
 use Rattle.aom_machine_instructions.proofs.FieldActs.{this_is}
 use Rattle.aom_machine_instructions.proofs.Running.{object_lives_at, object_class, null_unnamed, Aside, Top, agrees_with, aside_of}
 use Rattle.aom_machine_instructions.proofs.Running.{aside_with, by_top, begun_as, object_small, reframed, no_word}
-
--- what a method takes, and of which class it is
-pub arguments_here : (p : Image) (k : ℕ) (d : Method_decl) → method_at p k ≡ Some d → arguments_of p k ≡ d.arguments
-unfolding arguments_in
-arguments_here p k d e = ap arguments_in e
-
-pub class_here : (p : Image) (k : ℕ) (d : Method_decl) → method_at p k ≡ Some d → method_class p k ≡ d.class
-unfolding class_in
-class_here p k d e = ap class_in e
 
 -- a list written at its end
 put_at_end : {A : Type 0} (d : A) (xs : List A) (v : A) → put_at d xs (length xs) v ≡ xs ++ v ∷ []

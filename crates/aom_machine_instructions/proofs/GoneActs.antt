@@ -3,7 +3,7 @@ use Rattle.std.proofs.lemmas.Bool.Decides.{nat_tests}
 use Rattle.std.proofs.Common.{Bool, inl, inr, not, List, None, Option, Some, [], ap, arith, cond, false, length}
 use Rattle.std.proofs.Common.{refl, subst, suc, sym, true, ℕ, ◌++◌, ◌+◌, ◌<◌, ◌==◌, ◌||◌, ◌∙◌, ◌∷◌, ◌≡◌, ◌≤◌}
 use Rattle.std.specs.Prelude.{IsSome, flat_map, is_some, map}
-use Rattle.std.proofs.lemmas.Bool.{and_parts, eq-eqb, eqb-true, false≢true}
+use Rattle.std.proofs.lemmas.Bool.{and_parts, eq-eqb, eqb-true, false≢true, or_right}
 use Rattle.std.proofs.lemmas.List.{append_assoc, get_or_past, length-append}
 use Rattle.aom_machine_instructions.proofs.ImageLemmas.{some_given}
 use Rattle.aom_active.specs.Agrees.{Active}
@@ -85,10 +85,8 @@ all_kept : (store : Store) (es : List QueueEntry) → Once (places_in es) →
 all_kept store [] once there = tt
 all_kept store (Connect c ∷ es) once there = (tt, tt, all_kept store es once there)
 all_kept store (Message k ∷ es) once there =
-    (there k (ap (λ b. b || is_among k (places_in es)) (eq-eqb k k refl)), sym (is_there es k) ∙ once.0, all_kept store es once.1 (λ m h. there m (later (k == m) (is_among m (places_in es)) h)))
-  where
-    later : (a b : Bool) → b ≡ true → (a || b) ≡ true
-    later x b h = grind arith
+    (there k (ap (λ b. b || is_among k (places_in es)) (eq-eqb k k refl)), sym (is_there es k) ∙ once.0,
+    all_kept store es once.1 (λ m h. there m (or_right (k == m) (is_among m (places_in es)) h)))
 all_kept store (Close c ∷ es) once there = (tt, tt, all_kept store es once there)
 
 -- the lines of entries are told alike
@@ -255,11 +253,8 @@ module _ (p : Image) (m : Parts) (h : In_going p m)
   none_listed [] listed = tt
   none_listed (c ∷ cs) listed = (
     grind (arith, nat_tests, none_with, server_sessionless, eq-eqb c c, none_at c),
-    none_listed cs (λ d e. listed d (later (c == d) (is_among d cs) e)),
+    none_listed cs (λ d e. listed d (or_right (c == d) (is_among d cs) e)),
   )
-    where
-      later : (a b : Bool) → b ≡ true → (a || b) ≡ true
-      later x b e = grind arith
 
   quiet_here : (es : List QueueEntry) → QueueFits s.clients n (map (asked_by k.places) es) → Quiet k es
   quiet_here [] fits = tt

@@ -49,4 +49,5 @@ pub use Rattle.aom_progress.proofs.ProgressLemmas
 pub use Rattle.aom_roles.proofs.RolesLemmas
 pub use Rattle.aom_safety.proofs.SafetyLemmas
 pub use Rattle.aom_semantics.proofs.SemanticsLemmas
+pub use Rattle.aom_shape.proofs.ShapeLemmas
 pub use Rattle.aom_typings.proofs.TypingsLemmas

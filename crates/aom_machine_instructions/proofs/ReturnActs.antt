@@ -5,10 +5,9 @@ use Rattle.std.proofs.Common.{slice_index_or, slice_set, subst, suc, sym, true, 
 use Rattle.std.proofs.lemmas.Bool.{OnTrue_at, eq-eqb, eqb-true, false≢true, ne_eqb}
 use Rattle.std.proofs.lemmas.List.{length-set}
 use Rattle.aom_image.specs.Image.{Image}
-use Rattle.aom_image.specs.Views.{gives_in, gives_of, instr_at, method_at}
+use Rattle.aom_image.specs.Views.{gives_of, instr_at}
 use Rattle.aom_instructions.specs.declared.instr.Instr.TheVariants.{Return}
 use Rattle.aom_image.specs.declared.method.Gives.{Gives}
-use Rattle.aom_image.specs.declared.method.Method.{Method as Method_decl}
 use Rattle.aom_image.specs.declared.method.Gives.TheVariants.{Left, Maybe as A_maybe, Nothing, Own as An_own, Word as A_word}
 use Rattle.aom_cells.specs.Heap.{Heap, null}
 use Rattle.aom_shape.specs.Kinds.{is_unowning, register}
@@ -77,11 +76,6 @@ use Rattle.std.proofs.lemmas.Option.{none-some}
 use Rattle.aom_roles.specs.Things.{is_object}
 use Rattle.aom_roles.specs.Tests.{AllTrue}
 use Rattle.aom_machine_instructions.proofs.WordActs.{plain_at, word_read}
-
--- what a method gives back
-pub gives_here : (p : Image) (k : ℕ) (d : Method_decl) → method_at p k ≡ Some d → gives_of p k ≡ d.gives
-unfolding gives_in
-gives_here p k d e = ap gives_in e
 
 -- the machine once the method is gone, and the cancel that it may have ended is over
 pub dropped : (m ended new : Parts) → ended ≡ record m { active = ended.active } →

@@ -53,7 +53,8 @@ use Rattle.aom_machine_instructions.proofs.Finding.{held_beneath, unwinds_over, 
 use Rattle.aom_machine_instructions.proofs.LeavingActs.{unwinds_value, unwinds_word}
 use Rattle.aom_machine_instructions.proofs.ReturnActs.{awaiting, awaits_none, bears, caught_layer, word_alone}
 use Rattle.aom_machine_instructions.proofs.Running.{agrees_with, an_open, aside_of, aside_unmarked, moved_on}
-use Rattle.aom_machine_instructions.proofs.Stepping.{at_rest, goes_somewhere, step_of_unwinding, unwinding_of}
+use Rattle.aom_machine_instructions.proofs.ProgressLemmas.{leads_on}
+use Rattle.aom_machine_instructions.proofs.Stepping.{at_rest, step_of_unwinding, unwinding_of}
 use Rattle.aom_machine_instructions.proofs.Topping.{top_lives}
 
 -- ---- what is pushed is dealt with
@@ -92,7 +93,7 @@ module _ (p : Image) (m : Parts) (st : Stands (record { image = p; parts = m }))
       let s = st.0 in
       let f = unwinding_of m.stack.tasks s.tasks unwinding st.1.agrees.tasks in
       let c = an_open p [] m s st.1.agrees in
-      let k = goes_somewhere p t (unwound p f.0 f.1 (at_rest s) s.items)
+      let k = leads_on p t (unwound p f.0 f.1 (at_rest s) s.items)
       (subst (Keeps p t) (step_of_unwinding p c.0 s f.0 f.1 f.2) (st.1.sound.keeps c.0 s st.1.typed c.1.name)) in
       (f.0, f.1, k.0, f.2, k.1)
 

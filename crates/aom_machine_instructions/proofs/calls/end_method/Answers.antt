@@ -1,9 +1,10 @@
 use Rattle.std.proofs.Common.{refl, sym}
 use Rattle.aom_machine_instructions.proofs.CancelEnds.{is_cancelled, is_over}
 use Rattle.aom_machine_instructions.proofs.Finding.{finds_method, returns_to}
-use Rattle.aom_machine_instructions.proofs.ReturnActs.{dropped, gives_here}
+use Rattle.aom_machine_instructions.proofs.ReturnActs.{dropped}
 use Rattle.aom_machine_instructions.proofs.Topping.{finds_mark}
 use Rattle.aom_machine_instructions.specs.Next.{counting}
+use Rattle.aom_machine_instructions.proofs.ShapeLemmas.{gives_there}
 use Rattle.aom_machine_instructions.proofs.calls.end_method.Goals as goal
 
 pub method-method-requires : goal.method-method-requires
@@ -14,7 +15,7 @@ end_cancel-requires c = is_cancelled c.args.linked.now c.args.parts.now c.requir
     (rw c.method.ensures at c.method-method.ensures)
 
 pub returns-clause-gives : goal.returns-clause-gives
-returns-clause-gives c = sym (gives_here c.args.linked.now _ c.method-method.result.now (rw c.method.ensures at c.method-method.ensures))
+returns-clause-gives c = sym (gives_there c.args.linked.now _ c.method-method.result.now (rw c.method.ensures at c.method-method.ensures))
 
 pub returns-clause-over : goal.returns-clause-over
 returns-clause-over c = rw c.end_method.ensures (is_over c.args.linked.now c.args.parts.now c.requires.0

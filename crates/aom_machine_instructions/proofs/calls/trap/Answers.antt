@@ -1,13 +1,14 @@
 use Rattle.std.proofs.Common.{sym}
-use Rattle.aom_machine_instructions.proofs.EnterActs.{arguments_here, class_here, trap_does, trap_lives, traps_well}
+use Rattle.aom_machine_instructions.proofs.EnterActs.{trap_does, trap_lives, traps_well}
 use Rattle.aom_machine_instructions.proofs.Rooms.{mark_room}
+use Rattle.aom_machine_instructions.proofs.ShapeLemmas.{arguments_there, class_there}
 use Rattle.aom_machine_instructions.proofs.calls.trap.Goals as goal
 
 pub callee-whom-requires-clause-there : goal.callee-whom-requires-clause-there
 callee-whom-requires-clause-there c = (traps_well c.args.linked.now c.args.parts.now c.args.on c.args.method c.args.first c.requires.0 c.requires.1).0
 
 pub callee-whom-requires-clause-class : goal.callee-whom-requires-clause-class
-callee-whom-requires-clause-class c = sym (class_here c.args.linked.now c.args.method c.method-called.result.now c.method-called.ensures)
+callee-whom-requires-clause-class c = sym (class_there c.args.linked.now c.args.method c.method-called.result.now c.method-called.ensures)
 
 pub callee-whom-requires-clause-lives : goal.callee-whom-requires-clause-lives
 callee-whom-requires-clause-lives c = (trap_lives c.args.linked.now c.args.parts.now c.args.on c.args.method c.args.first c.requires.0 c.requires.1).0
@@ -20,7 +21,7 @@ mark-requires c = mark_room c.args.linked.now c.args.parts.now c.args.on c.args.
 
 pub enter_trap-requires-clause-within : goal.enter_trap-requires-clause-within
 enter_trap-requires-clause-within c =
-    rw (c.number.ensures.value, c.as_slice.ensures, sym (arguments_here c.args.linked.now c.args.method c.method-called.result.now c.method-called.ensures))
+    rw (c.number.ensures.value, c.as_slice.ensures, sym (arguments_there c.args.linked.now c.args.method c.method-called.result.now c.method-called.ensures))
     (traps_well c.args.linked.now c.args.parts.now c.args.on c.args.method c.args.first c.requires.0 c.requires.1).1
 
 pub returns : goal.returns
@@ -30,5 +31,5 @@ returns c = λ refused to. rw (
   c.callee-whom.ensures,
   c.number.ensures.value,
   c.as_slice.ensures,
-  sym (arguments_here c.args.linked.now c.args.method c.method-called.result.now c.method-called.ensures),
+  sym (arguments_there c.args.linked.now c.args.method c.method-called.result.now c.method-called.ensures),
 ) (trap_does c.args.linked.now c.args.parts.now refused c.args.on c.args.method c.args.first to)
