@@ -4,8 +4,8 @@ use Rattle.std.proofs.Common.{Option, ◌≡◌, ◌≢◌, ◌<◌, ◌≤◌, 
 use Rattle.std.proofs.Common.{Some, None, length, replicate, get_or, refl, sym, ap, ◌∙◌, subst, inl, inr, arith, rules}
 use Rattle.std.specs.Prelude.{map, filter, slice_index_or, nat_lt, is_some, All, IfSome}
 use Rattle.std.proofs.lemmas.List.Elements.{All-nil, All-cons}
-use Rattle.std.proofs.lemmas.Bool.{cases_eq, eq-eqb, ne_eqb, cond-true, cond-false}
-use Rattle.std.proofs.lemmas.Option.{same_Some}
+use Rattle.std.proofs.lemmas.Bool.{cases_eq, cases_lt, cond-false, cond-true, eq-eqb, false≢true, ne_eqb}
+use Rattle.std.proofs.lemmas.Option.{none-some, same_Some}
 use Rattle.std.proofs.lemmas.List.{length-map, length-replicate, get_or_past}
 use Rattle.aom_clients.specs.Lists.{Table, IsIn, empty, list_at, first_of, after_node}
 use Rattle.aom_clients.specs.declared.client.Client.{Client}
@@ -19,7 +19,6 @@ use Rattle.aom_clients.specs.Clients.{State, at_first, client_at, queue_at, sess
 use Rattle.aom_clients.specs.Clients.{sending_to, is_connect, first_client, first_entry, client_after}
 use Rattle.aom_clients.specs.Nodes.{entry_of, connecting_in, slots_of, named_by, state_of, AreSent, IsKept}
 use Rattle.aom_clients.proofs.Entries.{connects-counted}
-use Rattle.aom_clients.proofs.Plain.{nothing, false-true, cases_lt}
 use Rattle.aom_clients.proofs.Steps.{client, client-is, queue-is}
 
 less : (m n : ℕ) → nat_lt m n ≡ true → m < n
@@ -32,7 +31,7 @@ slot-taken false m e = absurd (cc)
 
 slot-below : (x : Client) (used : ℕ) → has_slot used x ≡ true → used < slots_of x
 slot-below (Open k s n) used h = less used n h
-slot-below _ used h = absurd (false-true h)
+slot-below _ used h = absurd (false≢true h)
 
 -- nodes after a node, as contracts of sessions say it
 pub first-same : (xs : List ℕ) → first_of xs ≡ first_client xs
@@ -50,14 +49,14 @@ some-first s (e ∷ es) = search rules
 
 none-waits : (es : List QueueEntry) → nat_lt 0 (length es) ≡ false → es ≡ []
 none-waits [] nothing_is = refl
-none-waits (e ∷ es) nothing_is = grind (arith, nat_tests, false-true)
+none-waits (e ∷ es) nothing_is = grind (arith, nat_tests, false≢true)
 
 first-in : (d : ℕ) (xs : List ℕ) → first_of xs ≡ Some d → IsIn d xs
-first-in d [] e = absurd (nothing d e)
+first-in d [] e = absurd (none-some d e)
 first-in d (x ∷ xs) e = inl (same_Some x d e)
 
 after-in : (c d : ℕ) (xs : List ℕ) → after_node c xs ≡ Some d → IsIn d xs
-after-in c d [] e = absurd (nothing d e)
+after-in c d [] e = absurd (none-some d e)
 after-in c d (x ∷ xs) e = go (cases_eq x c) (after-in c d xs)
   where
     go : (x ≡ c) ⊎ (x ≢ c) → (after_node c xs ≡ Some d → IsIn d xs) → IsIn d (x ∷ xs)
@@ -77,7 +76,7 @@ module _ (cl : List Client) (pl : List MessagePlace) (q cn ss st : Table) (r : I
     where
       go : (c < length cl) ⊎ (length cl ≤ c) → c < 64
       go (inl few) = omega (arith, few, r.sized.clients_long)
-      go (inr large) = absurd (nothing k (sym (ap server_of (get_or_past cl c Unconnected large)) ∙ r.connected.has k c i))
+      go (inr large) = absurd (none-some k (sym (ap server_of (get_or_past cl c Unconnected large)) ∙ r.connected.has k c i))
 
   counted : (k n : ℕ) → n ≡ length (list_at q k) → n ≡ length (queue_at s k)
   counted k n e = e ∙ sym (length-map (list_at q k) entry_of) ∙ ap length (queue-is cl pl q cn ss st r s is k)
@@ -145,7 +144,7 @@ at-first cells few = record {
     waits = λ c m e. let free = unused m in absurd (cc);
   };
   listed = record { same = λ k. no-list 64 cells k ∙ sym (ap connecting_in (no-list 1152 cells k)) };
-  connected = record { has = λ k c i. absurd (no-node 64 cells k c i); listed = λ k c e. absurd (nothing k (sym (ap server_of (calm c)) ∙ e)) };
+  connected = record { has = λ k c i. absurd (no-node 64 cells k c i); listed = λ k c e. absurd (none-some k (sym (ap server_of (calm c)) ∙ e)) };
   out = record {
     out = λ c m small i. absurd (no-node 1024 128 c m i);
     past = λ c m small i. absurd (no-node 1024 128 (64 + c) m i);
@@ -154,7 +153,7 @@ at-first cells few = record {
     senders = λ c m e. let free = unused m in absurd (cc);
     few = λ c small. omega (arith, ap length (no-list 1024 128 c));
   };
-  named = record { servers = λ c k e. absurd (nothing k (sym (ap named_by (calm c)) ∙ e)); slots = λ c. omega (arith, ap slots_of (calm c)) };
+  named = record { servers = λ c k e. absurd (none-some k (sym (ap named_by (calm c)) ∙ e)); slots = λ c. omega (arith, ap slots_of (calm c)) };
 }
   where
     nil : List ℕ
@@ -192,4 +191,4 @@ completed-below pl st s m t e = go (slice_index_or pl m Free) refl e
     go : (p : MessagePlace) → slice_index_or pl m Free ≡ p → Some t ≡ completion p → t.client < 64
     go (Held c) is e = subst (λ (x : Completion). x.client < 64) (sym (same_Some t (record { client = c; is_told = true }) e)) (s.held c m is).0
     go (Discarded c) is e = subst (λ (x : Completion). x.client < 64) (sym (same_Some t (record { client = c; is_told = false }) e)) (s.senders c m is)
-    go _ is e = absurd (nothing t (sym e))
+    go _ is e = absurd (none-some t (sym e))

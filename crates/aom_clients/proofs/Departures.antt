@@ -2,7 +2,7 @@
 use Rattle.std.proofs.lemmas.Bool.Decides.{nat_tests}
 use Rattle.std.proofs.Common.{◌≡◌, ◌≢◌, ◌<◌, ◌+◌, ◌++◌, ℕ, suc, true, List, [], ◌∷◌, Some, length, take, refl, sym, ap, ◌∙◌, subst, inl, inr, arith}
 use Rattle.std.specs.Prelude.{map, filter, slice_index_or, slice_set}
-use Rattle.std.proofs.lemmas.Bool.{eq-eqb, ne_eqb, eqb-true, cond-false}
+use Rattle.std.proofs.lemmas.Bool.{cond-false, eq-eqb, eqb-true, false≢true, ne_eqb}
 use Rattle.std.proofs.lemmas.List.{length-set, length-map, get_or-set_same, get_or-set_other, get_or-take, take-set-le}
 use Rattle.aom_clients.specs.Lists.{Table, IsIn, list_at, with_list, without}
 use Rattle.aom_clients.proofs.Members.{in-without, without-in}
@@ -23,7 +23,6 @@ use Rattle.aom_clients.proofs.Leaving.{place-there, place}
 use Rattle.std.proofs.Math.ListN.{get_or-map}
 use Rattle.aom_clients.specs.Withdrawals.{without_each, left_each}
 use Rattle.aom_clients.proofs.Leaving.{Leaves, leaves, places-left, drop_each, drop-nil, each-dropped, Tells, queue-left}
-use Rattle.aom_clients.proofs.Plain.{false-true}
 use Rattle.aom_clients.proofs.Steps.{client, take-set-lt, queued-of, client-is, among, waiting-below}
 use Rattle.aom_clients.proofs.Slots.{left-queued, left-at, sent-left}
 
@@ -56,10 +55,10 @@ queues-left ms pl c small (zs ∷ lists) t = ap (λ es. es ∷ shown entry_of (m
     (queue-left ms pl c small zs (t 0)) ∙ ap (λ ls. filter (stays c pl) (map entry_of zs) ∷ ls) (queues-left ms pl c small lists (λ k. t (suc k)))
 
 some-out : (c : ℕ) (p : MessagePlace) → is_out_of c p ≡ true → p ≡ Free → ⊥
-some-out c p e f = false-true (sym (ap (is_out_of c) f) ∙ e)
+some-out c p e f = false≢true (sym (ap (is_out_of c) f) ∙ e)
 
 some-held : (c : ℕ) (p : MessagePlace) → is_held_of c p ≡ true → p ≡ Free → ⊥
-some-held c p e f = false-true (sym (ap (is_held_of c) f) ∙ e)
+some-held c p e f = false≢true (sym (ap (is_held_of c) f) ∙ e)
 
 module _ (cl : List Client) (pl : List MessagePlace) (q cn ss st : Table) (r : IsKept cl pl q cn ss st) (s : State) (is : state_of cl pl q ss st ≡ s) where
   module _ (c : ℕ) (next : Client) (small : c < 64) (left : IsLeft (client_at s c) next) where
@@ -125,7 +124,7 @@ module _ (cl : List Client) (pl : List MessagePlace) (q cn ss st : Table) (r : I
     can-close (Open k n slots) e = record {
       list = omega (arith, r.named.servers c k (ap named_by e), (alike-then q q1 q2 (alike-each q xs) (alike-without q1 (1024 + c))).lists);
       node = omega (arith, small, r.sized.queues_nodes);
-      free = record { nowhere = λ j i. false-true (sym (ap (is_leaving j) e) ∙ r.entries.closes j c small (in-q2 j (1088 + c) i).1) };
+      free = record { nowhere = λ j i. false≢true (sym (ap (is_leaving j) e) ∙ r.entries.closes j c small (in-q2 j (1088 + c) i).1) };
     }
     can-close (Closing k n) e = tt
     can-close Gone e = tt
@@ -220,7 +219,7 @@ module _ (cl : List Client) (pl : List MessagePlace) (q cn ss st : Table) (r : I
 
         waiting : (p : MessagePlace) → is_waiting_of c p ≡ true → p ≡ Queued c
         waiting (Queued d) w = ap Queued (eqb-true d c w)
-        waiting _ w = absurd (false-true w)
+        waiting _ w = absurd (false≢true w)
 
     queues-shown : shown entry_of q2.lists ≡ map (filter (stays c pl)) (shown entry_of q.lists)
     queues-shown = ap (λ ls. shown entry_of (map (without (1024 + c)) ls)) (each-dropped xs q.lists) ∙ queues-left xs pl c small q.lists tells

@@ -2,12 +2,11 @@
 use Rattle.std.proofs.lemmas.Bool.Decides.{nat_tests}
 use Rattle.std.proofs.Common.{◌≡◌, ◌<◌, ◌≤◌, ◌+◌, ◌-◌, ◌⊎◌, ◌==◌, ◌++◌, ℕ, true, false, not, List, [], ◌∷◌, length, refl, sym, ap, ◌∙◌, inl, inr, arith}
 use Rattle.std.specs.Prelude.{map, filter, nat_lt}
-use Rattle.std.proofs.lemmas.Bool.{cases_eq, eq-eqb, ne_eqb, cond-true, cond-false}
+use Rattle.std.proofs.lemmas.Bool.{cases_eq, cases_lt, cond-false, cond-true, eq-eqb, ne_eqb}
 use Rattle.aom_clients.specs.Lists.{IsIn}
 use Rattle.aom_clients.specs.declared.entry.QueueEntry.TheVariants.{Connect, Message, Close}
 use Rattle.aom_clients.specs.Clients.{is_connect, is_no_connect_of, is_no_close_of}
 use Rattle.aom_clients.specs.Nodes.{entry_of, is_connect_node, connecting_in}
-use Rattle.aom_clients.proofs.Plain.{cases_lt}
 
 below : (m n : ℕ) → m < n → nat_lt m n ≡ true
 below m n h = grind arith

@@ -2,8 +2,9 @@
 use Rattle.std.proofs.lemmas.Bool.Decides.{nat_tests}
 use Rattle.std.proofs.Common.{◌≡◌, ◌<◌, ◌+◌, ◌++◌, ℕ, true, List, [], ◌∷◌, Some, length, refl, sym, ap, ◌∙◌, subst, inl, arith}
 use Rattle.std.specs.Prelude.{map, slice_set}
-use Rattle.std.proofs.lemmas.Bool.{eqb-true}
+use Rattle.std.proofs.lemmas.Bool.{cases_lt, eqb-true}
 use Rattle.std.proofs.lemmas.List.{length-set, get_or_past, take-set-le}
+use Rattle.std.proofs.lemmas.Option.{none-some}
 use Rattle.aom_clients.specs.Lists.{Table, IsIn, IsFree, list_at, with_list, first_of, rest_of}
 use Rattle.aom_clients.specs.declared.client.Client.{Client}
 use Rattle.aom_clients.specs.declared.place.MessagePlace.{MessagePlace}
@@ -14,7 +15,6 @@ use Rattle.aom_clients.specs.Nodes.{entry_of, is_held_of, state_of, IsKept}
 use Rattle.aom_clients.proofs.Tables.{alike-same, alike-with, alike-then, shown}
 use Rattle.aom_clients.proofs.Kept.{sized-as, named-set, entries-client, sessions-first}
 use Rattle.aom_clients.proofs.Leaving.{place}
-use Rattle.aom_clients.proofs.Plain.{cases_lt, nothing}
 use Rattle.aom_clients.proofs.Steps.{client, take-set-lt, IsWith, is-with, queue-is, cell}
 use Rattle.aom_clients.proofs.Services.{shape}
 use Rattle.aom_clients.proofs.Slots.{sent-release}
@@ -43,7 +43,7 @@ module _ (cl : List Client) (pl : List MessagePlace) (q cn ss st : Table) (r : I
 
     -- a client with a session is one of the clients
     pub session-below : c < 64
-    session-below = grind (arith, nat_tests, cases_lt, nothing, get_or_past, named-here)
+    session-below = grind (arith, nat_tests, cases_lt, none-some, get_or_past, named-here)
 
     few : c < length cl
     few = omega (arith, session-below, r.sized.clients_long)

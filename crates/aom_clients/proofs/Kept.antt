@@ -2,8 +2,8 @@
 use Rattle.std.proofs.lemmas.Bool.Decides.{nat_tests}
 use Rattle.std.proofs.Common.{◌≡◌, ◌≢◌, ◌<◌, ◌≤◌, ◌+◌, ◌⊎◌, ◌++◌, ℕ, true, false, List, [], ◌∷◌, Some, None, length, refl, sym, ap, ◌∙◌, subst, inl, inr, arith}
 use Rattle.std.specs.Prelude.{map, slice_index_or, slice_set}
-use Rattle.std.proofs.lemmas.Bool.{cases_eq, eq-eqb}
-use Rattle.std.proofs.lemmas.Option.{same_Some}
+use Rattle.std.proofs.lemmas.Bool.{cases_eq, eq-eqb, false≢true}
+use Rattle.std.proofs.lemmas.Option.{none-some, same_Some}
 use Rattle.std.proofs.lemmas.List.{length-append, append-nil, get_or-set_same, get_or-set_other}
 use Rattle.aom_clients.specs.Lists.{Table, IsIn, IsFree, list_at, with_list, without, rest_of}
 use Rattle.aom_clients.proofs.Rings.{at-set, free-without}
@@ -17,7 +17,6 @@ use Rattle.aom_clients.specs.Nodes.{is_connect_node, connecting_in, is_connectin
 use Rattle.aom_clients.specs.Nodes.{is_held_of, Waits, AreSized, AreEntries, AreConnects, AreSessions, AreSent, AreNamed}
 use Rattle.aom_clients.proofs.Entries.{Kind, kind, listing-yes, listing-no, listing-append}
 use Rattle.aom_clients.proofs.Tables.{Alike, Fewer, fewer-with, fewer-without, at-without, pushed-in, push-keeps, push-has}
-use Rattle.aom_clients.proofs.Plain.{nothing, false-true}
 
 -- what holds of the item that is written and of all others holds of each
 pub at-write : {A : Type 0} (d : A) (P : ℕ → A → Type 0) (xs : List A) (c : ℕ) (v : A) → c < length xs → P c v → ((i : ℕ) → i ≢ c → P i (slice_index_or xs i d))
@@ -210,7 +209,7 @@ sessions-open cl ss c to k small there is none s = record {
   where
     mine : (j : ℕ) → ((j ≡ k) × (c ≡ c)) ⊎ IsIn c (list_at ss j) → server_of to ≡ Some j
     mine j (inl new) = is ∙ ap Some (sym new.0)
-    mine j (inr old) = absurd (nothing j (sym none ∙ s.has j c old))
+    mine j (inr old) = absurd (none-some j (sym none ∙ s.has j c old))
 
     theirs : (j d : ℕ) → d ≢ c → ((j ≡ k) × (d ≡ c)) ⊎ IsIn d (list_at ss j) → server_of (slice_index_or cl d Unconnected) ≡ Some j
     theirs j d other (inl new) = absurd (other new.1)
@@ -223,7 +222,7 @@ sessions-fewer cl ss ss' c to small none f free stay s = record {
   has = λ k d i. at-write Unconnected (λ d (x : Client). IsIn d (list_at ss' k) → server_of x ≡ Some k) cl c to small (λ i. absurd (free.nowhere k i))
       (λ d other i. s.has k d (f.each k d i)) d i;
   listed = λ k d e. at-write Unconnected (λ d (x : Client). server_of x ≡ Some k → IsIn d (list_at ss' k)) cl c to small
-      (λ e. absurd (nothing k (sym none ∙ e))) (λ d other e. stay k d other (s.listed k d e)) d e;
+      (λ e. absurd (none-some k (sym none ∙ e))) (λ d other e. stay k d other (s.listed k d e)) d e;
 }
 
 pub sessions-part : (cl : List Client) (ss : Table) (c : ℕ) (to : Client) → c < length cl → server_of to ≡ None → AreSessions cl ss
@@ -237,10 +236,10 @@ sessions-first cl ss k c cs to small there none is free s =
 
 -- messages --------------------------------------------------------------------------------------------------------------------------------
 free-out : (c : ℕ) (p : MessagePlace) → p ≡ Free → is_out_of c p ≡ true → ⊥
-free-out c p e is = false-true (sym (ap (is_out_of c) e) ∙ is)
+free-out c p e is = false≢true (sym (ap (is_out_of c) e) ∙ is)
 
 free-held : (c : ℕ) (p : MessagePlace) → p ≡ Free → is_held_of c p ≡ true → ⊥
-free-held c p e is = false-true (sym (ap (is_held_of c) e) ∙ is)
+free-held c p e is = false≢true (sym (ap (is_held_of c) e) ∙ is)
 
 -- a message is sent: it waits, and holds a slot
 pub sent-send : (pl : List MessagePlace) (st : Table) (c m : ℕ) → c < 64 → m < length pl → length st.lists ≡ 128 → slice_index_or pl m Free ≡ Free

@@ -3,8 +3,8 @@ use Rattle.std.proofs.lemmas.Bool.Decides.{nat_tests}
 use Rattle.std.proofs.Common.{◌≡◌, ◌≢◌, ◌<◌, ◌≤◌, ◌+◌, ◌⊎◌, ◌==◌, ℕ, Bool, true, false, cond, List}
 use Rattle.std.proofs.Common.{[], ◌∷◌, Some, length, refl, sym, ap, ◌∙◌, subst, inl, inr, arith}
 use Rattle.std.specs.Prelude.{map, filter, slice_index_or}
-use Rattle.std.proofs.lemmas.Bool.{cases_eq, eq-eqb, ne_eqb, eqb-true, cond-true, cond-false}
-use Rattle.std.proofs.lemmas.Option.{same_Some}
+use Rattle.std.proofs.lemmas.Bool.{cases_eq, cases_lt, cond-false, cond-true, eq-eqb, eqb-true, false≢true, ne_eqb}
+use Rattle.std.proofs.lemmas.Option.{none-some, same_Some}
 use Rattle.std.proofs.lemmas.List.{length-set, length-map, get_or-set_same, get_or-set_other, get_or_past, same_lists, get_or_default}
 use Rattle.std.proofs.Math.ListN.{get_or-map}
 use Rattle.aom_clients.specs.Lists.{Table, IsIn, IsOnce, list_at, without}
@@ -21,7 +21,6 @@ use Rattle.aom_clients.specs.Parts.{IsLeft}
 use Rattle.aom_clients.specs.Withdrawals.{without_each, left_at, left_each, waiting_each}
 use Rattle.aom_clients.proofs.Entries.{Kind, kind, message-is, connect-is, close-is}
 use Rattle.aom_clients.proofs.Entries.Kind.{message, connect, close}
-use Rattle.aom_clients.proofs.Plain.{cases_lt, false-true, nothing}
 
 -- what a client that leaves is at then ------------------------------------------------------------------------------------------------------
 pub record Leaves (was next : Client) : Type 0 where
@@ -32,27 +31,27 @@ pub record Leaves (was next : Client) : Type 0 where
   pub opened : (k : ℕ) → is_open_at k was ≡ true → is_leaving k next ≡ true
 
 pub leaves : (was next : Client) → IsLeft was next → Leaves was next
-leaves Unconnected next (inl e) = absurd (nothing next e)
+leaves Unconnected next (inl e) = absurd (none-some next e)
 leaves Unconnected next (inr e) = subst (Leaves Unconnected) (same_Some Dead next e)
     (record { server = refl; named = λ k h. h; slots = omega arith; leaving = λ k h. absurd (cc); opened = λ k h. absurd (cc) })
 leaves (Connecting k n) next (inl e) = subst (Leaves (Connecting k n)) (same_Some Unconnected next e)
-    (record { server = refl; named = λ k h. absurd (nothing k h); slots = omega arith; leaving = λ k h. absurd (cc); opened = λ k h. absurd (cc) })
+    (record { server = refl; named = λ k h. absurd (none-some k h); slots = omega arith; leaving = λ k h. absurd (cc); opened = λ k h. absurd (cc) })
 leaves (Connecting k n) next (inr e) = subst (Leaves (Connecting k n)) (same_Some Dead next e)
-    (record { server = refl; named = λ k h. absurd (nothing k h); slots = omega arith; leaving = λ k h. absurd (cc); opened = λ k h. absurd (cc) })
+    (record { server = refl; named = λ k h. absurd (none-some k h); slots = omega arith; leaving = λ k h. absurd (cc); opened = λ k h. absurd (cc) })
 leaves (Open k s n) next (inl e) = subst (Leaves (Open k s n)) (same_Some (Closing k s) next e)
     (record { server = refl; named = λ k h. h; slots = omega arith; leaving = λ k h. absurd (cc); opened = λ k h. h })
 leaves (Open k s n) next (inr e) = subst (Leaves (Open k s n)) (same_Some (Dying k s) next e)
     (record { server = refl; named = λ k h. h; slots = omega arith; leaving = λ k h. absurd (cc); opened = λ k h. h })
-leaves (Closing k s) next (inl e) = absurd (nothing next e)
+leaves (Closing k s) next (inl e) = absurd (none-some next e)
 leaves (Closing k s) next (inr e) = subst (Leaves (Closing k s)) (same_Some (Dying k s) next e)
     (record { server = refl; named = λ k h. h; slots = omega arith; leaving = λ k h. h; opened = λ k h. absurd (cc) })
 leaves Gone next (inl e) = subst (Leaves Gone) (same_Some Unconnected next e)
     (record { server = refl; named = λ k h. h; slots = omega arith; leaving = λ k h. h; opened = λ k h. h })
 leaves Gone next (inr e) = subst (Leaves Gone) (same_Some Dead next e)
     (record { server = refl; named = λ k h. h; slots = omega arith; leaving = λ k h. h; opened = λ k h. h })
-leaves Dead next (inr e) = absurd (nothing next e)
-leaves (Dying k s) next (inr e) = absurd (nothing next e)
-leaves _ next (inl e) = absurd (nothing next e)
+leaves Dead next (inr e) = absurd (none-some next e)
+leaves (Dying k s) next (inr e) = absurd (none-some next e)
+leaves _ next (inl e) = absurd (none-some next e)
 
 -- places ----------------------------------------------------------------------------------------------------------------------------------
 abbrev pub place : List MessagePlace → ℕ → MessagePlace
@@ -141,7 +140,7 @@ module _ (pl : List MessagePlace) (st : Table) (c : ℕ) (small : c < 64) (s : A
 
   one : (n : ℕ) → n < length pl → (b : Bool) → is_out_of c (place pl n) ≡ b → place both n ≡ left_place c (place pl n)
   one n inside true e = found n inside (listed n (place pl n) refl e) ∙ sym (cond-true (is_out_of c (place pl n)) (closed_place (place pl n)) (place pl n) e)
-  one n inside false e = grind (arith, nat_tests, each-out, false-true, held-out, cond-false)
+  one n inside false e = grind (arith, nat_tests, each-out, false≢true, held-out, cond-false)
 
   pub places-left : both ≡ map (left_place c) pl
   places-left = same_lists _ _ (length-each ys (left_each xs pl) ∙ length-each xs pl ∙ sym (length-map pl (left_place c))) each
@@ -238,14 +237,14 @@ queue-left ms pl c small (z ∷ zs) t = ap (λ ys. map entry_of (without (1024 +
         → map entry_of (without (1024 + c) (drop_each ms zs)) ≡ filter (stays c pl) (map entry_of zs)
         → map entry_of (without (1024 + c) (cond b (drop_each ms zs) (y ∷ drop_each ms zs))) ≡ filter (stays c pl) (entry_of y ∷ map entry_of zs)
     goes y fails true either less = grind (arith, nat_tests, cond-false)
-    goes y fails false (inl e) less = absurd (false-true e)
+    goes y fails false (inl e) less = absurd (false≢true e)
     goes y fails false (inr same) less = grind (arith, nat_tests, left, cond-false)
 
     go : (y : ℕ) → Kind y → Tells ms pl c (y ∷ zs) → (b : Bool) → has y ms ≡ b → (y ≡ 1024 + c) ⊎ (y ≢ 1024 + c)
         → map entry_of (without (1024 + c) (drop_each ms zs)) ≡ filter (stays c pl) (map entry_of zs)
         → map entry_of (without (1024 + c) (cond (has y ms) (drop_each ms zs) (y ∷ drop_each ms zs))) ≡ filter (stays c pl) (entry_of y ∷ map entry_of zs)
     go y k t true e d less = grind (arith, nat_tests, has-in y, goes y, message-is y, has y)
-    go _ (message m less) t false e d more = grind (arith, nat_tests, stay m, message-is m less, has m, false-true, in-has m)
+    go _ (message m less) t false e d more = grind (arith, nat_tests, stay m, message-is m less, has m, false≢true, in-has m)
     go _ (connect d less) t false e (inl same) more = grind (arith, nat_tests, goes (1024 + d), connect-is d less, eq-eqb d, has (1024 + d))
     go _ (connect d less) t false e (inr other) more = grind (arith, nat_tests, stay (1024 + d), connect-is d less, ne_eqb d, has (1024 + d))
     go _ (close d) t false e x more = grind (arith, nat_tests, stay (1088 + d), close-is d, has (1088 + d))

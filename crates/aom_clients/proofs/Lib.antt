@@ -3,7 +3,6 @@ mod Chains
 mod Rings
 mod RingSteps
 mod Places
-mod Plain
 mod Entries
 mod Tables
 mod Kept

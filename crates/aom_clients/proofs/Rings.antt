@@ -3,7 +3,7 @@ use Rattle.std.proofs.lemmas.Bool.Decides.{nat_tests}
 use Rattle.std.proofs.Common.{◌≡◌, ◌≢◌, ◌<◌, ◌≤◌, ◌+◌, ◌-◌, ◌⊎◌, ℕ, suc, List, [], ◌∷◌, ◌++◌, Option, Some, None, length, refl, sym, ap, ◌∙◌, subst, inl, inr}
 use Rattle.std.proofs.Common.{arith}
 use Rattle.std.specs.Prelude.{slice_index, slice_index_or, slice_set, map}
-use Rattle.std.proofs.lemmas.Bool.{cases_eq}
+use Rattle.std.proofs.lemmas.Bool.{cases_eq, cases_lt}
 use Rattle.std.proofs.lemmas.Option.{same_Some}
 use Rattle.std.proofs.lemmas.List.{get_or-set_same, get_or-set_other, get_or_past, length-set, length_push, length-map, get_or-map, same_lists, get_or_default}
 use Rattle.aom_clients.specs.Lists.{Table, IsIn, IsOnce, IsFree, IsSound, list_at, with_list, without, first_of, rest_of}
@@ -358,9 +358,6 @@ first-in (y ∷ ys) x e = inl (same_Some y x e)
 pub free-without : (t : Table) (x : ℕ) → IsFree (record t { lists = map (without x) t.lists }) x
 free-without t x = record { nowhere = λ l i. go l (cases_lt l (length t.lists)) i }
   where
-    cases_lt : (m n : ℕ) → (m < n) ⊎ (n ≤ m)
-    cases_lt m n = grind arith
-
     go : (l : ℕ) → (l < length t.lists) ⊎ (length t.lists ≤ l) → IsIn x (at (map (without x) t.lists) l) → ⊥
     go l (inl small) i = (in-without x x (list_at t l) (subst (IsIn x) (get_or-map (without x) t.lists l [] [] small) i)).0 refl
     go l (inr large) i = elim (subst (IsIn x) (get_or_past (map (without x) t.lists) l [] (omega (arith, large, length-map t.lists (without x)))) i) [ ]

@@ -3,8 +3,8 @@ use Rattle.std.proofs.lemmas.Bool.Decides.{nat_tests}
 use Rattle.std.proofs.Common.{◌≡◌, ◌≢◌, ◌<◌, ◌≤◌, ◌+◌, ◌++◌, ℕ, true, List, [], ◌∷◌, Option, Some}
 use Rattle.std.proofs.Common.{None, length, take, refl, sym, ap, ◌∙◌, subst, inl, inr, arith}
 use Rattle.std.specs.Prelude.{map, filter, slice_set, IfSome, IsNone, IsSome}
-use Rattle.std.proofs.lemmas.Bool.{cases_eq}
-use Rattle.std.proofs.lemmas.Option.{same_Some}
+use Rattle.std.proofs.lemmas.Bool.{cases_eq, false≢true}
+use Rattle.std.proofs.lemmas.Option.{none-some, same_Some}
 use Rattle.std.proofs.lemmas.List.{length-set, get_or-set_same, get_or-set_other, take-map, map-set, set-get_or}
 use Rattle.aom_clients.specs.Lists.{Table, IsIn, IsFree, list_at, with_list, without, first_of, rest_of}
 use Rattle.aom_clients.proofs.Members.{in-without, without-in}
@@ -27,20 +27,19 @@ use Rattle.aom_clients.proofs.Kept.{at-write, sized-as, named-set, named-as, ent
 use Rattle.aom_clients.proofs.Kept.{listed-rest-connect, listed-rest-other, listed-without-connect, listed-without-other}
 use Rattle.aom_clients.proofs.Kept.{sessions-client, sessions-open, sessions-part, sent-taken, sent-complete}
 use Rattle.aom_clients.proofs.Leaving.{place}
-use Rattle.aom_clients.proofs.Plain.{false-true, nothing}
 use Rattle.aom_clients.proofs.Waiting.{taken-told}
 use Rattle.aom_clients.proofs.Steps.{client, queued-of, IsAsking, asking, asks, IsEnding, ending, NamesNone}
 use Rattle.aom_clients.proofs.Steps.{names-none, client-is, place-is, queue-is, cell, among, waiting-below}
 
 -- a list by its first node
 pub shape : (xs : List ℕ) (n : ℕ) → first_of xs ≡ Some n → xs ≡ n ∷ rest_of xs
-shape [] n e = absurd (nothing n e)
+shape [] n e = absurd (none-some n e)
 shape (x ∷ xs) n e = ap (λ y. y ∷ xs) (same_Some x n e)
 
 -- nothing was there to be taken
 pub empty : (xs : List ℕ) → None ≡ first_of xs → xs ≡ []
 empty [] e = refl
-empty (x ∷ xs) e = absurd (nothing x e)
+empty (x ∷ xs) e = absurd (none-some x e)
 
 pub none-taken : (t : Table) (k : ℕ) → None ≡ first_of (list_at t k) → with_list k (rest_of (list_at t k)) t ≡ t
 none-taken t k e = grind (arith, nat_tests, empty, set-get_or t.lists k)
@@ -238,7 +237,7 @@ module _ (cl : List Client) (pl : List MessagePlace) (q cn ss st : Table) (r : I
         connected = sessions-client cl ss c Unconnected (among cl pl q cn ss st r s is c less) (sym mine.server) r.connected;
         out = r.out;
         named = named-as _ q q1 (alike-with q k ns)
-            (named-set cl (length q.lists) c Unconnected (among cl pl q cn ss st r s is c less) (λ j h. absurd (nothing j h)) (omega arith) r.named);
+            (named-set cl (length q.lists) c Unconnected (among cl pl q cn ss st r s is c less) (λ j h. absurd (none-some j h)) (omega arith) r.named);
       };
       seen = ap (λ qs. record { clients = slice_set cl c Unconnected; places = pl; queues = qs; sessions = ss.lists; sent = take 64 st.lists }) shown-rest;
     })
@@ -332,7 +331,7 @@ module _ (cl : List Client) (pl : List MessagePlace) (q cn ss st : Table) (r : I
       session-cell = omega (arith, r.sized.sessions_long, r.named.servers c k (ap named_by was))
 
       pub session-free : IsFree ss c
-      session-free = record { nowhere = λ j i. nothing j (sym ask.server ∙ r.connected.has j c i) }
+      session-free = record { nowhere = λ j i. none-some j (sym ask.server ∙ r.connected.has j c i) }
 
       pub opened-kept : IsKept (slice_set cl c (Open k n slots)) pl q4 cn4 (with_list k (list_at ss k ++ c ∷ []) ss) st
       opened-kept = record {
@@ -361,7 +360,7 @@ module _ (cl : List Client) (pl : List MessagePlace) (q cn ss st : Table) (r : I
       connected = sessions-client cl ss c Unconnected (among cl pl q cn ss st r s is c small) (sym ask.server) r.connected;
       out = r.out;
       named = named-as _ q q4 (alike-without q (1024 + c))
-          (named-set cl (length q.lists) c Unconnected (among cl pl q cn ss st r s is c small) (λ j h. absurd (nothing j h)) (omega arith) r.named);
+          (named-set cl (length q.lists) c Unconnected (among cl pl q cn ss st r s is c small) (λ j h. absurd (none-some j h)) (omega arith) r.named);
     }
 
     pub disconnected-seen : state_of (slice_set cl c Unconnected) pl q4 ss st ≡ opened (client_at s c) None c s
@@ -371,7 +370,7 @@ module _ (cl : List Client) (pl : List MessagePlace) (q cn ss st : Table) (r : I
         by : (x : Client) → is_connecting x ≡ true → client cl c ≡ x → with_client c Unconnected (record (state_of cl pl q ss
             st) { queues = map (filter (is_no_connect_of c)) (shown entry_of q.lists) }) ≡ opened (client cl c) None c (state_of cl pl q ss st)
         by (Connecting k slots) e was = sym (ap (λ x. opened x None c (state_of cl pl q ss st)) was)
-        by _ e was = absurd (false-true e)
+        by _ e was = absurd (false≢true e)
 
   -- a close was served ----------------------------------------------------------------------------------------------------------------------
   module _ (c : ℕ) (next : Client) (small : c < 64) (over : is_ending (client_at s c) ≡ true) (alone : is_apart next ≡ true) where
@@ -412,8 +411,8 @@ module _ (cl : List Client) (pl : List MessagePlace) (q cn ss st : Table) (r : I
   -- a message is completed ------------------------------------------------------------------------------------------------------------------
   module _ (m : ℕ) (below : m < 1024) (out : IsSome (completion (place_at s m))) where
     not-queued : (p : MessagePlace) → IsSome (completion p) → is_queued p ≡ true → ⊥
-    not-queued (Queued c) some e = false-true some
-    not-queued _ some e = false-true e
+    not-queued (Queued c) some e = false≢true some
+    not-queued _ some e = false≢true e
 
     pub complete-kept : IsKept cl (slice_set pl m Free) q cn ss (record st { lists = map (without m) st.lists })
     complete-kept = record {

@@ -1,7 +1,7 @@
 -- The lists of messages once a client left its server, or its server went.
 use Rattle.std.proofs.Common.{◌≡◌, ◌≢◌, ◌<◌, ◌≤◌, ◌+◌, ◌⊎◌, ◌++◌, ℕ, true, List, [], length, sym, ap, ◌∙◌, subst, inl, inr, arith}
 use Rattle.std.specs.Prelude.{map}
-use Rattle.std.proofs.lemmas.Bool.{cases_eq}
+use Rattle.std.proofs.lemmas.Bool.{cases_eq, false≢true}
 use Rattle.std.proofs.lemmas.Bool.Decides.{nat_tests}
 use Rattle.std.proofs.lemmas.List.{length-set, get_or-set_same, get_or-set_other}
 use Rattle.std.proofs.Math.ListN.{get_or-map}
@@ -14,7 +14,6 @@ use Rattle.aom_clients.specs.Table.{is_out_of}
 use Rattle.aom_clients.specs.Clients.{left_place}
 use Rattle.aom_clients.specs.Nodes.{is_held_of, AreSent}
 use Rattle.aom_clients.proofs.Leaving.{place}
-use Rattle.aom_clients.proofs.Plain.{false-true}
 
 -- what another client's message is, it stays
 left-other : (c d : ℕ) (p : MessagePlace) → d ≢ c → is_out_of d p ≡ true → left_place c p ≡ p
@@ -126,7 +125,7 @@ module _ (pl : List MessagePlace) (st : Table) (c : ℕ) (small : c < 64) (long 
         past d n less i (inr other) = grind (arith, nat_tests, same-else (64 + d))
 
         never : (d n : ℕ) → place pl n ≡ Queued d → d ≡ c → IsIn n (list_at st d) → ⊥
-        never d n e same i = false-true (sym (ap (is_held_of c) e) ∙ holds n (subst (λ k. IsIn n (list_at st k)) same i))
+        never d n e same i = false≢true (sym (ap (is_held_of c) e) ∙ holds n (subst (λ k. IsIn n (list_at st k)) same i))
 
         waiting : (d n : ℕ) → place pl n ≡ Queued d → (d ≡ c) ⊎ (d ≢ c) → (d < 64) × IsIn n (list_at moved d)
         waiting d n e (inl same) = absurd (never d n e same (s.waiting d n e).1)

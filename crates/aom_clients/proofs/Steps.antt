@@ -2,8 +2,8 @@
 use Rattle.std.proofs.Common.{◌≡◌, ◌≢◌, ◌<◌, ◌≤◌, ◌+◌, ◌-◌, ◌⊎◌, ◌++◌, ℕ, zero, suc, true, List, [], ◌∷◌}
 use Rattle.std.proofs.Common.{Some, None, length, take, refl, sym, ap, ◌∙◌, subst, inl, inr, arith}
 use Rattle.std.specs.Prelude.{map, slice_index_or, slice_set}
-use Rattle.std.proofs.lemmas.Bool.{eq-eqb, eqb-true}
-use Rattle.std.proofs.lemmas.Option.{same_Some}
+use Rattle.std.proofs.lemmas.Bool.{cases_lt, eq-eqb, eqb-true, false≢true}
+use Rattle.std.proofs.lemmas.Option.{none-some, same_Some}
 use Rattle.std.proofs.lemmas.List.{length-set, length-map, get_or-set_same, get_or_past, get_or-take}
 use Rattle.aom_clients.specs.Lists.{Table, IsIn, IsFree, list_at, with_list}
 use Rattle.aom_clients.specs.declared.client.Client.{Client}
@@ -20,7 +20,6 @@ use Rattle.aom_clients.proofs.Tables.{alike-same, alike-with, pushed-in, push-ke
 use Rattle.aom_clients.proofs.Kept.{at-write, sized-as, named-set, named-as, entries-client, IsApt, entries-push}
 use Rattle.aom_clients.proofs.Kept.{listed-push-connect, listed-push-other, sessions-client, sent-send}
 use Rattle.aom_clients.proofs.Leaving.{place-there, place}
-use Rattle.aom_clients.proofs.Plain.{cases_lt, false-true, nothing}
 
 abbrev pub client : List Client → ℕ → Client
 client cl c = slice_index_or cl c Unconnected
@@ -33,8 +32,8 @@ pub record IsAway (x : Client) : Type 0 where
   pub opened : (k : ℕ) → is_open_at k x ≡ true → ⊥
 
 pub away : (x : Client) → (row x).connect ≡ None → IsAway x
-away Unconnected e = record { server = refl; connecting = λ k h. false-true h; leaving = λ k h. false-true h; opened = λ k h. false-true h }
-away Gone e = record { server = refl; connecting = λ k h. false-true h; leaving = λ k h. false-true h; opened = λ k h. false-true h }
+away Unconnected e = record { server = refl; connecting = λ k h. false≢true h; leaving = λ k h. false≢true h; opened = λ k h. false≢true h }
+away Gone e = record { server = refl; connecting = λ k h. false≢true h; leaving = λ k h. false≢true h; opened = λ k h. false≢true h }
 away _ e = absurd (cc)
 
 -- a client that is connecting has no session
@@ -44,8 +43,8 @@ pub record IsAsking (x : Client) : Type 0 where
   pub opened : (k : ℕ) → is_open_at k x ≡ true → ⊥
 
 pub asking : (x : Client) → is_connecting x ≡ true → IsAsking x
-asking (Connecting k n) e = record { server = refl; leaving = λ k h. false-true h; opened = λ k h. false-true h }
-asking _ e = absurd (false-true e)
+asking (Connecting k n) e = record { server = refl; leaving = λ k h. false≢true h; opened = λ k h. false≢true h }
+asking _ e = absurd (false≢true e)
 
 pub asks : (k : ℕ) (x : Client) → is_connecting_at k x ≡ true → is_connecting x ≡ true
 asks k (Connecting j n) e = refl
@@ -62,56 +61,56 @@ pub record IsWith (k : ℕ) (x : Client) : Type 0 where
   pub slots : slots_of (at_gone x) ≤ 64
 
 pub is-with : (k : ℕ) (x : Client) → server_of x ≡ Some k → IsWith k x
-is-with k Unconnected e = absurd (nothing k e)
-is-with k (Connecting j n) e = absurd (nothing k e)
+is-with k Unconnected e = absurd (none-some k e)
+is-with k (Connecting j n) e = absurd (none-some k e)
 is-with k (Open j s n) e =
     let same : j ≡ k = same_Some j k e in
     record {
-      connecting = λ i h. false-true h;
-      leaving = λ i h. absurd (false-true h);
+      connecting = λ i h. false≢true h;
+      leaving = λ i h. absurd (false≢true h);
       opened = λ i h. sym (eqb-true j i h) ∙ same;
       named = e;
       gone = refl;
-      unnamed = λ i h. nothing i h;
+      unnamed = λ i h. none-some i h;
       slots = omega arith;
     }
 is-with k (Closing j s) e =
     let same : j ≡ k = same_Some j k e in
     record {
-      connecting = λ i h. false-true h;
+      connecting = λ i h. false≢true h;
       leaving = λ i h. sym (eqb-true j i h) ∙ same;
-      opened = λ i h. absurd (false-true h);
+      opened = λ i h. absurd (false≢true h);
       named = e;
       gone = refl;
-      unnamed = λ i h. nothing i h;
+      unnamed = λ i h. none-some i h;
       slots = omega arith;
     }
-is-with k Gone e = absurd (nothing k e)
-is-with k Dead e = absurd (nothing k e)
+is-with k Gone e = absurd (none-some k e)
+is-with k Dead e = absurd (none-some k e)
 is-with k (Dying j s) e =
     let same : j ≡ k = same_Some j k e in
     record {
-      connecting = λ i h. false-true h;
+      connecting = λ i h. false≢true h;
       leaving = λ i h. sym (eqb-true j i h) ∙ same;
-      opened = λ i h. absurd (false-true h);
+      opened = λ i h. absurd (false≢true h);
       named = e;
       gone = refl;
-      unnamed = λ i h. nothing i h;
+      unnamed = λ i h. none-some i h;
       slots = omega arith;
     }
 
 pub open-named : (k : ℕ) (x : Client) → is_open_at k x ≡ true → named_by x ≡ Some k
 open-named k (Open j s n) e = ap Some (eqb-true j k e)
-open-named k _ e = absurd (false-true e)
+open-named k _ e = absurd (false≢true e)
 
 pub record IsEnding (x : Client) : Type 0 where
   pub connecting : (j : ℕ) → is_connecting_at j x ≡ true → ⊥
   pub opened : (j : ℕ) → is_open_at j x ≡ true → ⊥
 
 pub ending : (x : Client) → is_ending x ≡ true → IsEnding x
-ending (Closing j s) e = record { connecting = λ i h. false-true h; opened = λ i h. false-true h }
-ending (Dying j s) e = record { connecting = λ i h. false-true h; opened = λ i h. false-true h }
-ending _ e = absurd (false-true e)
+ending (Closing j s) e = record { connecting = λ i h. false≢true h; opened = λ i h. false≢true h }
+ending (Dying j s) e = record { connecting = λ i h. false≢true h; opened = λ i h. false≢true h }
+ending _ e = absurd (false≢true e)
 
 pub record NamesNone (x : Client) : Type 0 where
   pub server : server_of x ≡ None
@@ -119,10 +118,10 @@ pub record NamesNone (x : Client) : Type 0 where
   pub slots : slots_of x ≤ 64
 
 pub names-none : (x : Client) → is_apart x ≡ true → NamesNone x
-names-none Unconnected e = record { server = refl; named = λ j h. nothing j h; slots = omega arith }
-names-none Gone e = record { server = refl; named = λ j h. nothing j h; slots = omega arith }
-names-none Dead e = record { server = refl; named = λ j h. nothing j h; slots = omega arith }
-names-none _ e = absurd (false-true e)
+names-none Unconnected e = record { server = refl; named = λ j h. none-some j h; slots = omega arith }
+names-none Gone e = record { server = refl; named = λ j h. none-some j h; slots = omega arith }
+names-none Dead e = record { server = refl; named = λ j h. none-some j h; slots = omega arith }
+names-none _ e = absurd (false≢true e)
 
 -- the lists of slots: the first 64
 pub take-set-lt : {A : Type 0} (n : ℕ) (xs : List A) (i : ℕ) (v : A) → i < n → take n (slice_set xs i v) ≡ slice_set (take n xs) i v
@@ -132,11 +131,11 @@ take-set-lt (suc n) (x ∷ xs) zero v small = refl
 take-set-lt (suc n) (x ∷ xs) (suc i) v small = ap (λ ys. x ∷ ys) (take-set-lt n xs i v (omega (arith, small)))
 
 pub never-free : (p : MessagePlace) → is_queued p ≡ true → p ≡ Free → ⊥
-never-free p e f = false-true (sym (ap is_queued f) ∙ e)
+never-free p e f = false≢true (sym (ap is_queued f) ∙ e)
 
 pub queued-of : (p : MessagePlace) → is_queued p ≡ true → (c : ℕ) × (p ≡ Queued c)
 queued-of (Queued c) e = (c, refl)
-queued-of _ e = absurd (false-true e)
+queued-of _ e = absurd (false≢true e)
 
 module _ (cl : List Client) (pl : List MessagePlace) (q cn ss st : Table) (r : IsKept cl pl q cn ss st) (s : State) (is : state_of cl pl q ss st ≡ s) where
   -- the words of contracts and those of the lists
@@ -247,10 +246,10 @@ module _ (cl : List Client) (pl : List MessagePlace) (q cn ss st : Table) (r : I
     send-free = record { nowhere = λ l i. go l (cases_lt l 64) (cases_lt l 128) i }
       where
         out-free : (d : ℕ) (p : MessagePlace) → p ≡ Free → is_out_of d p ≡ true → ⊥
-        out-free d p e h = false-true (sym (ap (is_out_of d) e) ∙ h)
+        out-free d p e h = false≢true (sym (ap (is_out_of d) e) ∙ h)
 
         held-free : (d : ℕ) (p : MessagePlace) → p ≡ Free → is_held_of d p ≡ true → ⊥
-        held-free d p e h = false-true (sym (ap (is_held_of d) e) ∙ h)
+        held-free d p e h = false≢true (sym (ap (is_held_of d) e) ∙ h)
 
         go : (l : ℕ) → (l < 64) ⊎ (64 ≤ l) → (l < 128) ⊎ (128 ≤ l) → IsIn m (list_at st l) → ⊥
         go l (inl less) b i = out-free l (place pl m) is-free (r.out.out l m less i)
