@@ -1,7 +1,8 @@
 -- How many statements declare a name by a keyword, and how many stand before the end of a method.
 use Rattle.std.proofs.lemmas.Bool.{false≢true, false_from_ne_true}
-use Rattle.std.proofs.lemmas.Option.{same_Some, none-some}
-use Rattle.std.proofs.Common.{◌≡◌, ◌∙◌, refl, sym, ap, subst, arith, ℕ, suc, ◌+◌, Bool, true, false, List, [], ◌∷◌, ◌++◌, length, length-append, cond, Option}
+use Rattle.std.proofs.lemmas.Bool.Decides.{nat_tests}
+use Rattle.std.proofs.lemmas.Option.{same_Some}
+use Rattle.std.proofs.Common.{◌≡◌, ◌∙◌, refl, sym, ap, arith, ℕ, suc, ◌+◌, Bool, true, false, List, [], ◌∷◌, ◌++◌, length, length-append, Option}
 use Rattle.std.proofs.Common.{Some, None, Ok}
 use Rattle.std.specs.Prelude.{if◌then◌else◌}
 use Rattle.std.specs.List.{find}
@@ -95,12 +96,8 @@ takes_no_end (w ∷ ws) is = ap (λ (b : Bool). if b then (true, ws) else (false
 -- ---- words
 
 pub found_passes : {X : Type 0} (test : X → Bool) (xs : List X) (x : X) → find test xs ≡ Some x → test x ≡ true
-found_passes test [] x is = absurd (none-some x is)
-found_passes test (y ∷ ys) x is = go (test y) refl (found_passes test ys x) is
-  where
-    go : (b : Bool) → test y ≡ b → (find test ys ≡ Some x → test x ≡ true) → cond b (Some y) (find test ys) ≡ Some x → test x ≡ true
-    go true passes later found = subst (λ z. test z ≡ true) (same_Some y x found) passes
-    go false passes later found = later found
+found_passes test [] x is = absurd cc
+found_passes {X} test (y ∷ ys) x is = grind (arith, nat_tests, same_Some y x, found_passes test ys x)
 
 known_is : (w : List ℕ) (o : Option Keyword) (key : Keyword) → known w o ≡ Ok key → o ≡ Some key
 known_is w o key is = some_given (λ o. known w o ≡ Ok key) o is (λ e. no_ok _ key e) (λ x same e. same ∙ ap Some (ok_is x key e))

@@ -29,7 +29,7 @@ use Rattle.aom_typings.specs.Costs.{ArePrices, destructor_price}
 use Rattle.aom_typings.specs.Dispatches.{IsAffordable, main_price, method_price, root_price}
 use Rattle.aom_typings.specs.Layers.{SayTheSame}
 use Rattle.aom_typings.specs.Prices.{Prices, price}
-use Rattle.aom_budget.proofs.TypingsLemmas.{IsCovered, destructs_within, found_of, going_alike, law_one, method_is_some, prices_alike}
+use Rattle.aom_budget.proofs.TypingsLemmas.{IsCovered, destructs_within, found_of, going_alike, law_one, prices_alike, standing, within_method}
 use Rattle.aom_budget.specs.Budgets.{BudgetsWithin, CostsWithin, IsBefore, IsOver, class_declares, class_price}
 use Rattle.aom_budget.specs.Budgets.{budget_of, declared_by, kind_price, payer_price, role_price}
 use Rattle.aom_budget.specs.Faults.{Refuses, RefusesOrWants}
@@ -39,7 +39,7 @@ use Rattle.aom_budget.specs.declared.fault.BudgetFault.{BudgetFault}
 use Rattle.aom_budget.specs.declared.fault.BudgetFault.TheVariants.{OverBudget, TooDeep, CleanupTooDeep, OutOfMemory}
 use Rattle.aom_budget.specs.declared.fault.Payer.{Payer}
 use Rattle.aom_budget.specs.declared.fault.Payer.TheVariants.{Main, Class}
-use Rattle.aom_budget.proofs.Priced.{method_there, pays_before}
+use Rattle.aom_budget.proofs.Priced.{pays_before}
 
 -- main, and what plays a role in a class, are methods
 main_there : (p : Image) (m : ℕ) → main_of p ≡ Some m → IsSome (method_at p m)
@@ -56,7 +56,7 @@ some_main p linked = some_given (λ o. IsSome o) (main_of p) linked.main (λ som
 pub covered : (p : Image) (t d : Typing) → IsStrongest p t → IsStrongest p d → IsCovered p t d
 covered p t d one other = record {
   each = λ m place sh i stands.
-      let some = method_there p m place i stands.instr in
+      let some = standing p m place i stands.instr in
       let mine = one.each m some in
       let its = other.each m some in
       let down = (its.least (at [] t m) mine.typed).each in
@@ -122,7 +122,7 @@ module _ (p : Image) (prices : List ℕ) (h : ArePriced p prices) where
       arith,
       found_of p formed linked whole h.told.whole.are.classes x,
       going_alike 4294967296 p (price_by prices) (destructor_price whole) refl x
-          (λ k runs. omega (arith, price_found k (method_is_some p k (destructs_within p x k runs)))),
+          (λ k runs. omega (arith, price_found k (within_method p k (destructs_within p x k runs)))),
     )
 
     root_found : (root : Option ℕ) → root_by p prices root ≡ min 4294967296 (root_price whole root)

@@ -1,7 +1,8 @@
 -- What destructions cost while the methods are priced: it grows with the destructors alone.
 use Rattle.std.proofs.lemmas.Bool.Decides.{nat_tests}
-use Rattle.std.proofs.Common.{List, cond, Some, ap, arith, length, refl, slice_set, subst, suc, sym, zero, ℕ, ◌*◌, ◌+◌, ◌<◌, ◌∙◌, ◌≡◌, ◌≤◌, ⊎_elim}
+use Rattle.std.proofs.Common.{List, cond, Some, ap, arith, length, refl, slice_set, subst, sym, ℕ, ◌+◌, ◌<◌, ◌∙◌, ◌≡◌, ◌≤◌, ⊎_elim}
 use Rattle.std.specs.Prelude.{max}
+use Rattle.std.proofs.Math.Nat.{mul-le-mul_left}
 use Rattle.std.proofs.lemmas.Bool.{cases_lt}
 use Rattle.std.proofs.lemmas.Bool.Decides.{eqb_tells}
 use Rattle.aom_image.specs.Image.{Image}
@@ -27,10 +28,6 @@ use Rattle.aom_budget.proofs.Lined.{absent_kind, absent_line, cancels_play, dest
 use Rattle.aom_budget.proofs.Raised.{IsRaised, below_absent, raised_all}
 
 -- ---- made class by class
-
-times_more : (n x y : ℕ) → x ≤ y → n * x ≤ n * y
-times_more zero x y h = omega arith
-times_more (suc n) x y h = let rest = times_more n x y h in omega (arith, rest, h)
 
 -- what is kept of the most is the most of what is kept
 most_kept : (p : Image) (f : ℕ → ℕ) (c : ℕ) → most_below p (λ y. kept (f y)) c ≡ kept (most_below p f c)
@@ -79,7 +76,8 @@ module _ (p : Image) (ns : List ℕ) (m v : ℕ) (d : Method) (there : method_at
 
     pub destruction_grows : (x : Thing) → destruction_by p ns x ≤ destruction_by p (slice_set ns m v) x
     destruction_grows x =
-        let grows = all_related (λ x y. x ≤ y) (omega arith) times_more (omega arith) (λ x y z w a b. omega (arith, a, b)) (λ x y z w a b. omega (arith, a, b))
+        let grows = all_related (λ x y. x ≤ y) (omega arith) (λ n x y h. mul-le-mul_left n h)
+        (omega arith) (λ x y z w a b. omega (arith, a, b)) (λ x y z w a b. omega (arith, a, b))
         (price_by ns) (price_by (slice_set ns m v)) (omega arith) p x (λ k runs. price_grows k) in
         omega (arith, grows)
 

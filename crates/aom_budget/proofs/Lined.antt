@@ -3,7 +3,7 @@ use Rattle.std.proofs.lemmas.Bool.Decides.{nat_tests}
 use Rattle.std.proofs.Common.{Bool, IfSome, List, None, Option, Some, [], ap, arith, inl, inr, length, refl, suc, sym, true, zero, ℕ, ◌++◌, ◌+◌, ◌==◌, ◌||◌}
 use Rattle.std.proofs.Common.{◌∙◌, ◌∷◌, ◌≡◌, ◌≤◌}
 use Rattle.std.specs.Prelude.{max}
-use Rattle.std.proofs.lemmas.Bool.{eq-eqb}
+use Rattle.std.proofs.lemmas.Bool.{eq-eqb, or_right}
 use Rattle.std.proofs.lemmas.Option.{slice_get_past, same_Some}
 use Rattle.aom_budget.proofs.ImageLemmas.{some_given}
 use Rattle.aom_image.specs.Image.{Image}
@@ -108,9 +108,6 @@ in_lines p (suc n) (Some c) k h = elim (among_either k (listed (own_role p c Des
   | inl here ↦ (c, ap (λ b. b || descends_in p n (parent_of p c) c) (eq-eqb c c refl), listed_is (own_role p c Destruct) k here)
   | inr rest ↦ let w = in_lines p n (parent_of p c) k rest in (w.0, or_right (c == w.0) (descends_in p n (parent_of p c) w.0) w.1, w.2)
 ]
-  where
-    or_right : (a b : Bool) → b ≡ true → (a || b) ≡ true
-    or_right a b h = grind arith
 
 in_line : (p : Image) (c k : ℕ) → Among k (lines_of p (Some c)) → InLine p (Object c) k
 in_line p c k h = in_lines p c (Some c) k h

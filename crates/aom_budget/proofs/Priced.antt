@@ -11,7 +11,6 @@ use Rattle.aom_image.specs.WellFormed.{WellFormed}
 use Rattle.aom_instructions.specs.declared.instr.Instr.{Instr}
 use Rattle.aom_image.specs.declared.method.Thing.{Thing}
 use Rattle.aom_classes.specs.Linked.{IsLinked}
-use Rattle.aom_budget.proofs.ClassesLemmas.{of_method}
 use Rattle.aom_shape.specs.Kinds.{register}
 use Rattle.aom_shape.specs.Shape.{Shape}
 use Rattle.aom_roles.specs.Tables.{at}
@@ -24,7 +23,7 @@ use Rattle.aom_typings.specs.Strongest.{IsMethodStrongest, IsStrongest}
 use Rattle.aom_typings.specs.Charges.{Charge, No_charge, A_call, An_operation, A_destruction, A_cancel, charge_of}
 use Rattle.aom_typings.specs.Calls.{Among, object_class, destructors, called_for, callees, CallsAt}
 use Rattle.aom_budget.proofs.TypingsLemmas.{cancel_among, from_each, going_same, image_strongest, law_up_to, method_within, nothing_there, run_among}
-use Rattle.aom_budget.proofs.TypingsLemmas.{runs_among}
+use Rattle.aom_budget.proofs.TypingsLemmas.{runs_among, standing}
 use Rattle.aom_typings.specs.Prices.{Prices}
 use Rattle.aom_typings.specs.Costs.{destructor_price}
 use Rattle.aom_typings.specs.Layers.{KindDestructs, Pays, PaysFor, PaysBefore}
@@ -51,13 +50,10 @@ charge_called p m sh A_cancel k e = cancel_among p (method_class p m) k e
 paid_called : (p : Image) (m : ℕ) (sh : Shape) (i : Instr) (k : ℕ) → Pays p m sh i k → Among k (callees p m sh i)
 paid_called p m sh i k e = charge_called p m sh (charge_of i) k e
 
-pub method_there : (p : Image) (m place : ℕ) (i : Instr) → instr_at p m place ≡ Some i → IsSome (method_at p m)
-method_there p m place i stands = let w = of_method p m place i stands in rw w.1 refl
-
 pub pays_before : (p : Image) (t : Typing) → IsLinked p → IsStrongest p t → PaysBefore p t
 pays_before p t linked strongest = record {
   each = λ m place k sh i stands e.
-      let states = strongest.each m (method_there p m place i stands.instr) in
+      let states = strongest.each m (standing p m place i stands.instr) in
       let calls = paid_called p m sh i k e in
       let call : CallsAt p m (at [] t m) place k = record { shape = sh; there = stands.shape; instr = i; stands = stands.instr; calls = calls } in
       called_lower p m k linked (record { states = at [] t m; strongest = states; place = place; calls = call });
@@ -153,7 +149,7 @@ module _ (p : Image) (prices : List ℕ) (h : Chosen p prices (length p.methods)
   }
 
   nothing_past : (m place : ℕ) → length p.methods ≤ m → instr_at p m place ≡ None
-  nothing_past m place past = grind (arith, nat_tests, none_given, method_within p m, method_there p m place)
+  nothing_past m place past = grind (arith, nat_tests, none_given, method_within p m, standing p m place)
 
   table_swept : IsSweptUpTo 4294967296 p typing table afters
   table_swept = record {

@@ -2,6 +2,7 @@
 use Rattle.std.proofs.Common.{◌≡◌, ◌≢◌, ◌∙◌, ℕ, ◌+◌, Bool, ◌||◌, true, false, ◌<◌, ◌^◌, ◌⊎◌, List, [], ◌∷◌, ◌++◌, Contains}
 use Rattle.std.proofs.Common.{IfErr, IfOk, IsOkAnd, length, map, take, slice_index_or, Option, Some, None, Result, Ok}
 use Rattle.std.proofs.Common.{Err, option_map, unwrap_or, codes, refl, sym, ap, ap₂, inl, inr, subst, arith}
+use Rattle.std.proofs.lemmas.Bool.{both_ways}
 use Rattle.std.proofs.lemmas.List.{get_or-map, length-map, map-append, map_more, take-map}
 use Rattle.std.proofs.lemmas.List.Elements.{Contains-get_or}
 use Rattle.std.specs.Borrow.{Bor}
@@ -84,23 +85,15 @@ no_text rows explain asm none = record { named = none; useful = λ some. absurd 
 
 -- a flag that is not set is not asked for
 pub unset : (rows : List Row) (id : Text) (flag : Bool) → IsFlag (one_of id rows) flag → flag ≡ false → one_of id rows ≢ Some (codes "true")
-unset rows id flag is none asked = both flag none (is.used asked)
-  where
-    both : (f : Bool) → f ≡ false → f ≡ true → ⊥
-    both f a b = cc
+unset rows id flag is none asked = both_ways flag none (is.used asked)
 
 pub set : (rows : List Row) (id : Text) (flag : Bool) → IsFlag (one_of id rows) flag → flag ≡ true → one_of id rows ≢ Some (codes "false")
-set rows id flag is some asked = both flag some (is.unused asked)
-  where
-    both : (f : Bool) → f ≡ true → f ≡ false → ⊥
-    both f a b = cc
+set rows id flag is some asked = both_ways flag (is.unused asked) some
 
 -- lines that nobody asks for, and those of a text
 pub unlined : (rows : List Row) (explain asm lines : Bool) → IsFlag (one_of (codes "lines") rows) lines → lines ≡ false → AsksLines rows explain asm lines
-unlined rows explain asm lines is none = record { set = is; textual = λ some. absurd (both lines none some); alone = λ some. absurd (both lines none some) }
-  where
-    both : (f : Bool) → f ≡ false → f ≡ true → ⊥
-    both f a b = cc
+unlined rows explain asm lines is none =
+    record { set = is; textual = λ some. absurd (both_ways lines none some); alone = λ some. absurd (both_ways lines none some) }
 
 -- lines that are asked for where there is a text, and nothing is explained
 pub lines_textual : {A E : Type 0} (rows : List Row) (explain asm lines : Bool) (fits : Result A E) → IsFlag (one_of (codes "lines") rows) lines →
@@ -123,10 +116,7 @@ names_textual rows asm names (Err e) is textual = tt
 
 -- names that nobody asks for
 pub unnamed : (rows : List Row) (asm names : Bool) → IsFlag (one_of (codes "names") rows) names → names ≡ false → AsksNames rows asm names
-unnamed rows asm names is none = record { set = is; textual = λ some. absurd (both names none some) }
-  where
-    both : (f : Bool) → f ≡ false → f ≡ true → ⊥
-    both f a b = cc
+unnamed rows asm names is none = record { set = is; textual = λ some. absurd (both_ways names none some) }
 
 -- what `clap` takes, and what it does not
 pub declines : (taken : Bool) (met : Option (Text × List Row)) (fault : WordsFault) → Declines true met fault → Declines taken met fault

@@ -5,7 +5,7 @@ use Rattle.std.specs.Option.{is_some}
 use Rattle.std.proofs.Math.ListN.{set}
 use Rattle.std.proofs.lemmas.Bool.{eq-eqb, eqb-true}
 use Rattle.std.proofs.lemmas.List.{get_or-set_other, get_or-set_same, length-set}
-use Rattle.std.proofs.lemmas.Option.{get_or_from_slice_get, slice_get-get_or, slice_get_within}
+use Rattle.std.proofs.lemmas.Option.{get_or_from_slice_get, same_Some, slice_get-get_or, slice_get_within}
 use Rattle.aom_image.specs.Image.{Image}
 use Rattle.aom_image.specs.declared.method.Method.{Method}
 use Rattle.aom_classes.specs.Roles.{is_class, or_else}
@@ -48,9 +48,6 @@ put_other : {X : Type 0} (xs : List X) (i k : ℕ) (x y : X) → (k ≡ i → �
 put_other xs i k x y other at = slice_get-get_or (set xs i x) k y (rw (length-set xs i x) (slice_get_within xs k y at))
     ∙ ap (λ z. Some z) (get_or-set_other xs i k x y other ∙ get_or_from_slice_get xs k y y at)
 
-some_same : {X : Type 0} (x y : X) → Some x ≡ Some y → x ≡ y
-some_same x y e = cc
-
 eqb_differs : (x y : ℕ) → nat_eq x y ≡ false → x ≡ y → ⊥
 eqb_differs x y f same = let t = eq-eqb x y same in cc
 
@@ -62,7 +59,7 @@ kept xs i class k b o is lt none at = go (nat_eq class k) refl
     go : (t : Bool) → nat_eq class k ≡ t → slice_get (set xs i (Some b)) k ≡ Some (or_else o (cond (nat_eq class k) (Some b) None))
     go true same =
         let here : k ≡ i = sym (is ∙ eqb-true class k same) in
-        let empty : o ≡ None = some_same o None (sym at ∙ ap (λ j. slice_get xs j) here ∙ none) in
+        let empty : o ≡ None = same_Some o None (sym at ∙ ap (λ j. slice_get xs j) here ∙ none) in
         ap (λ j. slice_get (set xs i (Some b)) j) here ∙ put_same xs i (Some b) None lt ∙ sym (ap₂ (λ p t. Some (or_else p (cond t (Some b) None))) empty same)
     go false other = put_other xs i k (Some b) o (λ here. eqb_differs class k other (sym is ∙ sym here)) at ∙ stays o b (nat_eq class k) other
 
@@ -85,7 +82,7 @@ pub read_some : (xs : List (Option ℕ)) (i class k : ℕ) (x o : Option ℕ) �
     i < length xs → x ≡ slice_index_or xs i x → is_some x ≡ true → i ≡ class → slice_get xs k ≡ Some o → class ≡ k → (y : ℕ) × (o ≡ Some y)
 read_some xs i class k None o lt is some same at here = cc
 read_some xs i class k (Some y) o lt is some same at here =
-    (y, some_same o (Some y) (sym at ∙ ap (λ j. slice_get xs j) (sym here ∙ sym same) ∙ slice_get-get_or xs i (Some y) lt ∙ ap (λ z. Some z) (sym is)))
+    (y, same_Some o (Some y) (sym at ∙ ap (λ j. slice_get xs j) (sym here ∙ sym same) ∙ slice_get-get_or xs i (Some y) lt ∙ ap (λ z. Some z) (sym is)))
 
 pub past_last : (xs : List (Option ℕ)) (i class k : ℕ) (o : Option ℕ) → length xs ≤ i → i ≡ class → slice_get xs k ≡ Some o → class ≡ k → (y : ℕ) × (o ≡ Some y)
 past_last xs i class k o past same at here = let within = slice_get_within xs k o at in absurd (omega (arith, past, same, here, within))

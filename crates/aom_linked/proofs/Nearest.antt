@@ -2,7 +2,7 @@
 use Rattle.std.proofs.Common.{Bool, IfSome, Option, Some, None, ap, arith, refl, subst, suc, sym, true, zero, ℕ, ◌<◌, ◌∙◌, ◌≡◌, ◌≤◌}
 use Rattle.aom_image.specs.Image.{Image}
 use Rattle.aom_roles.specs.Families.{parent_of}
-use Rattle.aom_linked.proofs.RolesLemmas.{parent_below}
+use Rattle.aom_linked.proofs.RolesLemmas.{fewer, none_below, parent_below}
 use Rattle.aom_classes.specs.Roles.{or_else}
 use Rattle.aom_classes.specs.Overriding.{body_by, body_of, found_in, overrider_of}
 use Rattle.aom_linked.specs.Bodies.{body_above}
@@ -19,19 +19,7 @@ alone None = refl
 alone (Some k) = refl
 
 no_parent : (p : Image) (c : ℕ) → c ≤ 0 → parent_of p c ≡ None
-no_parent p c le = go (parent_of p c) refl
-  where
-    go : (o : Option ℕ) → parent_of p c ≡ o → o ≡ None
-    go None is = refl
-    go (Some e) is = let lt = parent_below p c e is in absurd (omega arith)
-
--- the parent of a class needs a generation less
-fewer : (p : Image) (c n : ℕ) → c ≤ suc n → IfSome (parent_of p c) (λ e. e ≤ n)
-fewer p c n le = go (parent_of p c) refl
-  where
-    go : (o : Option ℕ) → parent_of p c ≡ o → IfSome o (λ e. e ≤ n)
-    go None is = tt
-    go (Some e) is = let lt = parent_below p c e is in omega arith
+no_parent p c le = let none : c ≡ 0 = omega (arith, le) in ap (parent_of p) none ∙ none_below p
 
 no_more : (p : Image) (n c m : ℕ) → c ≤ 0 → or_else (overrider_of p c m) (found_in p n (parent_of p c) m) ≡ overrider_of p c m
 no_more p n c m le = ap (λ o. or_else (overrider_of p c m) (found_in p n o m)) (no_parent p c le) ∙ ap (or_else (overrider_of p c m)) (none_found p n m)

@@ -1,7 +1,7 @@
 -- Descending is an order, by an induction over the generations above a class.
 use Rattle.std.proofs.Common.{Bool, IfSome, Option, Some, None, ap, arith, cond, false, refl, subst, suc, sym, true, zero, ℕ, ◌<◌, ◌==◌, ◌||◌, ◌∙◌, ◌≡◌, ◌≤◌}
 use Rattle.std.specs.Prelude.{nat_lt}
-use Rattle.std.proofs.lemmas.Bool.{eq-eqb, eqb-true, ltb-true, ne_eqb}
+use Rattle.std.proofs.lemmas.Bool.{eq-eqb, eqb-true, ltb-true, ne_eqb, or_right}
 use Rattle.std.proofs.lemmas.List.Elements.{All-get_or}
 use Rattle.std.proofs.lemmas.Option.{get_or_from_slice_get, slice_get_within}
 use Rattle.aom_roles.proofs.ImageLemmas.{some_given}
@@ -93,9 +93,6 @@ child p (suc n) e d is h =
     let above : descends_in p n (parent_of p (suc n)) d ≡ true =
     ap (λ o. descends_in p n o d) is ∙ enough p n e (Some e) d (let lt = parent_below p (suc n) e is in omega arith) (omega arith) ∙ h in
     or_right (suc n == d) (descends_in p n (parent_of p (suc n)) d) above
-  where
-    or_right : (a b : Bool) → b ≡ true → (a || b) ≡ true
-    or_right a b h = grind arith
 
 pub through : (p : Image) (x y z : ℕ) → descends p x y ≡ true → descends p y z ≡ true → descends p x z ≡ true
 through p x y z a b = along p (λ c. descends p c z ≡ true) y (λ c e is h. child p c e z is h) b x a

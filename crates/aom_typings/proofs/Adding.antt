@@ -2,6 +2,7 @@
 use Rattle.std.proofs.lemmas.Bool.Decides.{nat_tests}
 use Rattle.std.proofs.Common.{◌≡◌, ◌<◌, ◌≤◌, ◌+◌, ◌-◌, ◌*◌, ◌∙◌, ℕ, zero, suc, Bool, true, false, cond, List, [], ◌∷◌, length, Some, None, inl, inr, ⊎_elim}
 use Rattle.std.proofs.Common.{refl, sym, ap, arith, subst}
+use Rattle.std.proofs.Math.Nat.{mul-le-mul_left}
 use Rattle.aom_typings.proofs.ImageLemmas.{some_given}
 use Rattle.std.specs.Prelude.{IfSome, IsSome, max}
 use Rattle.std.proofs.lemmas.Option.{slice_get_within}
@@ -57,10 +58,6 @@ most_one c m r P none (f ∷ fs) one = either_max P (cond (is_past r f.0) 0 (c.f
 
 all_rounds : (n b : ℕ) → 0 < n → (n - 1) * b + b ≡ n * b
 all_rounds n b some = let e : n ≡ suc (n - 1) = omega (arith, some) in omega (arith, ap (λ x. x * b) e)
-
-rounds_more : (n a b : ℕ) → a ≤ b → n * a ≤ n * b
-rounds_more zero a b le = omega arith
-rounds_more (suc n) a b le = omega (arith, rounds_more n a b le, le)
 
 -- ---- each place
 
@@ -177,7 +174,7 @@ module _ (p : Image) (t : Typing) (c : Prices) (a : Afters) (m : ℕ) (looped : 
             go v =
                 let same = one_end p looped m place to v.to d n d n body v.body in
                 let less = round.most v.round (subst (λ x. Costs p t c m (Round place x) (suc place) v.round) same v.path) in
-                let all = rounds_more n v.round round.cost less in
+                let all = mul-le-mul_left n less in
                 ⊎_elim (λ (is : k ≡ 1 + n * v.round). omega (arith, found_loop, sum, is, all, follows.around))
                 (λ (x : (out : ℕ) × (e : ℕ) × GoesOut p t m place v.to out × Costs p t c m r out e × (k ≡ 1 + n * v.round + e)).
                 rest_of x.0 x.1 (n * v.round) (subst (λ y. GoesOut p t m place y x.0) same x.2) x.3 x.4 all)

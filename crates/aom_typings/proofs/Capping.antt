@@ -23,7 +23,8 @@ use Rattle.aom_typings.proofs.Adding.{in_code, jumps_forward, leads_on, reached_
 use Rattle.aom_typings.proofs.Capped.{Alike, alike_kept, alike_loop, alike_max, alike_plus}
 use Rattle.aom_typings.proofs.Going.{going_alike}
 use Rattle.aom_typings.proofs.Making.{Found, are_prices, found_prices}
-use Rattle.aom_typings.proofs.Methods.{destructs_within, method_is_some, method_there}
+use Rattle.aom_typings.proofs.Methods.{destructs_within}
+use Rattle.aom_typings.proofs.Typings.{method_within, within_method}
 use Rattle.aom_typings.proofs.Regions.{BeginsLoop, EndsRound, by_kind, ends_after, innermost}
 use Rattle.aom_typings.proofs.Related.{most_related, own_related}
 use Rattle.aom_typings.proofs.Ways.{IsReached, JumpsForward}
@@ -150,7 +151,7 @@ module _ (limit : ℕ) (p : Image) (t : Typing) (looped : IsLooped p) (typed : I
       (agrees_from m before (length d.code) (in_code p m d here)).from 0 (omega arith) (begins.0, begins.1))
 
   all_alike : (k : ℕ) → k < length p.methods → Alike limit (price c k) (price e k)
-  all_alike = each_below (λ j. Alike limit (price c j) (price e j)) (length p.methods) (λ j lt before. method_alike j (method_is_some p j lt) before)
+  all_alike = each_below (λ j. Alike limit (price c j) (price e j)) (length p.methods) (λ j lt before. method_alike j (within_method p j lt) before)
 
   -- ---- a kept number is no more than the limit
 
@@ -185,7 +186,7 @@ law_up_to limit p t c a formed linked typed layered capped = record {
   whole = are_prices p t formed linked typed exact;
   methods = λ m some.
       let kept = kept_within limit p t looped typed layered forward c exact.prices a exact.afters capped exact.swept m some in
-      let same = alike m (method_there p m some) in
+      let same = alike m (method_within p m some) in
       omega (arith, kept, same);
   classes = λ x. omega (
     arith,

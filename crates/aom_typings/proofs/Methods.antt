@@ -1,8 +1,6 @@
 -- Which methods are there, by their numbers.
 use Rattle.std.proofs.lemmas.Bool.Decides.{nat_tests}
 use Rattle.std.proofs.Common.{arith, ◌≡◌, ◌<◌, ℕ, length, Some, inl, inr}
-use Rattle.aom_typings.proofs.ImageLemmas.{some_given}
-use Rattle.std.specs.Prelude.{IsSome}
 use Rattle.std.proofs.lemmas.Option.{slice_get_within}
 use Rattle.aom_image.specs.Image.{Image}
 use Rattle.aom_image.specs.Views.{method_at}
@@ -10,15 +8,11 @@ use Rattle.aom_image.specs.declared.method.Method.{Method}
 use Rattle.aom_image.specs.declared.method.Thing.{Thing}
 use Rattle.aom_image.specs.declared.method.Thing.TheVariants.{Object}
 use Rattle.aom_typings.proofs.ClassesLemmas.{own_found}
-use Rattle.aom_typings.proofs.ShapeLemmas.{there}
 use Rattle.aom_typings.specs.Layers.{Destructs, InLine}
 
 pub method_within : (p : Image) (m : ℕ) (d : Method) → method_at p m ≡ Some d → m < length p.methods
 unfolding method_at
 method_within p m d e = slice_get_within p.methods m d e
-
-pub method_there : (p : Image) (m : ℕ) → IsSome (method_at p m) → m < length p.methods
-method_there p m some = some_given (λ o. IsSome o) (method_at p m) some (λ s. cc) (λ d e s. method_within p m d e)
 
 in_line : (p : Image) (x : Thing) (k : ℕ) → InLine p x k → k < length p.methods
 in_line p x k w = grind (arith, nat_tests, own_found, method_within)
@@ -27,7 +21,3 @@ in_line p x k w = grind (arith, nat_tests, own_found, method_within)
 pub destructs_within : (p : Image) (x : Thing) (k : ℕ) → Destructs p x k → k < length p.methods
 destructs_within p x k (y, stands, inl w) = in_line p y k w
 destructs_within p x k (y, stands, inr w) = in_line p (Object w.0) k w.2
-
-pub method_is_some : (p : Image) (m : ℕ) → m < length p.methods → IsSome (method_at p m)
-unfolding method_at
-method_is_some p m lt = there p.methods m lt

@@ -3,7 +3,7 @@ use Rattle.std.proofs.lemmas.Bool.Decides.{nat_tests}
 use Rattle.std.proofs.Common.{◌≡◌, ◌<◌, ◌≤◌, ◌+◌, ◌==◌, ◌||◌, ℕ, zero, suc, Bool, true, false, cond, length, Option, Some, None, inl, inr, refl}
 use Rattle.std.proofs.Common.{ap, arith, subst, IfSome, slice_get}
 use Rattle.std.specs.Prelude.{max}
-use Rattle.std.proofs.lemmas.Bool.{cases_lt, eqb-true}
+use Rattle.std.proofs.lemmas.Bool.{cases_lt, eq-eqb, eqb-true, or_left, or_right}
 use Rattle.std.proofs.lemmas.Option.{slice_get_within}
 use Rattle.aom_image.specs.Image.{Image}
 use Rattle.aom_image.specs.Views.{class_at}
@@ -162,22 +162,11 @@ module _ (R : ℕ → ℕ → Type 0) (none : R 0 0) (plus : (x y z w : ℕ) →
   unfolding descends_in
   in_related zero None each = none
   in_related (suc n) None each = none
-  in_related zero (Some c) each = one_related (own_role p c Destruct) (λ k is. each k c (same c) is)
-    where
-      same : (x : ℕ) → (x == x) ≡ true
-      same x = grind arith
+  in_related zero (Some c) each = one_related (own_role p c Destruct) (λ k is. each k c (eq-eqb c c refl) is)
   in_related (suc n) (Some c) each = plus (f (own_role p c Destruct)) (g (own_role p c Destruct)) (line_in p f n (parent_of p c))
-      (line_in p g n (parent_of p c)) (one_related (own_role p c Destruct) (λ k is. each k c (left (c == c) (descends_in p n (parent_of p c) c) (same c)) is))
-      (in_related n (parent_of p c) (λ k d h is. each k d (right (c == d) (descends_in p n (parent_of p c) d) h) is))
-    where
-      same : (x : ℕ) → (x == x) ≡ true
-      same x = grind arith
-
-      left : (a b : Bool) → a ≡ true → (a || b) ≡ true
-      left a b h = grind arith
-
-      right : (a b : Bool) → b ≡ true → (a || b) ≡ true
-      right a b h = grind arith
+      (line_in p g n (parent_of p c))
+      (one_related (own_role p c Destruct) (λ k is. each k c (or_left (c == c) (descends_in p n (parent_of p c) c) (eq-eqb c c refl)) is))
+      (in_related n (parent_of p c) (λ k d h is. each k d (or_right (c == d) (descends_in p n (parent_of p c) d) h) is))
 
   pub line_related : (x : Thing) → ((k : ℕ) → InLine p x k → R (f (Some k)) (g (Some k))) → R (line p f x) (line p g x)
   line_related (Object c) each = in_related c (Some c) (λ k d h is. each k (d, h, is))

@@ -12,7 +12,7 @@ pub use Rattle.aom_typings.proofs.At.{IsSweptAt, at_each, from_each}
 pub use Rattle.aom_typings.proofs.Adding.{goes_forward, jumps_forward}
 pub use Rattle.aom_typings.proofs.Going.{all_related, found_of, going_alike, going_same, max_same}
 pub use Rattle.aom_typings.proofs.Places.{nothing_there}
-pub use Rattle.aom_typings.proofs.Methods.{destructs_within, method_is_some}
+pub use Rattle.aom_typings.proofs.Methods.{destructs_within}
 pub use Rattle.aom_typings.proofs.Capped.{alike_times}
 pub use Rattle.aom_typings.proofs.Capping.{law_up_to}
 pub use Rattle.aom_typings.proofs.Unique.{law_one}

@@ -13,7 +13,8 @@ use Rattle.aom_typings.specs.Costs.{ArePrices, Costs, Region, Whole, destructor_
 use Rattle.aom_typings.specs.Costs.Costs.{outside, ends, goes, loops, loops_in}
 use Rattle.aom_typings.specs.PriceLaws.{PricesAreOne}
 use Rattle.aom_typings.specs.Layers.{PaysBefore}
-use Rattle.aom_typings.proofs.Methods.{destructs_within, method_is_some, method_there}
+use Rattle.aom_typings.proofs.Methods.{destructs_within}
+use Rattle.aom_typings.proofs.Typings.{method_within, within_method}
 use Rattle.aom_typings.proofs.Moving.{own_same}
 use Rattle.aom_typings.proofs.Going.{going_same, found_of}
 use Rattle.aom_typings.proofs.Among.{each_below}
@@ -45,11 +46,11 @@ module _ (p : Image) (t : Typing) (c d : Prices) (formed : WellFormed p) (linked
           (λ k paid. before k (layered.each m place k sh i at paid))
 
   same_there : (k : ℕ) → k < length p.methods → price c k ≡ price d k
-  same_there k lt = sym (each_below (λ j. price d j ≡ price c j) (length p.methods) (λ j less before. method_same j (method_is_some p j less) before) k lt)
+  same_there k lt = sym (each_below (λ j. price d j ≡ price c j) (length p.methods) (λ j less before. method_same j (within_method p j less) before) k lt)
 
 pub law_one : PricesAreOne
 law_one p t c d formed linked layered are also = record {
-  methods = λ m some. same_there p t c d formed linked layered are also m (method_there p m some);
+  methods = λ m some. same_there p t c d formed linked layered are also m (method_within p m some);
   classes = λ x. let same = going_same p
       (destructor_price c) (destructor_price d) refl x (λ k runs. same_there p t c d formed linked layered are also k (destructs_within p x k runs)) in
       found_of p formed linked c are.classes x ∙ (same ∙ sym (found_of p formed linked d also.classes x));
