@@ -84,9 +84,11 @@ all_kept : (store : Store) (es : List QueueEntry) → Once (places_in es) →
     ((m : ℕ) → is_among m (places_in es) ≡ true → is_some (message_at store m) ≡ true) → AllKept store es
 all_kept store [] once there = tt
 all_kept store (Connect c ∷ es) once there = (tt, tt, all_kept store es once there)
-all_kept store (Message k ∷ es) once there =
-    (there k (ap (λ b. b || is_among k (places_in es)) (eq-eqb k k refl)), sym (is_there es k) ∙ once.0,
-    all_kept store es once.1 (λ m h. there m (or_right (k == m) (is_among m (places_in es)) h)))
+all_kept store (Message k ∷ es) once there = (
+  there k (ap (λ b. b || is_among k (places_in es)) (eq-eqb k k refl)),
+  sym (is_there es k) ∙ once.0,
+  all_kept store es once.1 (λ m h. there m (or_right (k == m) (is_among m (places_in es)) h)),
+)
 all_kept store (Close c ∷ es) once there = (tt, tt, all_kept store es once there)
 
 -- the lines of entries are told alike

@@ -8,8 +8,8 @@ ghost use Rattle.aom_machine_instructions.specs.Acts.{Does, DoesIn};
 ghost use Rattle.aom_machine_instructions.specs.Cleanup.{TopLives, dealt_with, operating};
 ghost use Rattle.aom_machine_instructions.specs.Next.{IsNext};
 
-use crate::leaving::{self, NO_MEMORY};
 use crate::going;
+use crate::leaving::{self, NO_MEMORY};
 use aom_cells::NULL;
 use aom_frames::{Frame, Item, Task};
 use aom_image::{ClassNumber, MethodNumber, Register};

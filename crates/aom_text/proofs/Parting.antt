@@ -170,19 +170,19 @@ cut [] = record { later = []; parts = refl; behind = refl }
 cut (b ∷ bs) =
     let n = position_or_len is_blank bs in
     let known : (t : Bool) → is_blank b ≡ t → Cut (b ∷ bs) (cond (not t) (1 + n) 0) =
-      λ t. elim t as (λ t. is_blank b ≡ t → Cut (b ∷ bs) (cond (not t) (1 + n) 0)) [
-        | true ↦ λ e. record {
-          later = slice_split is_blank bs;
-          parts = ap (λ t. cond t ([] ∷ slice_split is_blank bs) (onto_first b (slice_split is_blank bs))) e;
-          behind = sym (blank_first b bs (words bs) e refl);
-        }
-        | false ↦ λ e. let rest = cut bs in record {
-          later = rest.later;
-          parts = ap (λ t. cond t ([] ∷ slice_split is_blank bs) (onto_first b (slice_split is_blank bs))) e ∙ ap (onto_first b) rest.parts
-              ∙ ap (λ w. w ∷ rest.later) (sym (take_one n b bs));
-          behind = rest.behind ∙ ap words (sym (drop_one n b bs));
-        }
-      ] in
+    λ t. elim t as (λ t. is_blank b ≡ t → Cut (b ∷ bs) (cond (not t) (1 + n) 0)) [
+      | true ↦ λ e. record {
+        later = slice_split is_blank bs;
+        parts = ap (λ t. cond t ([] ∷ slice_split is_blank bs) (onto_first b (slice_split is_blank bs))) e;
+        behind = sym (blank_first b bs (words bs) e refl);
+      }
+      | false ↦ λ e. let rest = cut bs in record {
+        later = rest.later;
+        parts = ap (λ t. cond t ([] ∷ slice_split is_blank bs) (onto_first b (slice_split is_blank bs))) e ∙ ap (onto_first b) rest.parts
+            ∙ ap (λ w. w ∷ rest.later) (sym (take_one n b bs));
+        behind = rest.behind ∙ ap words (sym (drop_one n b bs));
+      }
+    ] in
     known (is_blank b) refl
 
 -- the first word, of what begins with no blank

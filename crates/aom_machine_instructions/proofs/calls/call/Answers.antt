@@ -22,6 +22,11 @@ enter-requires-clause-within c =
 
 pub returns : goal.returns
 returns c = λ refused to.
-    rw (c.enter.ensures, c.callee-whom.ensures, c.number.ensures.value, c.as_slice.ensures,
-    sym (arguments_there c.args.linked.now c.args.method c.method-called.result.now c.method-called.ensures))
+    rw (
+      c.enter.ensures,
+      c.callee-whom.ensures,
+      c.number.ensures.value,
+      c.as_slice.ensures,
+      sym (arguments_there c.args.linked.now c.args.method c.method-called.result.now c.method-called.ensures),
+    )
     (call_does c.args.linked.now c.args.parts.now refused c.args.on c.args.method c.args.first to)
