@@ -1,13 +1,13 @@
 -- What the requests are by name after each change of the cells.
 use Rattle.std.proofs.lemmas.Bool.Decides.{nat_tests}
-use Rattle.std.proofs.Common.{◌≡◌, ◌==◌, ℕ, ℤ, true, false, cond, List, [], ◌∷◌, Option, Some, None, refl, ap, arith}
+use Rattle.std.proofs.Common.{◌≡◌, ◌==◌, ℕ, ℤ, true, false, List, [], ◌∷◌, Option, Some, None, arith}
 use Rattle.std.specs.Prelude.{is_some}
 use Rattle.std.proofs.Math.Nat.{le-max_left, le-max_right}
 use Rattle.aom_image.specs.declared.method.Thing.{Thing}
 use Rattle.aom_active.proofs.SemanticsLemmas.{named_name, named_without, requested_without, unnamed}
 use Rattle.aom_active.proofs.SafetyLemmas.{requested_here, requested_there, requested_unnamed, service_unnamed, service_without}
 use Rattle.aom_semantics.specs.Enlisted.{next_order, next_timer}
-use Rattle.aom_semantics.specs.Places.{Cell, Object, Place, Request, Tidy, held, named, requested, set_request, set_word_field, with_new, without, Service}
+use Rattle.aom_semantics.specs.Places.{Cell, Object, Place, Request, Tidy, held, named, requested, set_request, with_new, without, Service}
 use Rattle.aom_semantics.specs.Places.{service_of}
 use Rattle.aom_active.specs.Agrees.{queue_in, queued}
 use Rattle.aom_active.specs.Meanings.{AreWanted, IsNewest, IsNewestTimer, asked_anew}
@@ -18,11 +18,6 @@ use Rattle.aom_semantics.specs.Servers.{is_server}
 pub asked_set : (cs : List Cell) (n : ℕ) (r : Option Request) → is_some (named cs n) ≡ true → (m : ℕ) →
     asked_anew n r (requested cs) m ≡ requested (set_request n r cs) m
 asked_set cs n r there m = grind (arith, requested_here cs n r, requested_there cs n m r)
-
--- another word of a cell
-pub asked_written : (cs : List Cell) (n w : ℕ) (v : ℤ) (m : ℕ) → requested (set_word_field n w v cs) m ≡ requested cs m
-asked_written [] n w v m = refl
-asked_written (c ∷ cs) n w v m = ap (λ x. cond (c.object.name == m) c.request x) (asked_written cs n w v m)
 
 -- a new cell is not enlisted
 pub asked_new : (cs : List Cell) (name : ℕ) (thing : Thing) (words : List ℤ) (owner : Place) → named cs name ≡ None → (n : ℕ) →

@@ -30,7 +30,7 @@ use Rattle.aom_budget.proofs.ClassesLemmas.{all_there, at_place, both, cancels_o
 use Rattle.aom_budget.proofs.RolesLemmas.{through}
 use Rattle.aom_rules.specs.Calls.{brought, caught, worked_on, while_called}
 use Rattle.aom_rules.specs.Requests.{resting}
-use Rattle.aom_budget.proofs.ShapeLemmas.{at_put, has_itself}
+use Rattle.aom_budget.proofs.ShapeLemmas.{at-put_at, has_itself}
 use Rattle.aom_shape.specs.Entries.{readied_entry, readied_at, without_top, with_entry}
 use Rattle.aom_shape.specs.Arguments.{after_of, argument_moved, arguments_moved, argument_kind, entry_shape}
 use Rattle.aom_rules.specs.Cleanup.{entry_of, top_kind}
@@ -124,7 +124,7 @@ module _ (p : Image) (m : ℕ) where
 
   set_low : (sh : Shape) (i : ℕ) (k : Kind) → IsLow p m sh → IsTrue (is_low p m k) → IsLow p m (set_register sh i k)
   set_low sh i k h low = record {
-    registers = λ j. rw (at_put Unset sh.registers i j k) (either j (i == j));
+    registers = λ j. rw (at-put_at Unset sh.registers i j k) (either j (i == j));
     entries = h.entries;
   }
     where

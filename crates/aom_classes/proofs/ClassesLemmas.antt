@@ -9,5 +9,5 @@ pub use Rattle.aom_classes.proofs.LoopPlaces.{loop_there, next_there}
 pub use Rattle.aom_classes.proofs.Mentioning.{cancels_own, goes_role}
 pub use Rattle.aom_classes.proofs.Nested.{back_within, scanned_at}
 pub use Rattle.aom_classes.proofs.Nesting.{ClosedBefore, must_pass, next_within}
-pub use Rattle.aom_classes.proofs.Playing.{destroyed, found, main_found, own_found, role_inherits, same_roles}
+pub use Rattle.aom_classes.proofs.Playing.{class_is, destroyed, found, main_found, own_found, role_inherits, same_roles}
 pub use Rattle.aom_classes.proofs.Views.{has_class, has_method, in_class, in_method, read, within}

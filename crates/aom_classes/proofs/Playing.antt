@@ -41,7 +41,7 @@ pub main_found : (p : Image) (m : ℕ) → main_of p ≡ Some m → (d : Method)
 unfolding main_of method_at
 main_found p m e = let w = found is_main p.methods m e in (w.0, w.1, same_roles w.0.role Main w.2)
 
-class_is : (c : ℕ) (own : Option ℕ) → is_class c own ≡ true → own ≡ Some c
+pub class_is : (c : ℕ) (own : Option ℕ) → is_class c own ≡ true → own ≡ Some c
 class_is c own e = some_given (λ o. is_class c o ≡ true) own e (λ none. cc) (λ k is same. is ∙ ap (λ n. Some n) (eqb-true k c same))
 
 -- and what plays a role in a class itself is one of its methods

@@ -2,7 +2,6 @@
 use Rattle.std.proofs.Common.{◌≡◌, ◌≤◌, ◌<◌, ◌+◌, ◌-◌, ◌^◌, ◌∙◌, ◌⊎◌, ℕ, suc, Bool, true, List, Option, Some, None, length, sym}
 use Rattle.std.proofs.Common.{ap, subst, inl, inr, arith}
 use Rattle.std.specs.Prelude.{◌*◌, is_some}
-use Rattle.std.proofs.Math.Nat.{mul-le-mul_right, suc-mul}
 use Rattle.aom_image.specs.Image.{Image}
 use Rattle.aom_semantics.specs.State.{Counters, State}
 use Rattle.aom_semantics.specs.World.{IsBetween, Environment}
@@ -19,7 +18,7 @@ use Rattle.aom_run.specs.Calls.{Stands, StandsFor}
 use Rattle.aom_debug_moves.specs.Sends.{Machine, Sends}
 use Rattle.aom_run.specs.Runs.{Moving}
 use Rattle.aom_run.specs.Turns.{LeadTo}
-use Rattle.aom_debug_moves.proofs.RunLemmas.{moving_spares}
+use Rattle.aom_debug_moves.proofs.RunLemmas.{lower, moving_spares}
 use Rattle.aom_debug_words.specs.declared.spot.Spot.{Spot}
 use Rattle.aom_debug_moves.specs.Moves.{Arrives, TurnsOnce, stays as no_turns, turns}
 use Rattle.aom_debug_moves.specs.Courses.{InDispatch, IsOver, Rests, WalksOn}
@@ -33,13 +32,6 @@ rounds_by n (Some ending) = 0
 
 abbrev pub left_in : List TimedEvent → ℕ → Counters → ℕ
 left_in events limit r = rounds_by (limit - r.dispatches) r.ended * suc (length events) + (length events - r.delivered)
-
--- one less of the first is less, whatever there is of the second
-lower : (a b c d k : ℕ) → a < b → c ≤ k → a * suc k + c < b * suc k + d
-lower a b c d k less most =
-    let all : suc a * suc k ≤ b * suc k = mul-le-mul_right (suc k) (omega (arith, less)) in
-    let one = suc-mul a (suc k) in
-    omega (arith, all, one, most)
 
 not_ended : (e : Option Ending) (ending : Ending) → e ≡ Some ending → e ≡ None → ⊥
 not_ended e ending some none = absurd cc

@@ -24,3 +24,4 @@ pub use Rattle.aom_machine_state.proofs.MachineStateLemmas
 pub use Rattle.aom_safety.proofs.SafetyLemmas
 pub use Rattle.aom_scheduler.proofs.SchedulerLemmas
 pub use Rattle.aom_semantics.proofs.SemanticsLemmas
+pub use Rattle.aom_typings.proofs.TypingsLemmas

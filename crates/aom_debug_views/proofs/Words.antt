@@ -1,7 +1,7 @@
 -- What the strongest typing says is a word is one in each state, also while its method waits: no argument that moves stood there.
 use Rattle.std.proofs.lemmas.Bool.Decides.{nat_tests}
 use Rattle.std.proofs.Common.{arith, ◌≡◌, ◌∙◌, ℕ, suc, ℤ, Bool, true, false, List, [], ◌∷◌, ◌++◌, Option, Some, None, IsSome, slice_index_or}
-use Rattle.std.proofs.Common.{refl, sym, ap, subst, length}
+use Rattle.std.proofs.Common.{refl, sym, ap, subst}
 use Rattle.std.specs.Int.{w32, cast_signed}
 use Rattle.std.proofs.lemmas.Bool.{eqb-true}
 use Rattle.std.proofs.lemmas.Option.{same_Some}
@@ -22,13 +22,13 @@ use Rattle.aom_rules.specs.Rules.{rule_needs, ways_of}
 use Rattle.aom_rules.specs.Typing.{Typing, shape_at}
 use Rattle.aom_shape.specs.Arguments.{arguments_moved}
 use Rattle.aom_shape.specs.Kinds.{is_own_for, may_be_destroyed, register, set_register}
-use Rattle.aom_shape.specs.Order.{Weaker, alike}
+use Rattle.aom_shape.specs.Order.{Weaker}
 use Rattle.aom_shape.specs.Shape.{Shape}
 use Rattle.aom_roles.specs.Tables.{at}
 use Rattle.aom_shape.specs.declared.kind.Kind.{Kind}
 use Rattle.aom_shape.specs.declared.kind.Kind.TheVariants.{Null, Unset, Word}
 use Rattle.aom_semantics.specs.Owned.{over}
-use Rattle.aom_semantics.specs.Places.{Cell, Object, Register, held}
+use Rattle.aom_semantics.specs.Places.{Object, Register, held}
 use Rattle.aom_semantics.specs.State.{Frame, Run, State, Task, word}
 use Rattle.aom_debug_views.proofs.SafetyLemmas.{all_parts}
 use Rattle.aom_debug_views.proofs.SemanticsLemmas.{at-put_at}
@@ -38,16 +38,13 @@ use Rattle.aom_machine_state.specs.declared.parts.Parts.{Parts}
 use Rattle.aom_machine_state.specs.Agrees.{Represents, SameFrame}
 use Rattle.aom_machine_state.specs.Places.{value}
 use Rattle.aom_machine_state.specs.Stands.{Machine, StandsFor}
-use Rattle.aom_machine_state.specs.Waits.{AllWait, KindSays, Waits, waiting_by, while_waiting}
-use Rattle.aom_debug_views.proofs.MachineLemmas.{runs_typed}
+use Rattle.aom_machine_state.specs.Waits.{KindSays, waiting_by, while_waiting}
+use Rattle.aom_debug_views.proofs.MachineLemmas.{runs_typed, waits_under}
+use Rattle.aom_debug_views.proofs.TypingsLemmas.{kind_is}
 use Rattle.aom_debug_views.specs.Frames.{ShowsWord}
 use Rattle.aom_debug_views.proofs.Tasks.{frame_there, parted, register_value, word_over, word_there}
 
 -- ---- two strongest typings of a method say the same of each register
-
-same_kind : (a b : Kind) → Weaker a b → Weaker b a → a ≡ b
-same_kind _ _ alike back = refl
-same_kind _ _ _ back = elim back [ ]
 
 same_shapes : (p : Image) (m : ℕ) (a b : Shapes) → IsMethodStrongest p m a → IsMethodStrongest p m b →
     (pc : ℕ) (sh : Shape) → at None a pc ≡ Some sh → (next : Shape) × (at None b pc ≡ Some next) × ((i : ℕ) → register next i ≡ register sh i)
@@ -57,7 +54,7 @@ same_shapes p m a b x y pc sh there =
     let same = same_Some up.next sh (sym up.there ∙ there) in (
       down.next,
       down.there,
-      λ i. same_kind (register down.next i)
+      λ i. kind_is (register down.next i)
           (register sh i) (down.no_more.registers i) (subst (λ (z : Shape). Weaker (register z i) (register down.next i)) same (up.no_more.registers i)),
     )
 
@@ -95,12 +92,6 @@ module _ (p : Image) (m pc : ℕ) (sh : Shape) (i : ℕ) (is : register sh i ≡
 
 -- ---- so it has a word
 
-under_words : (p : Image) (t : Typing) (cs : List Cell) (above : List Task) (fr : Frame) (below : List Task) → AllWait p t cs (above ++ Run fr ∷ below) →
-    Waits p t cs (length below) fr
-under_words p t cs [] fr below w = w.0
-under_words p t cs (Run g ∷ above) fr below w = under_words p t cs above fr below w.1
-under_words p t cs (_ ∷ above) fr below w = under_words p t cs above fr below w
-
 word_said : (p : Image) (k : Kind) (w : Option ℤ) (o : Option Object) → k ≡ Word → KindSays p k w o → IsSome w
 word_said p k w o is says = (subst (λ x. KindSays p x w o) is says).0
 
@@ -123,7 +114,7 @@ module _ (p : Image) (m : Parts) where
 
     has_word : (above below : List Task) → s.tasks ≡ above ++ Run fr ∷ below → IsSome (word fr i)
     has_word [] below split = grind (arith, runs_typed p st.typing s fr below st.typed split)
-    has_word (task ∷ above) below split = grind (arith, under_words p st.typing s.cells above fr below, while_words)
+    has_word (task ∷ above) below split = grind (arith, waits_under p st.typing s.cells above fr below, while_words)
 
   -- the number in the register is that word
   pub word_shown : (k i : ℕ) (f : Machine_frame) (sh : Shape) → over m.stack.tasks k ≡ Some (Runs_frame f) →

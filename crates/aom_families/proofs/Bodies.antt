@@ -1,22 +1,18 @@
 -- What a call runs is alike to what it names, by an induction over what is overridden.
 use Rattle.std.proofs.Common.{Bool, IfSome, Option, Some, None, ap, false, inl, inr, length, refl, subst, suc, sym, true, zero, ℕ, ◌==◌, ◌||◌, ◌∙◌, ◌≡◌, ◌⊎◌}
 use Rattle.std.proofs.lemmas.Bool.{and_parts, eqb-true}
-use Rattle.aom_families.proofs.ImageLemmas.{some_given}
+use Rattle.aom_families.proofs.ImageLemmas.{has_along, has_itself, some_given}
 use Rattle.aom_image.specs.Image.{Image}
 use Rattle.aom_image.specs.Views.{method_at}
 use Rattle.aom_image.specs.declared.method.Method.{Method}
 use Rattle.aom_image.specs.declared.method.Role.TheVariants.{Do}
-use Rattle.aom_families.proofs.ClassesLemmas.{all_there, found, same_roles}
+use Rattle.aom_families.proofs.ClassesLemmas.{all_there, class_is, found, same_roles}
 use Rattle.aom_classes.specs.Roles.{is_class, or_else}
 use Rattle.aom_families.proofs.RolesLemmas.{child, itself}
-use Rattle.aom_families.proofs.Sets.{has_along, has_itself}
 use Rattle.aom_roles.specs.Families.{parent_of}
 use Rattle.aom_families.specs.Laws.{BodiesAreAlike, IsAlike, RunsAlike}
 use Rattle.aom_classes.specs.Overriding.{AllStandIn, AsksNoMore, StandsIn, StandsInNamed, body_by, body_of, found_in}
 use Rattle.aom_classes.specs.Overriding.{leads_in, leads_to, over_in, over_of, overrider_of, replaces}
-
-class_is : (c : ℕ) (own : Option ℕ) → is_class c own ≡ true → own ≡ Some c
-class_is c own e = some_given (λ o. is_class c o ≡ true) own e (λ none. cc) (λ k is same. is ∙ ap (λ n. Some n) (eqb-true k c same))
 
 -- what asks no more than one that asks no more
 asks_along : (d e f : Method) → AsksNoMore d e → AsksNoMore e f → AsksNoMore d f

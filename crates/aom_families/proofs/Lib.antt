@@ -1,7 +1,6 @@
 mod Bodies
 mod Descending
 mod Inheriting
-mod Sets
 mod Staying
 mod Weighing
 mod Running

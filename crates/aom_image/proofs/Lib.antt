@@ -1,3 +1,4 @@
 mod Given
 mod Lengths
+mod Sets
 pub mod ImageLemmas

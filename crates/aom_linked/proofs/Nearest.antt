@@ -1,5 +1,5 @@
 -- What a call runs on a class, by what the class has itself and what runs on its parent, by an induction over the generations.
-use Rattle.std.proofs.Common.{Bool, IfSome, Option, Some, None, ap, arith, refl, subst, suc, sym, true, zero, ℕ, ◌<◌, ◌∙◌, ◌≡◌, ◌≤◌}
+use Rattle.std.proofs.Common.{IfSome, Option, Some, None, ap, arith, refl, suc, sym, zero, ℕ, ◌∙◌, ◌≡◌, ◌≤◌}
 use Rattle.aom_image.specs.Image.{Image}
 use Rattle.aom_roles.specs.Families.{parent_of}
 use Rattle.aom_linked.proofs.RolesLemmas.{fewer, none_below, parent_below}

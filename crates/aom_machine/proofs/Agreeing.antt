@@ -39,7 +39,7 @@ number_says : (p : Image) (k : Kind) (n : ℕ) (w : Option ℤ) (o : Option Obje
 number_says p x n w o says shows = grind arith
 
 -- a method under other tasks waits
-waits_under : (p : Image) (t : Typing) (cs : List Cell) (above : List Task) (fr : Frame) (below : List Task) → AllWait p t cs (above ++ Run fr ∷ below) →
+pub waits_under : (p : Image) (t : Typing) (cs : List Cell) (above : List Task) (fr : Frame) (below : List Task) → AllWait p t cs (above ++ Run fr ∷ below) →
     Waits p t cs (length below) fr
 waits_under p t cs [] fr below w = w.0
 waits_under p t cs (Run g ∷ above) fr below w = waits_under p t cs above fr below w.1

@@ -1,6 +1,6 @@
 -- A command as the machine does it: its parts in one, from each state that the machine stands for.
 use Rattle.std.proofs.lemmas.Bool.Decides.{nat_tests}
-use Rattle.std.proofs.Common.{ap, arith, Bool, length, List, None, Option, refl, Some, subst, suc, sym, true, ℕ, ◌++◌, ◌<◌, ◌≤◌, ◌==◌, ◌∙◌, ◌∷◌, ◌≡◌, []}
+use Rattle.std.proofs.Common.{ap, arith, length, List, None, Option, refl, Some, subst, suc, sym, true, ℕ, ◌++◌, ◌<◌, ◌≤◌, ◌==◌, ◌∙◌, ◌∷◌, ◌≡◌, []}
 use Rattle.std.specs.Prelude.{Err, IfSome, Ok, Result, is_some, nat_lt, option_map, ◌||◌}
 use Rattle.std.proofs.lemmas.Bool.{eq-eqb, or_right}
 use Rattle.std.proofs.lemmas.Option.{none-some, same_Some}

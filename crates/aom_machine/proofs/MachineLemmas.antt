@@ -2,3 +2,4 @@
 pub use Rattle.aom_machine.proofs.Waiting.{runs_typed}
 pub use Rattle.aom_machine.proofs.Progressing.{at_hand, between, is_as_far}
 pub use Rattle.aom_machine.proofs.Affording.{affords}
+pub use Rattle.aom_machine.proofs.Agreeing.{waits_under}

@@ -57,11 +57,7 @@ use Rattle.aom_machine_instructions.proofs.WordActs.{plain_at}
 use Rattle.aom_machine_instructions.proofs.FieldActs.{this_is}
 use Rattle.aom_machine_instructions.proofs.Running.{object_lives_at, object_class, null_unnamed, Aside, Top, agrees_with, aside_of}
 use Rattle.aom_machine_instructions.proofs.Running.{aside_with, by_top, begun_as, object_small, reframed, no_word}
-
--- a list written at its end
-put_at_end : {A : Type 0} (d : A) (xs : List A) (v : A) → put_at d xs (length xs) v ≡ xs ++ v ∷ []
-put_at_end d [] v = refl
-put_at_end d (x ∷ xs) v = ap (λ ys. x ∷ ys) (put_at_end d xs v)
+use Rattle.aom_machine_instructions.proofs.RolesLemmas.{put_at_end}
 
 length_more : {A : Type 0} (xs : List A) (v : A) → length (xs ++ v ∷ []) ≡ suc (length xs)
 length_more [] v = refl

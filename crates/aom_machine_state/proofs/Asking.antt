@@ -8,7 +8,7 @@ use Rattle.aom_image.specs.declared.method.Argument.{Argument}
 use Rattle.aom_image.specs.declared.method.Argument.TheVariants.{Own as Takes_own, Word as Takes_word}
 use Rattle.aom_image.specs.declared.method.Thing.{Thing}
 use Rattle.aom_machine_state.proofs.SafetyLemmas.{count_asked, each_unslotted_alike, each_unslotted_requests, named_served, named_set_word, requested_served}
-use Rattle.aom_machine_state.proofs.SafetyLemmas.{rerequested_alike, service_here, service_moved, service_stored, service_there}
+use Rattle.aom_machine_state.proofs.SafetyLemmas.{requested_set_word, rerequested_alike, service_here, service_moved, service_stored, service_there}
 use Rattle.aom_semantics.specs.Calls.{passed_cells}
 use Rattle.aom_semantics.specs.Places.{Cell, Object, Place, Register, Request, Service, Tidy, held, moved, named, requested, service_of}
 use Rattle.aom_semantics.specs.Places.{set_service, set_word_field, with_new, without, Elsewhere, Root, set_request, word_field}
@@ -19,7 +19,7 @@ use Rattle.aom_scheduler.specs.Requests.{request_at}
 use Rattle.aom_machine_state.proofs.SemanticsLemmas.{named_moved, requested_moved, requested_without, unrequested}
 use Rattle.aom_active.specs.Agrees.{Active, Tells, queued}
 use Rattle.aom_active.specs.Meanings.{Removes, asked_anew}
-use Rattle.aom_machine_state.proofs.ActiveLemmas.{asked_gone, asked_new, asked_written, queued_gone, queued_same, standing_follows}
+use Rattle.aom_machine_state.proofs.ActiveLemmas.{asked_gone, asked_new, queued_gone, queued_same, standing_follows}
 use Rattle.aom_machine_state.specs.Agrees.{SameRequests, SameCells, thing_of}
 use Rattle.aom_machine_state.specs.Cells.{Delists}
 use Rattle.aom_machine_state.proofs.Cells.{cells_as}
@@ -45,7 +45,7 @@ module _ (p : Image) (a : Active) where
       requests_alike cs (moved q r cs) (requested_moved cs q r) (named_moved cs q r) (λ n. ap (λ (v : Service). v.queue) (service_moved cs q r n)) h
 
   requests_written : (cs : List Cell) (n w : ℕ) (v : ℤ) → SameRequests p a cs → SameRequests p a (set_word_field n w v cs)
-  requests_written cs n w v h = requests_alike cs (set_word_field n w v cs) (asked_written cs n w v) (named_set_word cs n w v)
+  requests_written cs n w v h = requests_alike cs (set_word_field n w v cs) (requested_set_word cs n w v) (named_set_word cs n w v)
       (λ k. ap (λ (x : Service). x.queue) (service_stored cs n w v k)) h
 
   pub requests_stored : (cs : List Cell) (home : Home) (w : ℕ) (v : ℤ) → SameRequests p a cs → SameRequests p a (stored cs home w v)

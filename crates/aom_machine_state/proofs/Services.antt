@@ -3,7 +3,7 @@ use Rattle.std.proofs.lemmas.Bool.Decides.{nat_tests}
 use Rattle.std.proofs.Common.{arith, Bool, List, None, Option, Some, [], ap, cond, false, refl, suc, sym, true, ℕ, ℤ, ◌<◌, ◌==◌, ◌∙◌, ◌∷◌, ◌≡◌}
 use Rattle.std.specs.Prelude.{option_map}
 use Rattle.std.proofs.lemmas.Bool.{eqb-true}
-use Rattle.aom_machine_state.proofs.ActiveLemmas.{asked_new, asked_set, asked_written}
+use Rattle.aom_machine_state.proofs.ActiveLemmas.{asked_new, asked_set}
 use Rattle.aom_clients.specs.Clients.{State as Kept_state}
 use Rattle.aom_clients.specs.declared.client.Client.{Client}
 use Rattle.aom_image.specs.Image.{Image}
@@ -13,7 +13,7 @@ use Rattle.aom_image.specs.declared.method.Thing.TheVariants.{Object as An_objec
 use Rattle.aom_cells.specs.Store.{Store}
 use Rattle.aom_clients.specs.Lists.{Table}
 use Rattle.aom_machine_state.proofs.SemanticsLemmas.{named_moved, requested_moved}
-use Rattle.aom_machine_state.proofs.SafetyLemmas.{named_set_word, rerequested_alike, resessioned_alike, resessioned_requests}
+use Rattle.aom_machine_state.proofs.SafetyLemmas.{named_set_word, requested_set_word, rerequested_alike, resessioned_alike, resessioned_requests}
 use Rattle.aom_semantics.specs.Calls.{passed_cells}
 use Rattle.aom_semantics.specs.Enlisted.{ended_cells, own_request, rerequested}
 use Rattle.aom_semantics.specs.Natives.{resessioned}
@@ -70,8 +70,8 @@ module _ (p : Image) {s : Kept_state} {store : Store} {tokens : Kept} {table : T
   -- a word of a cell
   services_written : (cs : List Cell) (n w : ℕ) (v : ℤ) → n < 4096 → Serves p s store tokens table at cs → Serves p s store tokens table at (set_word_field n w v cs)
   services_written cs n w v small = services_still cs (set_word_field n w v cs) (still_written cs n w v) (messages_written p store cs n w v small)
-      (listed_alike p table cs (set_word_field n w v cs) (named_set_word cs n w v) (λ m. ap (option_map (λ x. x.order)) (asked_written cs n w v m)))
-      (λ m. ap awaited (asked_written cs n w v m))
+      (listed_alike p table cs (set_word_field n w v cs) (named_set_word cs n w v) (λ m. ap (option_map (λ x. x.order)) (requested_set_word cs n w v m)))
+      (λ m. ap awaited (requested_set_word cs n w v m))
 
   pub services_stored : (cs : List Cell) (home : Home) (w : ℕ) (v : ℤ) → ((o : Object) (from : Place) → home ≡ Inside o from → o.name < 4096) →
       Serves p s store tokens table at cs → Serves p s store tokens table at (stored cs home w v)

@@ -1,4 +1,3 @@
-mod Classes
 mod Resting
 mod Callees
 mod Telling
@@ -14,5 +13,6 @@ mod FamilyExamples
 mod ConstructExamples
 pub mod RulesLemmas
 pub use Rattle.aom_classes.proofs.ClassesLemmas
+pub use Rattle.aom_roles.proofs.RolesLemmas
 pub use Rattle.aom_shape.proofs.ShapeLemmas
 pub use Rattle.aom_site.proofs.SiteLemmas

@@ -51,7 +51,7 @@ use Rattle.aom_shape.specs.declared.kind.Kind.TheVariants.{Unset, Word, Null, Ow
 use Rattle.aom_shape.specs.declared.kind.Filling.{Filling}
 use Rattle.aom_shape.specs.declared.kind.Filling.TheVariants.{Empty, Full, Perhaps}
 use Rattle.aom_rules.proofs.Ways.{Allows, allows}
-use Rattle.aom_rules.proofs.ShapeLemmas.{at_put, has_along, has_both, has_first, has_itself, has_second, has_shared}
+use Rattle.aom_rules.proofs.ShapeLemmas.{at-put_at, has_along, has_both, has_first, has_itself, has_second, has_shared}
 use Rattle.aom_rules.proofs.Telling.{readied_more, word_more, unowning_more, object_or_null_more, destroyed_more, ready_more, own_more, may_be_more}
 use Rattle.aom_rules.proofs.Telling.{declared_more, empty_more, filled_more, filling_more, none_owns_more, all_empty_more, past_empty_more}
 
@@ -59,7 +59,7 @@ use Rattle.aom_rules.proofs.Telling.{declared_more, empty_more, filled_more, fil
 module _ {A : Type 0} (R : A → A → Type 0) (z : A) (xs ys : List A) (i : ℕ) (h : (j : ℕ) → R (at z xs j) (at z ys j)) where
   -- holds where both are written alike
   both_written : (x y : A) → R x y → (j : ℕ) → R (at z (put_at z xs i x) j) (at z (put_at z ys i y) j)
-  both_written x y w j = rw (at_put z xs i j x, at_put z ys i j y) (go (i == j))
+  both_written x y w j = rw (at-put_at z xs i j x, at-put_at z ys i j y) (go (i == j))
     where
       go : (c : Bool) → R (cond c x (at z xs j)) (cond c y (at z ys j))
       go true = w
@@ -67,7 +67,7 @@ module _ {A : Type 0} (R : A → A → Type 0) (z : A) (xs ys : List A) (i : ℕ
 
   -- and where the first is written with what the second has there
   first_written : (x : A) → R x (at z ys i) → (j : ℕ) → R (at z (put_at z xs i x) j) (at z ys j)
-  first_written x w j = rw (at_put z xs i j x) (go (i == j) refl)
+  first_written x w j = rw (at-put_at z xs i j x) (go (i == j) refl)
     where
       go : (c : Bool) → (i == j) ≡ c → R (cond c x (at z xs j)) (at z ys j)
       go true e = rw (← eqb-true i j e) w

@@ -84,7 +84,7 @@ none_at [] h i = refl
 none_at (x ∷ xs) h zero = (and_parts (is_unowning x) (none_owns xs) h).0
 none_at (x ∷ xs) h (suc i) = none_at xs (and_parts (is_unowning x) (none_owns xs) h).1 i
 
-none_from : (xs : List Kind) → ((i : ℕ) → is_unowning (at Unset xs i) ≡ true) → none_owns xs ≡ true
+pub none_from : (xs : List Kind) → ((i : ℕ) → is_unowning (at Unset xs i) ≡ true) → none_owns xs ≡ true
 none_from [] h = refl
 none_from (x ∷ xs) h = rw (h 0, none_from xs (λ i. h (suc i)))
 

@@ -71,7 +71,7 @@ nothing_left [] rests = refl
 nothing_left (t ∷ ts) rests = absurd (rests refl)
 
 -- one less of the first is less, whatever there is of the second
-lower : (a b c d k : ℕ) → a < b → c ≤ k → a * suc k + c < b * suc k + d
+pub lower : (a b c d k : ℕ) → a < b → c ≤ k → a * suc k + c < b * suc k + d
 lower a b c d k less most = grind (arith, nat_tests, mul-le-mul_right, suc-mul a)
 
 -- what is said of a run that was given up

@@ -24,7 +24,7 @@ use Rattle.aom_semantics.specs.Moves.{does}
 use Rattle.aom_semantics.specs.Places.{Cell, Object, Place}
 use Rattle.aom_semantics.specs.State.{Choice, Frame, Home, Inside, State, home_holder}
 use Rattle.aom_safety.specs.WellTyped.{Awaits, Caught, EndsWell, IsApart, IsHoused, Returns, Stands}
-use Rattle.aom_safety.proofs.Callees.{none_owns_each, only_then}
+use Rattle.aom_safety.proofs.Callees.{only_then}
 use Rattle.aom_safety.specs.Requests.{rests_in, thing_kind, works_at}
 use Rattle.aom_roles.specs.Shapes.{kind_of}
 use Rattle.aom_safety.proofs.ShapeLemmas.{has_itself}
@@ -33,6 +33,7 @@ use Rattle.aom_safety.proofs.Leaving.{here_is}
 use Rattle.aom_safety.proofs.Overriders.{runs_for}
 use Rattle.aom_instructions.specs.declared.instr.Instr.{Instr}
 use Rattle.aom_roles.specs.Roles.{is_cancel, is_construct}
+use Rattle.aom_safety.proofs.RulesLemmas.{none_from}
 
 -- what the caller finds its own object in is no issued request, where neither before nor at the end there is one
 called_unissued : (target : Target) (class : Option ℕ) (ended : ℕ) (sh : Shape) → unissued sh.states ≡ true → unissued ended ≡ true →
@@ -71,7 +72,7 @@ module _ (p : Image) (t : Typing) (wired : IsWired p) (typed : IsTyped p t) (c :
       let home = target_home p fr (tasks_of ls) s target (method_class p m) in
       let runs = runs_for p wired m view (home_holder home) called_so a.1.holder answered.1 in
       let stands : Stands p t (Returns k home) fr sh' = (
-        grind (arith, nat_tests, only_then, none_owns_each sh'.registers, none_owns_at, called_unissued target, here_is),
+        grind (arith, nat_tests, only_then, none_from sh'.registers, none_owns_at, called_unissued target, here_is),
         rw runs.gives
             (rw at_x (awaited p t wired typed c s fr sh ls at_hand m first depth height deep called_so passed (gives_of p m) x sh' a.1.owning more.1.1.1.0)),
         grind (arith, nat_tests),

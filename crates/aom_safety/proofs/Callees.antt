@@ -1,7 +1,7 @@
 -- What a call says of its arguments, its target and the class of the method called.
 use Rattle.std.proofs.lemmas.Bool.Decides.{nat_tests}
 use Rattle.std.proofs.Common.{[], Bool, List, None, Option, Some, arith, false, inl, inr, length, refl, suc, true, ℕ, ◌+◌, ◌<◌, ◌∷◌, ◌≡◌, ◌≤◌}
-use Rattle.std.proofs.lemmas.Bool.{and_from, ne_eqb}
+use Rattle.std.proofs.lemmas.Bool.{ne_eqb}
 use Rattle.std.proofs.lemmas.Bool.Decides.{leb_tells}
 use Rattle.std.specs.Prelude.{not, replicate, ◌⊎◌}
 use Rattle.aom_image.specs.Image.{Image}
@@ -11,7 +11,7 @@ use Rattle.aom_image.specs.declared.method.Role.{Role}
 use Rattle.aom_image.specs.declared.method.Role.TheVariants.{Cancel, Construct, Do, Main}
 use Rattle.aom_image.specs.declared.method.Thing.{Thing}
 use Rattle.aom_shape.specs.Arguments.{arguments_moved}
-use Rattle.aom_shape.specs.Kinds.{is_own_for, filled, is_ready_kind, is_unowning, none_owns, register, set_register}
+use Rattle.aom_shape.specs.Kinds.{is_own_for, filled, is_ready_kind, register, set_register}
 use Rattle.aom_shape.specs.Shape.{Shape}
 use Rattle.aom_roles.specs.Tables.{at, is_among}
 use Rattle.aom_roles.specs.Things.{Member, Nobody, holder_by, holder_of, stands_for}
@@ -45,10 +45,6 @@ member_kind p x k e = grind arith
 -- what a test that is asked for says
 pub only_then : (a b : Bool) → only_if a b ≡ true → a ≡ true → b ≡ true
 only_then x b e h = grind arith
-
-pub none_owns_each : (ks : List Kind) → ((i : ℕ) → is_unowning (at Unset ks i) ≡ true) → none_owns ks ≡ true
-none_owns_each [] h = refl
-none_owns_each (k ∷ ks) h = and_from _ _ (h 0) (none_owns_each ks (λ i. h (suc i)))
 
 -- a register that is no argument
 pub apart_from : (first count r : ℕ) → not (is_among first count r) ≡ true → (r < first) ⊎ ((first + count) ≤ r)

@@ -45,9 +45,8 @@ use Rattle.aom_safety.proofs.Raising.{parents_met, raised}
 use Rattle.aom_safety.proofs.Straight.{frames_reworded, At, claim_field, claim_register, field_fits, field_not_from, field_outside}
 use Rattle.aom_safety.proofs.Straight.{fits_unowning, kind_fits, top, word_of_object}
 use Rattle.aom_safety.proofs.Overriders.{RunsFor, begins_as}
-use Rattle.aom_safety.proofs.Things.{stands_along}
 use Rattle.aom_safety.proofs.Housing.{houses_counts, houses_family, houses_field, houses_same}
-use Rattle.aom_safety.proofs.RolesLemmas.{through}
+use Rattle.aom_safety.proofs.RolesLemmas.{stands_along, through}
 use Rattle.aom_roles.specs.Families.{descends}
 use Rattle.aom_semantics.specs.Calls.{entry_place, home_at, needs_result, needs_target, needs_target_object, own_home}
 use Rattle.aom_semantics.specs.Calls.{own_view, passed_cells, passed_words, target_home, target_view, works_on}

@@ -21,7 +21,6 @@ use Rattle.aom_shape.specs.declared.kind.Kind.{Kind}
 use Rattle.aom_shape.specs.declared.kind.Kind.TheVariants.{Maybe, Null}
 use Rattle.aom_safety.proofs.Claimed.{Outside, claim-set_register, claim_frame, claim_rel, claim_unnamed, fits_age, fits_weaker, outside_differs}
 use Rattle.aom_safety.proofs.Straight.{frames_reworded, At, Fitted, Law, fits_unowning, fitted, free_register, relabel, settle, top, well, words_set}
-use Rattle.aom_safety.proofs.Things.{stands_itself}
 use Rattle.aom_safety.specs.Claims.{Ending, Dispatching, Dying, Layer, Mark, Method, Unwinding, claim}
 use Rattle.aom_safety.specs.Claims.{declared, declared_field, home_claim, own_field, tasks_of}
 use Rattle.aom_semantics.specs.Effects.{applied, makes_unless, sets, Made}
@@ -35,6 +34,7 @@ use Rattle.aom_safety.specs.Requests.{AllSuit, Suits, Unworked, states_claim, th
 use Rattle.aom_safety.proofs.Suiting.{suits_new, unworked_rests}
 use Rattle.aom_semantics.specs.Servers.{has_session, has_message, session_thing, message_thing}
 use Rattle.aom_safety.proofs.Services.{service_unnamed, attended_at, sits_lives}
+use Rattle.aom_safety.proofs.RolesLemmas.{stands_itself}
 
 -- what a service says with its server's class: of a new cell nothing is said, and of the others what was
 serves_new :

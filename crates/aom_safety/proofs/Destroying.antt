@@ -32,9 +32,9 @@ use Rattle.aom_safety.proofs.Seats.{NoFieldHere, NoSeatHere, no_seat}
 use Rattle.aom_safety.proofs.SemanticsLemmas.{held_lives, held_moved, named_moved, one_place, requested_moved, same_place-true, same_place_refl, tidy_moved}
 use Rattle.aom_safety.proofs.Straight.{frames_reworded, At, Law, fits_unowning, fitted, housed_relocated}
 use Rattle.aom_safety.proofs.Straight.{kind_fits, no_word, relabel, settle, top, well, words_set}
-use Rattle.aom_safety.proofs.Things.{stands_itself, stands_object}
+use Rattle.aom_safety.proofs.Things.{stands_object}
 use Rattle.aom_safety.proofs.Housing.{counts_line, houses_role}
-use Rattle.aom_safety.proofs.RolesLemmas.{itself, through}
+use Rattle.aom_safety.proofs.RolesLemmas.{itself, stands_itself, through}
 use Rattle.aom_roles.specs.Families.{descends}
 use Rattle.aom_safety.specs.Claims.{Ending, Dispatching, Dying, Layer, Mark, Method, Unwinding, claim}
 use Rattle.aom_safety.specs.Claims.{declared, declared_field, forms, home_claim, items_of, own_field, tasks_of}

@@ -24,7 +24,7 @@ use Rattle.aom_safety.proofs.Leaving.{leave_is_met, leave_keeps, trap_is_there}
 use Rattle.aom_safety.proofs.SemanticsLemmas.{same_place_refl}
 use Rattle.aom_safety.proofs.Straight.{frames_reworded, At, Fitted, Law, claim_register, fits_unowning, fitted, free_register, kind_fits}
 use Rattle.aom_safety.proofs.Straight.{no_word, no_word_fits, relabel, relocate, settle, top, well, words_set}
-use Rattle.aom_safety.proofs.Things.{stands_itself, stands_object}
+use Rattle.aom_safety.proofs.Things.{stands_object}
 use Rattle.aom_safety.proofs.Words.{has_word}
 use Rattle.aom_semantics.specs.Calls.{below_top}
 use Rattle.aom_safety.specs.Claims.{Form, Layer, Method, Object_form, Operation_form, claim, declared, entry_form, forms, items_of, objects, tasks_of}
@@ -39,6 +39,7 @@ use Rattle.aom_semantics.specs.Effects.{Made, Pushed as Object_pushed, Pushed_op
 use Rattle.aom_semantics.specs.Words.{read}
 use Rattle.aom_instructions.specs.declared.instr.Instr.{Instr}
 use Rattle.aom_roles.specs.Tests.{AllTrue}
+use Rattle.aom_safety.proofs.RolesLemmas.{stands_itself}
 
 -- ---- kinds of objects that may be pushed
 

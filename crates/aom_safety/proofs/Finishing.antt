@@ -17,7 +17,6 @@ use Rattle.aom_rules.specs.Rules.{rule_needs}
 use Rattle.aom_shape.specs.Shape.{Shape}
 use Rattle.aom_roles.specs.Tables.{at}
 use Rattle.aom_roles.specs.Things.{field_thing, holder_of, stands_for}
-use Rattle.aom_safety.proofs.Things.{stands_along}
 use Rattle.aom_rules.specs.Typing.{Typing}
 use Rattle.aom_shape.specs.declared.kind.Age.TheVariants.{Fresh, Ready}
 use Rattle.aom_shape.specs.declared.kind.CleanupEntry.{CleanupEntry}
@@ -49,6 +48,7 @@ use Rattle.aom_roles.specs.Tests.{AllTrue, only_if}
 use Rattle.aom_safety.specs.Requests.{Known, Suits, known_at, states_claim, thing_kind, works_at}
 use Rattle.aom_safety.proofs.Suiting.{completed}
 use Rattle.aom_shape.specs.declared.kind.Delivery.TheVariants.{Gone}
+use Rattle.aom_safety.proofs.RolesLemmas.{stands_along}
 
 pub none_owns_at : (ks : List Kind) (i : ℕ) → none_owns ks ≡ true → is_unowning (at Unset ks i) ≡ true
 none_owns_at [] i e = refl

@@ -22,7 +22,6 @@ use Rattle.aom_safety.proofs.Creation.{create}
 use Rattle.aom_safety.proofs.Requesting.{OfObject, active_listed, asked, home_is_own, in_state, its, of_object, only_idle}
 use Rattle.aom_safety.proofs.Storing.{Alike, alike_fitted, on_some, rerequested_alike}
 use Rattle.aom_safety.proofs.Straight.{At, Fitted, Law, free_register, settle, stepped, top, well, write}
-use Rattle.aom_safety.proofs.Things.{stands_itself}
 use Rattle.aom_safety.specs.Claims.{Layer, tasks_of}
 use Rattle.aom_semantics.specs.Effects.{applied, hands_unless, sets}
 use Rattle.aom_semantics.specs.Enlisted.{completed_at_once, in_phase, is_idle, on_request, own_request, rerequested}
@@ -31,6 +30,7 @@ use Rattle.aom_safety.specs.Requests.{Known, Suits}
 use Rattle.aom_semantics.specs.State.{Choice, Frame, State, next, set_word}
 use Rattle.aom_semantics.specs.Tokens.{busy, home_class, is_crowded, next_token, promised, with_token}
 use Rattle.aom_safety.specs.WellTyped.{WellTyped}
+use Rattle.aom_safety.proofs.RolesLemmas.{stands_itself}
 
 -- a new token is like a new message, but for what it says
 pub token_alike : (name : ℕ) (token : Token) (owner : Place) (cs : List Cell) → Alike (with_new name Message [] owner cs) (with_token name token owner cs)

@@ -32,12 +32,9 @@ use Rattle.aom_semantics.specs.State.{Choice, Frame, State, word}
 use Rattle.aom_safety.specs.WellTyped.{Fits, Good, IsHoused, Returns, Stack, WordFits}
 use Rattle.aom_safety.proofs.Suiting.{all_moved}
 use Rattle.aom_safety.specs.Requests.{AllSuit}
+use Rattle.aom_safety.proofs.RolesLemmas.{put_at_end}
 
--- a list written at its end, and read there
-put_at_end : {A : Type 0} (d : A) (xs : List A) (v : A) → put_at d xs (length xs) v ≡ xs ++ v ∷ []
-put_at_end d [] v = refl
-put_at_end d (x ∷ xs) v = ap (λ ys. x ∷ ys) (put_at_end d xs v)
-
+-- a list read at its end
 at_end : {A : Type 0} (d : A) (xs : List A) → at d xs (length xs) ≡ d
 at_end d [] = refl
 at_end d (x ∷ xs) = at_end d xs

@@ -19,13 +19,13 @@ use Rattle.aom_safety.proofs.ClientsFit.{by_server}
 use Rattle.aom_safety.proofs.Picking.{fits_ready}
 use Rattle.aom_safety.proofs.Services.{held_served, named_served, requested_served, service_here, service_unnamed, tidy_served}
 use Rattle.aom_safety.proofs.Straight.{fits_unowning}
-use Rattle.aom_safety.proofs.Things.{stands_itself}
 use Rattle.aom_safety.specs.Claims.{declared}
 use Rattle.aom_semantics.specs.Places.{Service, unserved, Cell, Elsewhere, Message_of, Object, Place, Queued}
 use Rattle.aom_semantics.specs.Places.{Tidy, held, named, same_place, seen, service_of}
 use Rattle.aom_safety.specs.Requests.{AllSuit, Suits, resting_in, rests_in, thing_kind}
 use Rattle.aom_semantics.specs.Servers.{asked_last, has_message, has_session, is_message, is_server, message_thing, reserved}
 use Rattle.aom_safety.specs.WellTyped.{Fits, Good}
+use Rattle.aom_safety.proofs.RolesLemmas.{stands_itself}
 
 -- a message is not enlisted
 plain : (p : Image) (y : Object) → y.thing ≡ Message → Suits (thing_kind p y.thing) (resting_in (rests_in p y)) None

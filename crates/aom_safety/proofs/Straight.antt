@@ -22,7 +22,6 @@ use Rattle.aom_safety.proofs.Claimed.{Outside, claim-set_register, claim_frame, 
 use Rattle.aom_safety.proofs.Claimed.{holds_moved, keep_fits, outside_differs, own_there, owns_no_more, stack_moved, word_fits_weaker}
 use Rattle.aom_safety.proofs.Housing.{houses_field}
 use Rattle.aom_safety.proofs.SemanticsLemmas.{at-put_at, held_moved, one_place, requested_moved, same_place-true, tidy_moved}
-use Rattle.aom_safety.proofs.Things.{stands_along}
 use Rattle.aom_safety.specs.Claims.{Layer, Method, claim, declared, forms, items_of, objects, tasks_of, serves}
 use Rattle.aom_semantics.specs.Moves.{does, needs}
 use Rattle.aom_semantics.specs.Objects.{is_declared_thing, is_thing}
@@ -35,6 +34,7 @@ use Rattle.aom_safety.specs.Requests.{AllSuit}
 use Rattle.aom_image.specs.Views.{method_role}
 use Rattle.aom_roles.specs.Roles.{is_cancel}
 use Rattle.aom_roles.specs.Tests.{AllTrue}
+use Rattle.aom_safety.proofs.RolesLemmas.{stands_along}
 
 -- a state whose top task is a method
 pub record At (p : Image) (t : Typing) (s : State) (fr : Frame) (sh : Shape) (ls : List Layer) : Type 0 where

@@ -1,5 +1,4 @@
--- What stands for what: each thing for itself, and what stands for it.
-use Rattle.std.proofs.lemmas.Bool.Decides.{nat_tests}
+-- What stands for an object, for a message and for a server.
 use Rattle.std.proofs.Common.{Some, ap, arith, false, sym, true, ℕ, ◌∙◌, ◌≡◌}
 use Rattle.std.specs.Prelude.{is_some}
 use Rattle.aom_safety.proofs.ImageLemmas.{some_given}
@@ -7,16 +6,9 @@ use Rattle.aom_image.specs.Image.{Image}
 use Rattle.aom_image.specs.declared.method.Thing.{Thing}
 use Rattle.aom_image.specs.declared.method.Thing.TheVariants.{Message, Object as An_object_of}
 use Rattle.aom_roles.specs.Things.{stands_for, is_object}
-use Rattle.aom_safety.proofs.RolesLemmas.{itself, through}
 use Rattle.aom_semantics.specs.Servers.{is_server, session_class}
 use Rattle.aom_roles.specs.Shapes.{kind_of}
 use Rattle.aom_roles.specs.Classes.{sessions_at, sessions_in}
-
-pub stands_itself : (p : Image) (x : Thing) → stands_for p x x ≡ true
-stands_itself p x = grind (arith, nat_tests, itself p)
-
-pub stands_along : (p : Image) (x y z : Thing) → stands_for p x y ≡ true → stands_for p y z ≡ true → stands_for p x z ≡ true
-stands_along p x y z a b = grind (arith, nat_tests, through p)
 
 -- what stands for an object is one, and what stands for a message is a message
 pub stands_object : (p : Image) (x y : Thing) → stands_for p x y ≡ true → is_object x ≡ is_object y

@@ -14,11 +14,11 @@ use Rattle.aom_shape.specs.declared.kind.Kind.TheVariants.{Maybe, Null, Own, Uns
 use Rattle.aom_safety.proofs.Claimed.{claim-set_register}
 use Rattle.aom_safety.proofs.SemanticsLemmas.{at-put_at}
 use Rattle.aom_safety.proofs.Straight.{Fitted, register_fits, relabel, top, word_of_object}
-use Rattle.aom_safety.proofs.Things.{stands_along}
 use Rattle.aom_safety.specs.Claims.{Layer, declared}
 use Rattle.aom_semantics.specs.Places.{Cell, Object, Sight, held, seen}
 use Rattle.aom_semantics.specs.State.{Frame, word}
 use Rattle.aom_safety.specs.WellTyped.{Fits, WordFits}
+use Rattle.aom_safety.proofs.RolesLemmas.{stands_along}
 
 -- a place that is written twice
 pub put_twice : {A : Type 0} (d : A) (xs : List A) (i : ℕ) (v w : A) → put_at d (put_at d xs i v) i w ≡ put_at d xs i w

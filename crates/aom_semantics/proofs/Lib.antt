@@ -4,3 +4,4 @@ mod NeedsFail
 mod Owning
 mod Running
 pub mod SemanticsLemmas
+pub use Rattle.aom_roles.proofs.RolesLemmas

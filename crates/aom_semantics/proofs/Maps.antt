@@ -1,14 +1,12 @@
--- What a move of ownership does to the places, and lists that are read and written by place.
+-- What a move of ownership does to the places.
 use Rattle.std.proofs.lemmas.Bool.Decides.{nat_tests}
 use Rattle.std.proofs.lemmas.Option.{none-some}
 use Rattle.std.proofs.Common.{arith, Bool, List, None, Option, Some, [], ap, cond, false, refl, suc, sym, true, zero, ℕ, ⊎_elim, ◌==◌, ◌∙◌, ◌∷◌, ◌≡◌}
 use Rattle.std.proofs.lemmas.Bool.{and_from, eq-eqb, eqb-true, ne_eqb, true≢false}
 use Rattle.std.specs.Prelude.{◌⊎◌}
-use Rattle.aom_roles.specs.Tables.{at, put_at}
 use Rattle.aom_semantics.proofs.Altering.{Reads, moving, named_kept, names, read_kept, requests}
 use Rattle.aom_semantics.specs.Places.{Cell, Elsewhere, Entry, Field, Going, Object, Other, Place, Queued, Register, Root, In_service, Session, Tidy}
 use Rattle.aom_semantics.specs.Places.{changed, held, moved, named, place_inner, place_kind, place_outer, place_part, requested, same_place, without}
-use lib.Dec.{eqb-suc-suc, eqb-suc-zero, eqb-zero-suc}
 
 -- equal numbers, equal places
 pub other_from : ℕ → ℕ → ℕ → Other
@@ -98,17 +96,6 @@ tidy_moved (c ∷ cs) p q free t =
     own true e nq free = held_moved cs p q q free ∙ ap (λ b. cond b (held cs p) (cond (same_place p q) None (held cs q))) (same_place_refl q)
         ∙ ap (λ r. held cs r) (sym (same_place-true c.owner p e)) ∙ t.0
     own false e nq free = rest c.owner free (same_place_comm q c.owner ∙ nq) t.0
-
--- a list written at one place
-pub at-put_at : {A : Type 0} (d : A) (xs : List A) (i j : ℕ) (v : A) → at d (put_at d xs i v) j ≡ cond (i == j) v (at d xs j)
-at-put_at d [] zero zero v = refl
-at-put_at d [] zero (suc j) v = ap (λ b. cond b v d) (sym (eqb-zero-suc j))
-at-put_at d [] (suc i) zero v = ap (λ b. cond b v d) (sym (eqb-suc-zero i))
-at-put_at d [] (suc i) (suc j) v = at-put_at d [] i j v ∙ ap (λ b. cond b v d) (sym (eqb-suc-suc i j))
-at-put_at d (x ∷ xs) zero zero v = refl
-at-put_at d (x ∷ xs) zero (suc j) v = ap (λ b. cond b v (at d xs j)) (sym (eqb-zero-suc j))
-at-put_at d (x ∷ xs) (suc i) zero v = ap (λ b. cond b v x) (sym (eqb-suc-zero i))
-at-put_at d (x ∷ xs) (suc i) (suc j) v = at-put_at d xs i j v ∙ ap (λ b. cond b v (at d xs j)) (sym (eqb-suc-suc i j))
 
 -- ---- what is found
 

@@ -11,3 +11,5 @@ mod Ordering
 mod Moving
 pub mod ShapeLemmas
 pub use Rattle.aom_classes.proofs.ClassesLemmas
+pub use Rattle.aom_image.proofs.ImageLemmas
+pub use Rattle.aom_roles.proofs.RolesLemmas

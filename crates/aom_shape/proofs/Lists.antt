@@ -1,6 +1,5 @@
 -- Lists that are read and written at any place agree with slices where the place is within.
-use Rattle.std.proofs.Common.{◌≡◌, ◌≢◌, ℕ, zero, suc, ◌<◌, ◌≤◌, cond, ◌==◌, List, [], ◌∷◌, length, IsSome, slice_get, refl, sym, ap, ◌∙◌, arith}
-use Rattle.std.proofs.Math.Dec.{eqb-zero-suc, eqb-suc-zero, eqb-suc-suc}
+use Rattle.std.proofs.Common.{◌≡◌, ◌≢◌, ℕ, zero, suc, ◌<◌, ◌≤◌, List, [], ◌∷◌, length, IsSome, slice_get, refl, ap, arith}
 use Rattle.std.specs.Prelude.{slice_index_or, slice_set}
 use Rattle.aom_roles.specs.Tables.{at, put_at}
 
@@ -32,17 +31,6 @@ pub at_past : {A : Type 0} (d : A) (xs : List A) (i : ℕ) → length xs ≤ i �
 at_past d [] i h = refl
 at_past d (x ∷ xs) zero h = absurd (omega arith)
 at_past d (x ∷ xs) (suc i) h = at_past d xs i (omega arith)
-
--- what a list has once a place is written
-pub at_put : {A : Type 0} (d : A) (xs : List A) (i j : ℕ) (v : A) → at d (put_at d xs i v) j ≡ cond (i == j) v (at d xs j)
-at_put d [] zero zero v = refl
-at_put d [] zero (suc j) v = ap (λ b. cond b v d) (sym (eqb-zero-suc j))
-at_put d [] (suc i) zero v = ap (λ b. cond b v d) (sym (eqb-suc-zero i))
-at_put d [] (suc i) (suc j) v = at_put d [] i j v ∙ ap (λ b. cond b v d) (sym (eqb-suc-suc i j))
-at_put d (x ∷ xs) zero zero v = refl
-at_put d (x ∷ xs) zero (suc j) v = ap (λ b. cond b v (at d xs j)) (sym (eqb-zero-suc j))
-at_put d (x ∷ xs) (suc i) zero v = ap (λ b. cond b v x) (sym (eqb-suc-zero i))
-at_put d (x ∷ xs) (suc i) (suc j) v = at_put d xs i j v ∙ ap (λ b. cond b v (at d xs j)) (sym (eqb-suc-suc i j))
 
 pub there : {A : Type 0} (xs : List A) (k : ℕ) → k < length xs → IsSome (slice_get xs k)
 there [] k h = absurd (omega arith)

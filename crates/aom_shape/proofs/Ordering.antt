@@ -15,7 +15,7 @@ use Rattle.aom_shape.specs.declared.kind.Kind.{Kind}
 use Rattle.aom_shape.specs.declared.kind.Kind.TheVariants.{Unset}
 use Rattle.aom_shape.specs.declared.kind.Filling.{Filling}
 use Rattle.aom_shape.specs.declared.kind.Filling.TheVariants.{Perhaps}
-use Rattle.aom_shape.proofs.Sets.{has_along, has_itself}
+use Rattle.aom_shape.proofs.ImageLemmas.{has_along, has_itself}
 use Rattle.aom_shape.proofs.Deciding.{delivery_is, delivery_self, weaker_tests, weaker_tested, weaker_along, fillings_test, fillings_tested, fillings_along}
 
 pub reflexive : (a : Shape) → SaysNoMore a a

@@ -1,23 +1,11 @@
 -- Sets of request states as numbers: one that has another, and the union and the intersection of two.
 use Rattle.std.proofs.Common.{◌≡◌, ℕ, ◌≤◌, ◌/◌, IsTrue, sym, ap, ◌∙◌, arith}
-use Rattle.std.proofs.lemmas.Bool.{eqb-true, eq-eqb}
 use Rattle.std.proofs.lemmas.Nat.{and_comm, and_le_l, and_assoc, and_or_self, or_comm, or_shr}
 use Rattle.std.specs.Prelude.{bit_and, bit_or}
 use Rattle.aom_image.specs.Views.{has}
+use Rattle.aom_shape.proofs.ImageLemmas.{has_by, shared}
 use lib.Arith.{bin_ind}
 use lib.Bits.{and_self, and_step, or_add_and, or_step}
-
-shared : (a b : ℕ) → IsTrue (has a b) → bit_and a b ≡ b
-shared a b h = eqb-true (bit_and a b) b h
-
-has_by : (a b : ℕ) → bit_and a b ≡ b → IsTrue (has a b)
-has_by a b e = eq-eqb (bit_and a b) b e
-
-pub has_itself : (a : ℕ) → IsTrue (has a a)
-has_itself a = has_by a a (and_self a)
-
-pub has_along : (a b c : ℕ) → IsTrue (has a b) → IsTrue (has b c) → IsTrue (has a c)
-has_along a b c h k = has_by a c (ap (bit_and a) (sym (shared b c k)) ∙ sym (and_assoc c a b) ∙ ap (λ x. bit_and x c) (shared a b h) ∙ shared b c k)
 
 -- the union of two sets has each, and a set that has both has it
 pub has_first : (a b : ℕ) → IsTrue (has (bit_or a b) a)

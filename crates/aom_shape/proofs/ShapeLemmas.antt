@@ -1,6 +1,8 @@
 -- The lemmas that other crates cite; what else stands in these proofs is the crate's own.
-pub use Rattle.aom_shape.proofs.Sets.{has_along, has_both, has_first, has_itself, has_second, has_shared, larger}
-pub use Rattle.aom_shape.proofs.Lists.{at_past, at_put, at_set_here, at_set_other, at_within, there}
+pub use Rattle.aom_shape.proofs.ImageLemmas.{has_along, has_itself}
+pub use Rattle.aom_shape.proofs.RolesLemmas.{at-put_at}
+pub use Rattle.aom_shape.proofs.Sets.{has_both, has_first, has_second, has_shared, larger}
+pub use Rattle.aom_shape.proofs.Lists.{at_past, at_set_here, at_set_other, at_within, there}
 pub use Rattle.aom_shape.proofs.Piling.{length_listed}
 pub use Rattle.aom_shape.proofs.Views.{after_there, arguments_there, before_there, class_there, fields_none, fields_some, gives_there, holder_there}
 pub use Rattle.aom_shape.proofs.Views.{leaves_there, quiet_there, role_there, words_none, words_some}

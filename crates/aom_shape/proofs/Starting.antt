@@ -22,7 +22,7 @@ use Rattle.aom_shape.specs.declared.kind.Filling.{Filling}
 use Rattle.aom_shape.specs.declared.kind.Filling.TheVariants.{Perhaps}
 use Rattle.aom_shape.specs.declared.kind.Kind.{Kind}
 use Rattle.aom_shape.specs.declared.kind.Kind.TheVariants.{Unset}
-use Rattle.aom_shape.proofs.Sets.{has_itself}
+use Rattle.aom_shape.proofs.ImageLemmas.{has_itself}
 use Rattle.aom_shape.proofs.Views.{arguments_there, before_there, role_there}
 use Rattle.aom_shape.proofs.Lists.{at_set_here, at_set_other}
 

@@ -25,7 +25,7 @@ pub record IsCovered (p : Image) (t d : Typing) : Type 0 where
   pub each : (m place : ℕ) (sh : Shape) (i : Instr) → Stands p t m place sh i →
       (other : Shape) × Stands p d m place other i × SaysNoMore other sh × SaysNoMore sh other
 
-kind_is : (k l : Kind) → Weaker k l → Weaker l k → k ≡ l
+pub kind_is : (k l : Kind) → Weaker k l → Weaker l k → k ≡ l
 kind_is _ _ alike back = refl
 kind_is _ _ _ back = elim back [ ]
 

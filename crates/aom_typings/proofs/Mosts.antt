@@ -1,6 +1,6 @@
 -- The most of numbers: it is no less than each that counts, no more than what all are within, and related where they are.
 use Rattle.std.proofs.lemmas.Bool.Decides.{nat_tests}
-use Rattle.std.proofs.Common.{◌≡◌, ◌<◌, ◌≤◌, ◌+◌, ◌==◌, ◌||◌, ℕ, zero, suc, Bool, true, false, cond, length, Option, Some, None, inl, inr, refl}
+use Rattle.std.proofs.Common.{◌≡◌, ◌<◌, ◌≤◌, ◌+◌, ◌==◌, ℕ, zero, suc, Bool, true, false, cond, length, Option, Some, None, inl, inr, refl}
 use Rattle.std.proofs.Common.{ap, arith, subst, IfSome, slice_get}
 use Rattle.std.specs.Prelude.{max}
 use Rattle.std.proofs.lemmas.Bool.{cases_lt, eq-eqb, eqb-true, or_left, or_right}
@@ -15,7 +15,7 @@ use Rattle.aom_image.specs.declared.method.Thing.{Thing}
 use Rattle.aom_image.specs.declared.method.Thing.TheVariants.{Object, Message}
 use Rattle.aom_roles.specs.Families.{descends, descends_in, lower, parent_in, parent_of}
 use Rattle.aom_roles.specs.Classes.{is_session, is_session_in, is_session_kind, kind_in}
-use Rattle.aom_typings.proofs.RolesLemmas.{along, from_none, itself, through}
+use Rattle.aom_typings.proofs.RolesLemmas.{along, from_none, itself, stands_along}
 use Rattle.aom_typings.proofs.ClassesLemmas.{all_there}
 use Rattle.aom_classes.specs.Families.{Continues, ContinuesParent}
 use Rattle.aom_classes.specs.Linked.{IsLinked}
@@ -68,12 +68,6 @@ standing_has p f x y h = grind arith
 pub standing_least : (p : Image) (f : Thing → ℕ) (y : Thing) (v : ℕ) → ((x : Thing) → stands_for p x y ≡ true → f x ≤ v) → most_standing p f y ≤ v
 standing_least p f (Object c) v each = below_least p (λ x. f (Object x)) c v (λ x h. each (Object x) h)
 standing_least p f Message v each = each Message refl
-
-pub stands_itself : (p : Image) (x : Thing) → stands_for p x x ≡ true
-stands_itself p x = grind (arith, nat_tests, itself p)
-
-pub stands_along : (p : Image) (x y z : Thing) → stands_for p x y ≡ true → stands_for p y z ≡ true → stands_for p x z ≡ true
-stands_along p x y z a b = grind (arith, nat_tests, through)
 
 -- what stands in the place of a thing comes to no more than what the thing is declared to come to
 pub most_stands_in : (p : Image) (f : Thing → ℕ) (x y : Thing) → stands_for p x y ≡ true → most_standing p f x ≤ most_standing p f y

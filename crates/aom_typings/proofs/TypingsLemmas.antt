@@ -16,7 +16,7 @@ pub use Rattle.aom_typings.proofs.Methods.{destructs_within}
 pub use Rattle.aom_typings.proofs.Capped.{alike_times}
 pub use Rattle.aom_typings.proofs.Capping.{law_up_to}
 pub use Rattle.aom_typings.proofs.Unique.{law_one}
-pub use Rattle.aom_typings.proofs.Alike.{IsCovered, prices_alike}
+pub use Rattle.aom_typings.proofs.Alike.{IsCovered, kind_is, prices_alike}
 pub use Rattle.aom_typings.proofs.Typings.{AreFirst, first_more, has_states, has_typing, image_strongest, method_typed, method_within, none_first}
 pub use Rattle.aom_typings.proofs.Typings.{within_method}
 pub use Rattle.aom_typings.proofs.Within.{all_high, all_within, caller, standing}

@@ -1,5 +1,5 @@
 -- The lines of all breakpoints are those of the list.
-use Rattle.std.proofs.Common.{arith, length}
+use Rattle.std.proofs.Common.{arith}
 use Rattle.std.proofs.lemmas.Result.{err_from_is_err_and}
 use Rattle.aom_debug_words.specs.declared.answer.Answer.TheVariants.{Break}
 use Rattle.aom_debug_views.proofs.Telling.{item_more, items_all, items_cut}

@@ -1,7 +1,7 @@
 use Rattle.std.proofs.Common.{◌∙◌, ap}
 use Rattle.aom_image.specs.Image.{Image}
 use Rattle.aom_roles.specs.Kinds.{is_native_kind}
-use Rattle.aom_rules.proofs.Classes.{kind_found, kind_past}
+use Rattle.aom_rules.proofs.RolesLemmas.{kind_found, kind_past}
 use Rattle.aom_rules.proofs.natives.is_native.Goals as goal
 
 pub returns-in-Some : goal.returns-in-Some

@@ -6,10 +6,10 @@ use Rattle.std.specs.Prelude.{bit_and}
 use Rattle.aom_image.specs.Views.{has}
 use lib.Bits.{and_self}
 
-shared : (a b : ℕ) → IsTrue (has a b) → bit_and a b ≡ b
+pub shared : (a b : ℕ) → IsTrue (has a b) → bit_and a b ≡ b
 shared a b h = eqb-true (bit_and a b) b h
 
-has_by : (a b : ℕ) → bit_and a b ≡ b → IsTrue (has a b)
+pub has_by : (a b : ℕ) → bit_and a b ≡ b → IsTrue (has a b)
 has_by a b e = eq-eqb (bit_and a b) b e
 
 pub has_itself : (a : ℕ) → IsTrue (has a a)
