@@ -133,6 +133,7 @@ fn read_leaving(
 }
 
 /// What a client does, if its time and its own number are numbers too.
+#[inline(always)]
 fn with_numbers(
     time: &[u8],
     client: &[u8],

@@ -3,7 +3,7 @@ use Rattle.std.proofs.Common.{◌≡◌, ℕ, suc, ◌+◌, ◌-◌, ◌<◌, �
 use Rattle.std.proofs.Common.{◌∷◌, Option, Some, None, length, take, drop, map, refl, sym, ap, subst, ◌∙◌, arith, rules, tests}
 use Rattle.std.specs.List.{filter, slice_split, onto_first, find, position, position_or_len}
 use Rattle.std.proofs.lemmas.Grind.{common_steps}
-use Rattle.std.proofs.lemmas.List.{take_rest}
+use Rattle.std.proofs.lemmas.List.{take_all, take_rest}
 use Rattle.std.proofs.lemmas.List.Splits.{slice_split_first}
 use Rattle.aom_text.specs.Words.{is_blank, is_plain, has_bytes, words}
 use Rattle.aom_text.specs.Text.{true_lines, lines_of, worded, put_words, has_words, in_line, other_byte, comment_statements}
@@ -159,55 +159,64 @@ all_blank = none_at is_blank (λ bs. words bs ≡ []) refl (λ b bs e same. blan
 pub words_none : (bs : List ℕ) (i : ℕ) → i ≡ position_or_len (λ b. not (is_blank b)) bs → length bs ≤ i → words bs ≡ []
 words_none bs i is past = all_blank bs (subst (λ k. nat_lt k (length bs) ≡ false) is (not_below i (length bs) past))
 
--- where the first blank is, a text is parted into what comes before it and parts that have the words from there on
+-- where the first blank is, a text is parted into what comes before it and parts that have the words behind it
 record Cut (bs : List ℕ) (e : ℕ) : Type 0 where
   later : List (List ℕ)
   parts : slice_split is_blank bs ≡ take e bs ∷ later
-  behind : filter has_bytes later ≡ words (drop e bs)
+  behind : filter has_bytes later ≡ words (drop (e + 1) bs)
 
 cut : (bs : List ℕ) → Cut bs (position_or_len is_blank bs)
 cut [] = record { later = []; parts = refl; behind = refl }
 cut (b ∷ bs) =
     let n = position_or_len is_blank bs in
+    let further : 1 + n + 1 ≡ 1 + (n + 1) = omega arith in
     let known : (t : Bool) → is_blank b ≡ t → Cut (b ∷ bs) (cond (not t) (1 + n) 0) =
     λ t. elim t as (λ t. is_blank b ≡ t → Cut (b ∷ bs) (cond (not t) (1 + n) 0)) [
       | true ↦ λ e. record {
         later = slice_split is_blank bs;
         parts = ap (λ t. cond t ([] ∷ slice_split is_blank bs) (onto_first b (slice_split is_blank bs))) e;
-        behind = sym (blank_first b bs (words bs) e refl);
+        behind = refl;
       }
       | false ↦ λ e. let rest = cut bs in record {
         later = rest.later;
         parts = ap (λ t. cond t ([] ∷ slice_split is_blank bs) (onto_first b (slice_split is_blank bs))) e ∙ ap (onto_first b) rest.parts
             ∙ ap (λ w. w ∷ rest.later) (sym (take_one n b bs));
-        behind = rest.behind ∙ ap words (sym (drop_one n b bs));
+        behind = rest.behind ∙ ap words (sym (ap (λ k. drop k (b ∷ bs)) further ∙ drop_one (n + 1) b bs));
       }
     ] in
     known (is_blank b) refl
 
 -- the first word, of what begins with no blank
 word_then : (b : ℕ) (bs : List ℕ) (e : ℕ) → is_blank b ≡ false → e ≡ position_or_len is_blank (b ∷ bs) →
-    words (b ∷ bs) ≡ take e (b ∷ bs) ∷ words (take (length (b ∷ bs) - e) (drop e (b ∷ bs)))
+    words (b ∷ bs) ≡ take e (b ∷ bs) ∷ words (take (length (b ∷ bs) - (e + 1)) (drop (e + 1) (b ∷ bs)))
 word_then b bs e ink end =
     let n = position_or_len is_blank bs in
     let rest = cut bs in
-    let behind : take (length (b ∷ bs) - (1 + n)) (drop (1 + n) (b ∷ bs)) ≡ drop n bs = take_rest (b ∷ bs) (1 + n) ∙ drop_one n b bs in
     let further : e ≡ 1 + n = end ∙ ap (λ t. cond (not t) (1 + n) 0) ink in
+    let one : e + 1 ≡ 1 + (n + 1) = omega (arith, further) in
+    let behind : drop (e + 1) (b ∷ bs) ≡ drop (n + 1) bs = ap (λ k. drop k (b ∷ bs)) one ∙ drop_one (n + 1) b bs in
     ap (λ t. filter has_bytes (cond t ([] ∷ slice_split is_blank bs) (onto_first b (slice_split is_blank bs)))) ink
     ∙ ap (λ ps. filter has_bytes (onto_first b ps)) rest.parts
     ∙ ap (λ ws. (b ∷ take n bs) ∷ ws) rest.behind
-    ∙ ap (λ w. w ∷ words (drop n bs)) (sym (take_one n b bs))
-    ∙ ap (λ r. take (1 + n) (b ∷ bs) ∷ words r) (sym behind)
-    ∙ ap (λ k. take k (b ∷ bs) ∷ words (take (length (b ∷ bs) - k) (drop k (b ∷ bs)))) (sym further)
+    ∙ ap (λ w. w ∷ words (drop (n + 1) bs)) (sym (ap (λ k. take k (b ∷ bs)) further ∙ take_one n b bs))
+    ∙ ap (λ r. take e (b ∷ bs) ∷ words r) (sym (take_rest (b ∷ bs) (e + 1) ∙ behind))
 
 pub word_first : (bs : List ℕ) (i e : ℕ) → i ≡ position_or_len (λ b. not (is_blank b)) bs → i < length bs →
     e ≡ position_or_len is_blank (take (length bs - i) (drop i bs)) → words bs ≡ take e (take (length bs - i) (drop i bs)) ∷ words
-    (take (length (take (length bs - i) (drop i bs)) - e) (drop e (take (length bs - i) (drop i bs))))
+    (take (length (take (length bs - i) (drop i bs)) - (e + 1)) (drop (e + 1) (take (length bs - i) (drop i bs))))
 word_first bs i e is within ends =
     let ink : Inked bs i = subst (Inked bs) (sym is) (inked bs (subst (λ k. nat_lt k (length bs) ≡ true) is (below i (length bs) within))) in
     let same : take (length bs - i) (drop i bs) ≡ ink.first ∷ ink.more = take_rest bs i ∙ ink.at in
-    subst (λ (t : List ℕ). e ≡ position_or_len is_blank t → words bs ≡ take e t ∷ words (take (length t - e) (drop e t)))
+    subst (λ (t : List ℕ). e ≡ position_or_len is_blank t → words bs ≡ take e t ∷ words (take (length t - (e + 1)) (drop (e + 1) t)))
     (sym same) (λ h. ink.so ∙ word_then ink.first ink.more e ink.is h) ends
+
+-- where it goes to the end, it is the only one
+pub word_only : (bs : List ℕ) (i e : ℕ) → i ≡ position_or_len (λ b. not (is_blank b)) bs → i < length bs →
+    e ≡ position_or_len is_blank (take (length bs - i) (drop i bs)) → length (take (length bs - i) (drop i bs)) ≤ e → words bs ≡ take (length bs - i) (drop i bs) ∷ []
+word_only bs i e is within ends past =
+    let inks = take (length bs - i) (drop i bs) in
+    let none : length inks - (e + 1) ≡ 0 = omega (arith, past) in
+    word_first bs i e is within ends ∙ ap (λ k. take e inks ∷ words (take k (drop (e + 1) inks))) none ∙ ap (λ w. w ∷ []) (take_all e inks past)
 
 -- ---- comments
 

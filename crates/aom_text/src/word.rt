@@ -87,7 +87,10 @@ fn first_word(bytes: &[u8]) -> Option<(&[u8], &[u8])>
     }
     let inked = &bytes[start..];
     let end = word_length(inked);
-    Some((&inked[..end], &inked[end..]))
+    if end == inked.len() {
+        return Some((inked, &[]));
+    }
+    Some((&inked[..end], &inked[end + 1..]))
 }
 
 /// How many bytes come before the first that is no blank.
