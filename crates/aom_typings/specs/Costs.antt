@@ -3,7 +3,6 @@ use Rattle.std.specs.Prelude.{ℕ, suc, ◌+◌, ◌*◌, ◌≡◌, ◌≤◌, 
 use Rattle.aom_image.specs.Image.{Image}
 use Rattle.aom_image.specs.Views.{method_at}
 use Rattle.aom_instructions.specs.declared.instr.Instr.{Instr}
-use Rattle.aom_instructions.specs.declared.instr.Instr.TheVariants.{Loop}
 use Rattle.aom_image.specs.declared.method.Thing.{Thing}
 use Rattle.aom_image.specs.declared.method.Thing.TheVariants.{Object}
 use Rattle.aom_classes.specs.Bodies.{Body, IsIn}
@@ -13,7 +12,7 @@ use Rattle.aom_shape.specs.Needs.{Flow}
 use Rattle.aom_rules.specs.Rules.{flows}
 use Rattle.aom_shape.specs.Shape.{Shape}
 use Rattle.aom_rules.specs.Typing.{Typing}
-use Rattle.aom_typings.specs.Prices.{Prices, Stands, own, price, sessions_cost}
+use Rattle.aom_typings.specs.Prices.{LoopStands, Prices, Stands, own, price, sessions_cost}
 
 -- where a path stays: in the whole method, or in a loop's body
 pub data Region : Type 0 where
@@ -49,11 +48,11 @@ pub data Costs (p : Image) (t : Typing) (c : Prices) (m : ℕ) : Region → ℕ 
       AmongFlows to (flows p m place sh i) → Costs p t c m r to n → Costs p t c m r place (own p m c sh i + n)
   -- all rounds of a loop, and what is after it
   loops :
-      {r : Region} {place to d rounds b e out : ℕ} {sh : Shape} → Inside r place → Stands p t m place sh (Loop d rounds) → Body p m place to d rounds →
+      {r : Region} {place to d rounds b e out : ℕ} {sh : Shape} → Inside r place → LoopStands p t m place sh d rounds → Body p m place to d rounds →
       Costs p t c m (Round place to) (suc place) b → GoesOut p t m place to out → Costs p t c m r out e → Costs p t c m r place (1 + rounds * b + e)
   -- or nothing is
   loops_in :
-      {r : Region} {place to d rounds b : ℕ} {sh : Shape} → Inside r place → Stands p t m place sh (Loop d rounds) → Body p m place to d rounds →
+      {r : Region} {place to d rounds b : ℕ} {sh : Shape} → Inside r place → LoopStands p t m place sh d rounds → Body p m place to d rounds →
       Costs p t c m (Round place to) (suc place) b → Costs p t c m r place (1 + rounds * b)
 
 -- the most over the paths of the whole method
