@@ -1,20 +1,18 @@
 -- How much a well-typed state has at hand: methods, tasks, marks and entries.
 use Rattle.std.proofs.lemmas.Bool.Decides.{nat_tests}
-use Rattle.std.proofs.Common.{List, Some, [], ap, arith, false, inl, length, refl, subst, suc, sym, ℕ, ◌*◌, ◌+◌, ◌<◌, ◌∙◌, ◌∷◌, ◌≡◌, ◌≤◌, pos}
+use Rattle.std.proofs.Common.{IsSome, List, Some, [], ap, arith, false, length, refl, subst, suc, sym, true, ℕ, ◌*◌, ◌+◌, ◌<◌, ◌∙◌, ◌∷◌, ◌≡◌, ◌≤◌, pos}
 use Rattle.std.proofs.lemmas.Bool.{true≢false}
+use Rattle.std.proofs.lemmas.Option.{same_Some}
 use Rattle.aom_image.specs.Image.{Image}
-use Rattle.aom_image.specs.Views.{instr_at}
-use Rattle.aom_instructions.specs.declared.instr.Instr.TheVariants.{Push, PushOperation, Trap}
-use Rattle.aom_instructions.specs.declared.instr.Target.{Target}
+use Rattle.aom_image.specs.Views.{instr_at, leaves, method_at}
+use Rattle.aom_instructions.specs.declared.instr.Instr.{Instr}
 use Rattle.aom_roles.specs.Tests.{AllTrue}
-use Rattle.aom_rules.specs.Cleanup.{entry_of}
-use Rattle.aom_shape.specs.Entries.{with_entry}
-use Rattle.aom_shape.specs.Kinds.{register, set_register}
-use Rattle.aom_rules.specs.Rules.{flows, rule_needs}
+use Rattle.aom_rules.specs.Rules.{flows, rule_needs, ways_of}
+use Rattle.aom_rules.specs.Ways.{Goes_on, News, after, flowing}
+use Rattle.aom_shape.specs.Shape.{Shape}
 use Rattle.aom_roles.specs.Tables.{at}
 use Rattle.aom_rules.specs.Typing.{AllLead, IsTyped, Typing}
-use Rattle.aom_shape.specs.declared.kind.CleanupEntry.TheVariants.{Operation as Pushed_operation}
-use Rattle.aom_shape.specs.declared.kind.Kind.TheVariants.{Null}
+use Rattle.aom_typings.specs.Calls.{Among, callees}
 use Rattle.aom_typings.specs.Strongest.{IsStrongest}
 use Rattle.aom_typings.specs.Depths.{HasDepths, alone}
 use Rattle.aom_typings.specs.Heights.{HasHeights}
@@ -137,48 +135,37 @@ marks_under p t s fr ts w same = method_layer (Stack p t s.cells Now) fr ts w.la
     let few = few_traps p t s.cells (Returns fr.method fr.home) ls h.4 in
     omega (arith, few, all_matched p t s w, ap traps same, ap traps under, ap methods_in under))
 
+-- there is room for the mark of an instruction that calls a method
 pub marks_at_hand : (p : Image) (t : Typing) → IsWired p → IsTyped p t → IsStrongest p t → (depths : HasDepths p) (heights : HasHeights p)
     (s : State) (fr : Frame) (ts : List Task) → WellTyped p t s → s.tasks ≡ Run fr ∷ ts → HasRoom p (at 0 depths.depths) (at 0 heights.heights) s
-    → (target : Target) (m first x : ℕ) → instr_at p fr.method fr.place ≡ Some (Trap target m first x) → marks s.items < 256
-marks_at_hand p t wired typed strongest depths heights s fr ts w same room target m first x here =
+    → (i : Instr) (k : ℕ) → instr_at p fr.method fr.place ≡ Some i → IsSome (method_at p k) → ((sh : Shape) → Among k (callees p fr.method sh i))
+    → marks s.items < 256
+marks_at_hand p t wired typed strongest depths heights s fr ts w same room i k here there calls =
     let h = stands_here p t s fr ts w same in
     let all = subst (AllUnder (at 0 depths.depths)) same room.under in
     let few = few_under (at 0 depths.depths) depths.are.within (at 0 depths.depths fr.method) ts (depths.are.within fr.method) all.0 all.1 in
-    let one = (depths.are.each m (wired.trapped fr.method fr.place target m first x here).there).most 1
-    (alone (wired.trapped fr.method fr.place target m first x here).there) in
+    let one = (depths.are.each k there).most 1 (alone there) in
     let less = may_call p t (at 0 depths.depths) (at 0 heights.heights) (tables_of p t wired strongest depths heights) fr h.shape h.there
-    (Trap target m first x) m here (inl refl) in
+    i k here (calls h.shape) in
     omega (arith, few, one, less, marks_under p t s fr ts w same)
 
 -- ---- entries
 
--- there is room for what is pushed
-pub push_at_hand : (p : Image) (t : Typing) → IsWired p → IsTyped p t → IsStrongest p t → (depths : HasDepths p) (heights : HasHeights p)
+-- there is room for what an instruction pushes that may leave
+pub entries_at_hand : (p : Image) (t : Typing) → IsWired p → IsTyped p t → IsStrongest p t → (depths : HasDepths p) (heights : HasHeights p)
     (s : State) (fr : Frame) (ts : List Task) → WellTyped p t s → s.tasks ≡ Run fr ∷ ts → HasRoom p (at 0 depths.depths) (at 0 heights.heights) s
-    → (a : ℕ) → instr_at p fr.method fr.place ≡ Some (Push a) → entries_in s.items < 1024
-push_at_hand p t wired typed strongest depths heights s fr ts w same room a here =
+    → (i : Instr) (news : News) → instr_at p fr.method fr.place ≡ Some i → ways_of p i ≡ Goes_on news
+    → ((sh : Shape) → AllTrue (rule_needs p fr.method fr.place sh i) → leaves p fr.method ≡ true)
+    → ((sh : Shape) → length (after p fr.method fr.place sh news).entries ≡ suc (length sh.entries)) → entries_in s.items < 1024
+entries_at_hand p t wired typed strongest depths heights s fr ts w same room i news here goes leave more =
     let h = stands_here p t s fr ts w same in
     let x = typed.each fr.method fr.place h.shape h.there in
-    let it : x.instr ≡ Push a = let both : Some x.instr ≡ Some (Push a) = sym x.stands ∙ here in cc in
-    let needs = subst (λ i. AllTrue (rule_needs p fr.method fr.place h.shape i)) it x.needs in
-    let leads = subst (λ i. AllLead t fr.method (flows p fr.method fr.place h.shape i)) it x.flows in
+    let it : x.instr ≡ i = same_Some x.instr i (sym x.stands ∙ here) in
+    let needs = subst (λ j. AllTrue (rule_needs p fr.method fr.place h.shape j)) it x.needs in
+    let all_lead = subst (λ j. AllLead t fr.method (flows p fr.method fr.place h.shape j)) it x.flows in
+    let leads = subst (λ v. AllLead t fr.method (flowing p fr.method fr.place h.shape v)) goes all_lead in
     let roomy = subst (λ l. Roomy p (at 0 depths.depths) (at 0 heights.heights) s.cells s.items l) same (room.under, room.runs, room.fit, room.entries) in
     let few = pushes p t (at 0 depths.depths) (at 0 heights.heights) (tables_of p t wired strongest depths heights)
     (record { name = 0; refused = false; answer = pos 0 }) fr ts s w.undos same h (none_going_there p t s w (length (Run fr ∷ ts)) (ap length same)) roomy
-    (line_goes p t wired s w fr ts same) (Push a) (with_entry (entry_of (register h.shape a)) (set_register h.shape a Null)) here needs.1.0 leads.0 refl in
-    omega (arith, few)
-
-pub push_operation_at_hand : (p : Image) (t : Typing) → IsWired p → IsTyped p t → IsStrongest p t → (depths : HasDepths p) (heights : HasHeights p)
-    (s : State) (fr : Frame) (ts : List Task) → WellTyped p t s → s.tasks ≡ Run fr ∷ ts → HasRoom p (at 0 depths.depths) (at 0 heights.heights) s
-    → (a m : ℕ) → instr_at p fr.method fr.place ≡ Some (PushOperation a m) → entries_in s.items < 1024
-push_operation_at_hand p t wired typed strongest depths heights s fr ts w same room a m here =
-    let h = stands_here p t s fr ts w same in
-    let x = typed.each fr.method fr.place h.shape h.there in
-    let it : x.instr ≡ PushOperation a m = let both : Some x.instr ≡ Some (PushOperation a m) = sym x.stands ∙ here in cc in
-    let needs = subst (λ i. AllTrue (rule_needs p fr.method fr.place h.shape i)) it x.needs in
-    let leads = subst (λ i. AllLead t fr.method (flows p fr.method fr.place h.shape i)) it x.flows in
-    let roomy = subst (λ l. Roomy p (at 0 depths.depths) (at 0 heights.heights) s.cells s.items l) same (room.under, room.runs, room.fit, room.entries) in
-    let few = pushes p t (at 0 depths.depths) (at 0 heights.heights) (tables_of p t wired strongest depths heights)
-    (record { name = 0; refused = false; answer = pos 0 }) fr ts s w.undos same h (none_going_there p t s w (length (Run fr ∷ ts)) (ap length same)) roomy
-    (line_goes p t wired s w fr ts same) (PushOperation a m) (with_entry Pushed_operation h.shape) here needs.1.0 leads.0 refl in
+    (line_goes p t wired s w fr ts same) i (after p fr.method fr.place h.shape news) here (leave h.shape needs) leads.0 (more h.shape) in
     omega (arith, few)

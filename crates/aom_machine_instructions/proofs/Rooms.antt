@@ -1,16 +1,20 @@
 -- The room that a run needs is there: on the machine's side as on that of the checked machine.
 use Rattle.std.proofs.lemmas.Bool.Decides.{nat_tests}
-use Rattle.std.proofs.Common.{List, Some, ap, arith, length, suc, sym, ℕ, ◌+◌, ◌<◌, ◌∙◌, ◌∷◌, ◌≡◌}
+use Rattle.std.proofs.Common.{IsSome, List, Some, ap, arith, length, suc, sym, true, ℕ, ◌+◌, ◌<◌, ◌∙◌, ◌∷◌, ◌≡◌}
 use Rattle.aom_image.specs.Image.{Image}
-use Rattle.aom_image.specs.Views.{instr_at}
+use Rattle.aom_image.specs.Views.{instr_at, leaves, method_at}
 use Rattle.aom_instructions.specs.declared.instr.Instr.{Instr}
-use Rattle.aom_instructions.specs.declared.instr.Instr.TheVariants.{Push, PushOperation, Trap}
-use Rattle.aom_instructions.specs.declared.instr.Target.{Target}
 use Rattle.aom_frames.specs.Items.{entries_in, marks_in}
 use Rattle.aom_frames.specs.declared.item.Item.{Item as Machine_item}
 use Rattle.aom_frames.specs.Tasks.{Runs, method_here, place_here}
 use Rattle.aom_roles.specs.Tables.{at}
+use Rattle.aom_roles.specs.Tests.{AllTrue}
+use Rattle.aom_rules.specs.Rules.{rule_needs, ways_of}
 use Rattle.aom_rules.specs.Typing.{Typing}
+use Rattle.aom_rules.specs.Ways.{Goes_on, News, after}
+use Rattle.aom_shape.specs.Shape.{Shape}
+use Rattle.aom_typings.specs.Calls.{Among, callees}
+use Rattle.aom_safety.specs.Laws.{IsWired}
 use Rattle.aom_semantics.specs.Moves.{step}
 use Rattle.aom_safety.specs.Quiet.{IsCalm}
 use Rattle.aom_semantics.specs.State.{Choice, Frame, Goes, Item, Run, State, Task}
@@ -23,7 +27,7 @@ use Rattle.aom_machine_state.specs.Room as room
 use Rattle.aom_machine_state.specs.Room.{HasRoom}
 use Rattle.aom_machine_state.specs.Stands.{Sound, Stands}
 use Rattle.aom_safety.specs.Traps.{marks}
-use Rattle.aom_machine_instructions.proofs.Counts.{marks_at_hand, push_at_hand, push_operation_at_hand, tasks_at_hand}
+use Rattle.aom_machine_instructions.proofs.Counts.{entries_at_hand, marks_at_hand, tasks_at_hand}
 use Rattle.aom_machine_instructions.proofs.RoomMoves.{boots_with_room, keeps_room}
 use Rattle.aom_machine_instructions.proofs.Stepping.{frame_of}
 use Rattle.aom_machine_instructions.proofs.MachineStateLemmas.{by_item, by_items, same_length}
@@ -68,29 +72,25 @@ module _ (p : Image) (m : Parts) (st : Stands (record { image = p; parts = m }))
   entry_room few = grind (arith, nat_tests, same_entries m.entries.items st.0.items st.1.agrees.entries)
 
 -- for an entry where one is pushed
-pub push_room : (p : Image) (m : Parts) (a : ℕ) → IsNext p (Push a) m → entries_in m.entries.items < m.entries.depth
-push_room p m a next =
+pub entries_room : (p : Image) (m : Parts) (i : Instr) (news : News) → IsNext p i m → ways_of p i ≡ Goes_on news
+    → ((k pc : ℕ) (sh : Shape) → AllTrue (rule_needs p k pc sh i) → leaves p k ≡ true)
+    → ((k pc : ℕ) (sh : Shape) → length (after p k pc sh news).entries ≡ suc (length sh.entries)) → entries_in m.entries.items < m.entries.depth
+entries_room p m i news next goes leave more =
     let st = next.stands in
     let sound = st.1.sound in
-    let f = at_hand p (counting next.counts m) st next.runs (Push a) next.here in
+    let f = at_hand p (counting next.counts m) st next.runs i next.here in
     entry_room p (counting next.counts m) st
-    (push_at_hand p st.1.typing sound.wired sound.typed sound.strongest sound.depths sound.heights st.0 f.0 f.1 st.1.typed f.2 st.1.room a f.3)
+    (entries_at_hand p st.1.typing sound.wired sound.typed sound.strongest sound.depths sound.heights st.0 f.0 f.1 st.1.typed f.2 st.1.room
+    i news f.3 goes (leave f.0.method f.0.place) (more f.0.method f.0.place))
 
-pub push_operation_room : (p : Image) (m : Parts) (a k : ℕ) → IsNext p (PushOperation a k) m → entries_in m.entries.items < m.entries.depth
-push_operation_room p m a k next =
+-- and for a mark where a method is called
+pub mark_room : (p : Image) (m : Parts) (i : Instr) (k : ℕ) → IsNext p i m → (IsWired p → IsSome (method_at p k))
+    → ((n : ℕ) (sh : Shape) → Among k (callees p n sh i)) → marks_in m.entries.items < 256
+mark_room p m i k next there calls =
     let st = next.stands in
     let sound = st.1.sound in
-    let f = at_hand p (counting next.counts m) st next.runs (PushOperation a k) next.here in
-    entry_room p (counting next.counts m) st
-    (push_operation_at_hand p st.1.typing sound.wired sound.typed sound.strongest sound.depths sound.heights st.0 f.0 f.1 st.1.typed f.2 st.1.room a k f.3)
-
--- and for a mark where a trap is set
-pub mark_room : (p : Image) (m : Parts) (target : Target) (k first x : ℕ) → IsNext p (Trap target k first x) m → marks_in m.entries.items < 256
-mark_room p m target k first x next =
-    let st = next.stands in
-    let sound = st.1.sound in
-    let f = at_hand p (counting next.counts m) st next.runs (Trap target k first x) next.here in
+    let f = at_hand p (counting next.counts m) st next.runs i next.here in
     let few = marks_at_hand p st.1.typing sound.wired sound.typed sound.strongest sound.depths sound.heights st.0 f.0 f.1 st.1.typed f.2
-    st.1.room target k first x f.3 in
+    st.1.room i k f.3 (there sound.wired) (calls f.0.method) in
     let same = same_marks m.entries.items st.0.items st.1.agrees.entries in
     omega (arith, few, same)

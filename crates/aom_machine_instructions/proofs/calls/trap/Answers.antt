@@ -1,4 +1,4 @@
-use Rattle.std.proofs.Common.{sym}
+use Rattle.std.proofs.Common.{inl, refl, sym}
 use Rattle.aom_machine_instructions.proofs.EnterActs.{trap_does, trap_lives, traps_well}
 use Rattle.aom_machine_instructions.proofs.Rooms.{mark_room}
 use Rattle.aom_machine_instructions.proofs.ShapeLemmas.{arguments_there, class_there}
@@ -17,7 +17,8 @@ pub callee-whom-requires-clause-small : goal.callee-whom-requires-clause-small
 callee-whom-requires-clause-small c = (trap_lives c.args.linked.now c.args.parts.now c.args.on c.args.method c.args.first c.requires.0 c.requires.1).1
 
 pub mark-requires : goal.mark-requires
-mark-requires c = mark_room c.args.linked.now c.args.parts.now c.args.on c.args.method c.args.first c.requires.0 c.requires.1
+mark-requires c = mark_room c.args.linked.now c.args.parts.now _ c.args.method c.requires.1
+    (λ wired. (wired.trapped _ _ c.args.on c.args.method c.args.first c.requires.0 c.requires.1.here).there) (λ n sh. inl refl)
 
 pub enter_trap-requires-clause-within : goal.enter_trap-requires-clause-within
 enter_trap-requires-clause-within c =

@@ -1,12 +1,14 @@
-use Rattle.std.proofs.Common.{true, false, sym, ◌∙◌}
+use Rattle.std.proofs.Common.{true, false, refl, sym, ◌∙◌}
+use Rattle.aom_rules.specs.Ways.{Pushed}
 use Rattle.aom_machine_instructions.proofs.EntryActs.{push_does}
-use Rattle.aom_machine_instructions.proofs.Rooms.{push_room}
+use Rattle.aom_machine_instructions.proofs.Rooms.{entries_room}
 use Rattle.aom_machine_instructions.proofs.Resulting.{on_top_runs}
 use Rattle.aom_machine_instructions.proofs.cleanup.push.Goals as goal
 
 pub push_object-requires : goal.push_object-requires
 push_object-requires c =
-    rw (c.bring.ensures.brought, c.request-refused.ensures.counted) (push_room c.requires.0 c.args.parts.now c.args.from c.requires.1)
+    rw (c.bring.ensures.brought, c.request-refused.ensures.counted)
+    (entries_room c.requires.0 c.args.parts.now _ (Pushed c.args.from) c.requires.1 refl (λ k pc sh needs. needs.1.0) (λ k pc sh. refl))
 
 pub returns-then-refused-clause-does : goal.returns-then-refused-clause-does
 returns-then-refused-clause-does c =
