@@ -102,7 +102,7 @@ def command_of(name, functions):
         if kind == "file":
             arguments.append(Argument(*found(rf"{TEXT},\s*{TEXT}", words, f"a file of {name}"), many=False))
         elif kind == "native":
-            named = found(rf"Arg::new\(alloc, {TEXT}\)\s*\.help\({TEXT}\)", functions["native_arg"], "the word of a native")
+            named = found(rf"Arg::new\(alloc, {TEXT}\)\s*\.help\(\s*{TEXT}", functions["native_arg"], "the word of a native")
             arguments.append(Argument(*named, many=True))
         else:
             options.append(option_of(kind, functions[f"{kind}_arg"]))
@@ -111,6 +111,11 @@ def command_of(name, functions):
 
 def about():
     return found(rf'Command::new\(alloc, "aom"\)\s*\.about\({TEXT}\)', read(WORDS), "what the program does")[0]
+
+
+def below():
+    """What stands below the program's help, line by line."""
+    return found(r'const NOTES: &str = "\\\n(.*?)";', read(WORDS), f"what stands below the help in {WORDS}")[0].splitlines()
 
 
 def commands():

@@ -1,10 +1,13 @@
-"""The man page, in the macros of man(7), made from the form of the command line, the natives, the table of instructions and the tables of docs/program.md."""
+"""The man page, in the macros of man(7), made from the form of the command line, the natives, the table of instructions and tables of pages of docs/."""
 
+import itertools
 import re
 
 import form
 
 PAGE = "docs/program.md"
+TEXTS_PAGE = "docs/assembly.md"
+SCRIPTS_PAGE = "docs/script-and-transcript.md"
 # what each native does, in short; docs/natives.md says it exactly
 NATIVES = {
     "counter": "Answers calls with a total, to which it adds their words. It begins no request.",
@@ -23,6 +26,7 @@ FILES = [
     ("*.aom", "Assembly texts: a program in ASCII, of at most 1 MiB."),
     ("*.image", "Images: the bytes that aom asm makes of a text."),
     ("*.script", "Scripts: what happens to a run from outside, line by line. An empty file is one."),
+    ("PREFIX/share/doc/aom", "The pages that --explain and this page name, and examples, below the folder into which aom was installed. Its first-hour.md is for beginners."),
 ]
 
 
@@ -92,9 +96,32 @@ def status_lines():
     return items((bold(number), f"{marked(when[:1].upper() + when[1:])}.") for number, _, when in form.table_of(PAGE, "Exit statuses"))
 
 
+def forms_of(cell, mnemonics):
+    """The instructions that a cell of the page's table names, each with its operands. Those that share theirs stand before them: `add`, `sub` `rA rB rC`."""
+    spans = [it.split() for it in re.findall(r"`([^`]+)`", cell)]
+    shared = [it for it in spans if it[0] not in mnemonics]
+    return [form.Instruction(it[0], it[1:] or [word for words in shared for word in words]) for it in spans if it[0] in mnemonics]
+
+
 def instruction_lines():
-    yield "The instructions of assembly texts, with their operands: A, B and C are numbers of registers or fields, L is a label."
-    yield from [".nf", *(f"{bold(it.mnemonic)} {' '.join(it.operands)}".rstrip() for it in form.instructions()), ".fi"]
+    rows, known = form.table_of(TEXTS_PAGE, "Instructions"), form.instructions()
+    told = [it for cell, _ in rows for it in forms_of(cell, {one.mnemonic for one in known})]
+    strange = [it.mnemonic for it in [*known, *told] if (it in known) != (it in told)]
+    if strange:
+        raise form.Unreadable(f"{TEXTS_PAGE} has another form of {strange[0]} than the table of instructions")
+    yield "The instructions of assembly texts. A, B and C are numbers of registers or fields, L is a label, and TARGET is self, a register, a field or a"
+    yield "cleanup entry. The register that is written comes first. The object is the one that the method works on."
+    yield from items((marked(cell), f"{marked(says[:1].upper() + says[1:])}.") for cell, says in rows)
+
+
+def script_lines():
+    yield "A script has one thing in each line. T is a time in microseconds. Times do not fall from line to line."
+    yield from items((marked(line), f"{marked(says[:1].upper() + says[1:])}.") for line, says in form.table_of(SCRIPTS_PAGE, "Lines"))
+
+
+def transcript_lines():
+    yield "What a run writes, line by line. K is the number of a class, T a time."
+    yield from items((marked(line), f"{marked(when[:1].upper() + when[1:])}.") for line, when, _ in form.table_of(SCRIPTS_PAGE, "The transcript"))
 
 
 def example_lines():
@@ -108,6 +135,8 @@ def description():
     yield f"{plain(form.about())}."
     yield "An image is a program in bytes. It is checked before it runs, and refused, with the reason, unless no run of it can lose an object,"
     yield "use one that is gone, or take more steps than it declares, even where requests for memory are refused."
+    yield ".PP"
+    yield from map(plain, itertools.takewhile(bool, form.below()))
     yield ".PP"
     yield f"{bold('aom --help')} tells the commands, {bold('aom help')} \\fICOMMAND\\fR the words of one, and {bold('aom --version')} the version; all with status 2, on standard error."
 
@@ -124,6 +153,8 @@ def man_page():
         section("COMMANDS", [line for it in commands for line in command_lines(it)]),
         section("NATIVES", native_lines()),
         section("INSTRUCTIONS", instruction_lines()),
+        section("SCRIPTS", script_lines()),
+        section("TRANSCRIPTS", transcript_lines()),
         section("EXIT STATUS", status_lines()),
         section("DIAGNOSTICS", fault_lines()),
         section("FILES", items((bold(ending), plain(says)) for ending, says in FILES)),

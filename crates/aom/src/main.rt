@@ -19,8 +19,9 @@ use aom_debug::debug_bytes;
 use aom_explaining::{
     asm_explained, check_by_text, check_explained, check_lined, debug_named, dot_named,
     explore_by_text, prices_named, run_by_text, run_explained, run_named, tell_explained,
+    tell_lined, tell_unread,
 };
-use aom_host::{Input, Output, read_file};
+use aom_host::{Input, Output, Unready, read_file};
 use aom_injection::{Part, Tries};
 use aom_natives::{Counter, Delay, Line, Native, NativeKind};
 use aom_run::{Sink, write_text};
@@ -110,9 +111,25 @@ fn answer<W: Sink, E: Sink>(
     match read_words(rt.alloc(), words) {
         Ok(words) => match obey(rt, &words, out, errors) {
             Ok(status) => status,
-            Err(fault) => tell_or_explain(rt, &fault, explain, errors),
+            Err(unready) => tell_unready(rt, unready, explain, errors),
         },
         Err(fault) => refuse(rt, fault, explain, errors),
+    }
+}
+
+/// Tells why the command has not begun: which file cannot be read, and why, where that is to be explained.
+fn tell_unready<E: Sink>(
+    rt: &HostRuntime,
+    unready: Unready<'_>,
+    explain: bool,
+    errors: &mut E,
+) -> ExitStatus {
+    match unready {
+        Unready::File { name, why } if explain => {
+            tell_unread(rt.alloc(), name.as_bytes(), why.as_bytes(), errors)
+        }
+        Unready::File { .. } => tell(&Fault::File, errors),
+        Unready::Memory => tell_or_explain(rt, &Fault::Memory, explain, errors),
     }
 }
 
@@ -134,12 +151,12 @@ fn refuse<E: Sink>(
 }
 
 /// Reads the files and runs the command. All files are read before anything is looked at.
-fn obey<W: Sink, E: Sink>(
+fn obey<'a, W: Sink, E: Sink>(
     rt: &HostRuntime,
-    words: &Words,
+    words: &'a Words,
     out: &mut W,
     errors: &mut E,
-) -> Result<ExitStatus, Fault>
+) -> Result<ExitStatus, Unready<'a>>
     requires limit { KeepsLimit words.now }
 {
     let alloc = rt.alloc();
@@ -152,12 +169,8 @@ fn obey<W: Sink, E: Sink>(
             lines,
             text,
         } => {
-            let program = Program::read(rt, image, text)?;
             let telling = telling_of(*explain, *lines, text.as_ref().unwrap_or(image));
-            match program.ready(alloc, *asm, telling, errors) {
-                Ok(program) => Ok(check_program(alloc, &program, *prices, telling, out, errors)),
-                Err(status) => Ok(status),
-            }
+            check_beside(rt, image, text, *asm, *prices, telling, out, errors)
         }
         Words::Run {
             run,
@@ -193,6 +206,31 @@ fn telling_of(explain: bool, lines: bool, file: &String) -> Telling<'_> {
         Telling::Lined(file.as_bytes())
     } else {
         Telling::of_flag(explain)
+    }
+}
+
+/// Reads the files of an image, and checks it. A file that cannot be read is told in one line where faults are told so.
+fn check_beside<'a, W: Sink, E: Sink>(
+    rt: &HostRuntime,
+    image: &'a String,
+    text: &'a Option<String>,
+    asm: bool,
+    prices: bool,
+    telling: Telling<'_>,
+    out: &mut W,
+    errors: &mut E,
+) -> Result<ExitStatus, Unready<'a>> {
+    let alloc = rt.alloc();
+    match Program::read(rt, image, text) {
+        Ok(program) => match program.ready(alloc, asm, telling, errors) {
+            Ok(program) => Ok(check_program(alloc, &program, prices, telling, out, errors)),
+            Err(status) => Ok(status),
+        },
+        Err(Unready::File { name, .. }) if matches!(telling, Telling::Lined(_)) => {
+            let name = name.as_bytes();
+            Ok(tell_lined(alloc, name, None, &Fault::File, errors))
+        }
+        Err(unready) => Err(unready),
     }
 }
 
@@ -239,7 +277,11 @@ struct RunFiles {
 }
 
 impl RunFiles {
-    fn read(rt: &HostRuntime, run: &RunWords, text: &Option<String>) -> Result<RunFiles, Fault> {
+    fn read<'a>(
+        rt: &HostRuntime,
+        run: &'a RunWords,
+        text: &'a Option<String>,
+    ) -> Result<RunFiles, Unready<'a>> {
         Ok(RunFiles {
             program: Program::read(rt, &run.image, text)?,
             script: read_file(rt, &run.script)?,
@@ -331,14 +373,14 @@ impl Purpose {
 }
 
 /// Reads the files of a run, and runs the image beside the natives that the words name.
-fn run_beside<W: Sink, E: Sink>(
+fn run_beside<'a, W: Sink, E: Sink>(
     rt: &HostRuntime,
-    run: &RunWords,
-    text: &Option<String>,
+    run: &'a RunWords,
+    text: &'a Option<String>,
     purpose: Purpose,
     out: &mut W,
     errors: &mut E,
-) -> Result<ExitStatus, Fault>
+) -> Result<ExitStatus, Unready<'a>>
     requires limit { (1 ≤ run.now.limit) × (run.now.limit ≤ 1000000000) }
 {
     let files = RunFiles::read(rt, run, text)?;
@@ -355,15 +397,15 @@ fn run_beside<W: Sink, E: Sink>(
 }
 
 /// Makes natives of the kinds that the words name, and runs an image beside them.
-fn run_files<W: Sink, E: Sink>(
+fn run_files<'a, W: Sink, E: Sink>(
     rt: &HostRuntime,
     purpose: Purpose,
-    run: &RunWords,
+    run: &'a RunWords,
     kinds: &[NativeKind],
     files: &RunFiles,
     out: &mut W,
     errors: &mut E,
-) -> Result<ExitStatus, Fault>
+) -> Result<ExitStatus, Unready<'a>>
     requires limit { (1 ≤ run.now.limit) × (run.now.limit ≤ 1000000000) }
     requires kinds { kinds.now ≡ run.now.natives.items }
 {
@@ -393,14 +435,14 @@ fn tries_of(words: TriesWords) -> Tries {
 }
 
 /// Reads the files of a run, and runs the image again and again, each time with a fault injected.
-fn explore_beside<W: Sink, E: Sink>(
+fn explore_beside<'a, W: Sink, E: Sink>(
     rt: &HostRuntime,
-    run: &RunWords,
-    text: &Option<String>,
+    run: &'a RunWords,
+    text: &'a Option<String>,
     tries: Tries,
     out: &mut W,
     errors: &mut E,
-) -> Result<ExitStatus, Fault>
+) -> Result<ExitStatus, Unready<'a>>
     requires limit { (1 ≤ run.now.limit) × (run.now.limit ≤ 1000000000) }
 {
     let files = RunFiles::read(rt, run, text)?;

@@ -4,7 +4,7 @@ ghost use Rattle.aom_commands.specs.Assembly.{Makes, RefusesText};
 
 use aom_commands::{ExitStatus, Fault, assemble_bytes, tell};
 use aom_explaining::{tell_explained, tell_lined};
-use aom_host::read_file;
+use aom_host::{Unready, read_file};
 use aom_run::Sink;
 use std::alloc::Global;
 use std::mem;
@@ -41,7 +41,11 @@ impl<'a> Telling<'a> {
 
 impl Program {
     /// Reads the files of an image and of the text that is named beside it.
-    pub fn read(rt: &HostRuntime, image: &String, text: &Option<String>) -> Result<Program, Fault> {
+    pub fn read<'a>(
+        rt: &HostRuntime,
+        image: &'a String,
+        text: &'a Option<String>,
+    ) -> Result<Program, Unready<'a>> {
         let text = match text {
             Some(name) => Some(read_file(rt, name)?),
             None => None,

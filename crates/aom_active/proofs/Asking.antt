@@ -6,7 +6,7 @@ use Rattle.std.proofs.Math.Nat.{le-max_left, le-max_right}
 use Rattle.aom_image.specs.declared.method.Thing.{Thing}
 use Rattle.aom_active.proofs.SemanticsLemmas.{named_name, named_without, requested_without, unnamed}
 use Rattle.aom_active.proofs.SafetyLemmas.{requested_here, requested_there, requested_unnamed, service_unnamed, service_without}
-use Rattle.aom_semantics.specs.Enlisted.{next_order, next_timer}
+use Rattle.aom_semantics.specs.Requests.{next_order, next_timer}
 use Rattle.aom_semantics.specs.Places.{Cell, Object, Place, Request, Tidy, held, named, requested, set_request, with_new, without, Service}
 use Rattle.aom_semantics.specs.Places.{service_of}
 use Rattle.aom_active.specs.Agrees.{queue_in, queued}

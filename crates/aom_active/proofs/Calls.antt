@@ -16,7 +16,7 @@ use Rattle.aom_scheduler.specs.Roster.{IsSound, Roster, before, first_ready, mar
 use Rattle.aom_scheduler.specs.Pending.{AreInOrder, Pending, due_by, due_of, left_by, no_later, timer_of}
 use Rattle.aom_scheduler.specs.declared.timer.Timer.{Timer as Machine_timer}
 use Rattle.aom_active.proofs.SchedulerLemmas.{AreDistinct, IsAbsent, place-absent}
-use Rattle.aom_semantics.specs.Enlisted.{aborted, cancelled, cancelling, completed_at_once, completed_with, recorded, taken_up, timed_out, waits}
+use Rattle.aom_semantics.specs.Requests.{aborted, cancelled, cancelling, completed_at_once, completed_with, recorded, taken_up, timed_out, waits}
 use Rattle.aom_semantics.specs.Natives.{is_owed}
 use Rattle.aom_semantics.specs.Places.{Issued, Request}
 use Rattle.aom_semantics.specs.Tokens.{promised}

@@ -8,8 +8,8 @@ use Rattle.aom_scheduler.specs.declared.request.State.{State}
 use Rattle.aom_scheduler.specs.declared.request.State.TheVariants.{Idle as Machine_idle, Issued as Machine_issued, Active as Machine_active}
 use Rattle.aom_scheduler.specs.declared.request.State.TheVariants.{Cancelling as Machine_cancelling, Aborted as Machine_aborted}
 use Rattle.aom_scheduler.specs.declared.request.Request.{Request as Machine_request}
-use Rattle.aom_semantics.specs.Enlisted as Enlisted
-use Rattle.aom_semantics.specs.Enlisted.{in_phase, is_active, is_cancelling}
+use Rattle.aom_semantics.specs.Requests as Requests
+use Rattle.aom_semantics.specs.Requests.{in_phase, is_active, is_cancelling}
 use Rattle.aom_semantics.specs.Places.{Aborted, Active as Waiting, Cancelling, Idle, Issued, Phase, Request}
 use Rattle.aom_active.specs.Agrees.{Active, StandsFor, Tells}
 use Rattle.aom_active.specs.Meanings.{is_being_cancelled, is_busy, is_waited_for}
@@ -49,7 +49,7 @@ tells_active h o waits tells = grind arith
 tells_cancelling : (h : Option Machine_request) (o : Option Request) (waits : Option Bool) → Tells h o waits → is_being_cancelled h ≡ in_phase is_cancelling o
 tells_cancelling h o waits tells = grind arith
 
-tells_busy : (h : Option Machine_request) (o : Option Request) (waits : Option Bool) → Tells h o waits → is_busy h ≡ in_phase Enlisted.is_busy o
+tells_busy : (h : Option Machine_request) (o : Option Request) (waits : Option Bool) → Tells h o waits → is_busy h ≡ in_phase Requests.is_busy o
 tells_busy h o waits tells = grind arith
 
 -- ---- all of them
@@ -82,7 +82,7 @@ module _ (a : Active) (asked : ℕ → Option Request) (queues : ℕ → Option 
   pub told_cancelling : is_being_cancelled (request_at a.table id) ≡ in_phase is_cancelling (asked id)
   told_cancelling = tells_cancelling (request_at a.table id) (asked id) (queues id) (s.tells id)
 
-  pub told_busy : is_busy (request_at a.table id) ≡ in_phase Enlisted.is_busy (asked id)
+  pub told_busy : is_busy (request_at a.table id) ≡ in_phase Requests.is_busy (asked id)
   told_busy = tells_busy (request_at a.table id) (asked id) (queues id) (s.tells id)
 
 -- the functions by which they are told do not matter, nor the queue of what is not enlisted

@@ -11,7 +11,7 @@ use Rattle.aom_scheduler.specs.Roster.{Roster, before, marked, marked_entry, pla
 use Rattle.aom_scheduler.specs.Pending.{Pending, due_of, no_later, timer_of}
 use Rattle.aom_scheduler.specs.declared.entry.ScheduleEntry.{ScheduleEntry}
 use Rattle.aom_active.proofs.SchedulerLemmas.{All-placed, IsAbsent, marked-place}
-use Rattle.aom_semantics.specs.Enlisted.{waits}
+use Rattle.aom_semantics.specs.Requests.{waits}
 use Rattle.aom_semantics.specs.Places.{Request}
 use Rattle.aom_active.specs.Agrees.{Active, IsWhole, Tells, due_in, may_stand, timer_in}
 use Rattle.aom_active.specs.Meanings.{asked_anew}

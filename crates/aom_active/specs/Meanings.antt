@@ -4,7 +4,7 @@ use Rattle.aom_scheduler.specs.Requests.{is_server, request_at}
 use Rattle.aom_scheduler.specs.declared.request.State.TheVariants.{Active as Machine_active, Cancelling as Machine_cancelling, Aborted as Machine_aborted}
 use Rattle.aom_scheduler.specs.declared.request.Request.{Request as Machine_request}
 use Rattle.aom_scheduler.specs.declared.request.Request.TheVariants.{Object as Machine_object}
-use Rattle.aom_semantics.specs.Enlisted.{pending, taken_up, timed_out}
+use Rattle.aom_semantics.specs.Requests.{pending, taken_up, timed_out}
 use Rattle.aom_semantics.specs.Places.{Cell, Idle, Issued, Request, Tidy, Timer, requested, service_of}
 use Rattle.aom_semantics.specs.Servers.{has_more}
 use Rattle.aom_semantics.specs.World.{first_due, goes_before, is_ready, is_sooner, signal_count}

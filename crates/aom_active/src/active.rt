@@ -4,7 +4,7 @@ ghost use Rattle.aom_scheduler.specs.Requests.{request_at, IsEnlisted, state_at,
 ghost use Rattle.aom_scheduler.specs.Pending.{first_due, due_of, AreInOrder};
 ghost use Rattle.aom_scheduler.specs.Roster.{IsSound, place};
 ghost use Rattle.aom_image.specs.declared.class.Provider.TheVariants.{Own};
-ghost use Rattle.aom_semantics.specs.Enlisted.{completed_at_once, completed_with, pending, recorded, waits, cancelling, aborted, cancelled};
+ghost use Rattle.aom_semantics.specs.Requests.{completed_at_once, completed_with, pending, recorded, waits, cancelling, aborted, cancelled};
 ghost use Rattle.aom_semantics.specs.Natives.{is_owed};
 ghost use Rattle.aom_semantics.specs.Places.{Request as RequestRecord};
 ghost use Rattle.aom_semantics.specs.Tokens.{promised};

@@ -4,7 +4,7 @@ ghost use Rattle.aom_image.specs.Image.{Image as ImageRecord};
 ghost use Rattle.aom_typings.specs.Calls.{listed};
 ghost use Rattle.aom_budget.specs.Pricing.{null_targets, empty_targets, states_targets, targets_of};
 
-use aom_image::{Instr, Place, States};
+use aom_image::{Instr, InstrPlace, States};
 use aom_rules::{enlisted, inactive, outstanding};
 use aom_shape::{Filling, Kind};
 use aom_verify::ShapeView;
@@ -18,7 +18,7 @@ pub(crate) struct Targets {
 }
 
 /// A place as an index.
-fn index_of(place: Place) -> usize
+fn index_of(place: InstrPlace) -> usize
     ensures { result ≡ place }
 {
     place.number() as usize

@@ -8,17 +8,13 @@ use Rattle.std.proofs.lemmas.List.Sums.{count_by_more_yes, count_by_more_no}
 use Rattle.std.proofs.lemmas.Bool.{leb-true, le-leb}
 use Rattle.std.proofs.lemmas.Option.{slice_get_read, get_or_from_slice_get}
 use Rattle.aom_classes.proofs.ImageLemmas.{true_given}
-pub use Rattle.aom_classes.proofs.RolesLemmas.{EachBelow, each_all, each_more}
+pub use Rattle.aom_classes.proofs.RolesLemmas.{EachBelow, each_all, each_more, first_here, none_first, none_first_all, refused, told}
 
 pub both : (a b : Bool) → IsTrue (a && b) → IsTrue a × IsTrue b
 both a b h = true_given (λ x. IsTrue (x && b)) a h (λ none. cc) (λ first second. (first, second))
 
 pub join : (a b : Bool) → IsTrue a → IsTrue b → IsTrue (a && b)
 join x b h k = grind arith
-
--- what a test says no to
-pub refused : {P : Type 0} (r : Bool) → IsTrue r ↔ P → r ≡ false → ¬ P
-refused r h e p = let t = h.1 p in absurd (cc)
 
 -- no, where it does not hold of one element
 pub each_not : {X : Type 0} (P : ℕ → X → Type 0) (xs : List X) (i : ℕ) (x : X) → i < length xs → x ≡ slice_index_or xs i x → (¬ P i x) →

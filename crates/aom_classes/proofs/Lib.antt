@@ -9,6 +9,7 @@ mod Mentioning
 mod Nested
 mod Nesting
 mod Ordering
+mod Places
 mod Playing
 mod Views
 pub mod ClassesLemmas

@@ -1,5 +1,6 @@
 -- Where an instruction may go on, and what is asked of it.
-use Rattle.std.specs.Prelude.{ℕ, suc, ◌≡◌, ◌<◌, ◌≤◌, Bool, true, false, List, length, Option, Some, None, IfSome, IsTrue, slice_get}
+use Rattle.std.specs.Prelude.{ℕ, suc, ◌≡◌, ◌<◌, ◌≤◌, ◌⊎◌, Bool, true, false, List, length, Option, Some, None, IfSome, IsTrue, slice_get}
+use Rattle.aom_roles.specs.Firsts.{FirstNot}
 use Rattle.aom_instructions.specs.declared.instr.Instr.{Instr}
 use Rattle.aom_instructions.specs.declared.instr.Instr.TheVariants.{Jump, JumpEqual, JumpLess, JumpNull, JumpEmpty, JumpActive, JumpAdded, Loop, Next, Return, Leave}
 
@@ -67,3 +68,31 @@ AllEndClosed code = (q : ℕ) → q < length code → EndsClosed code q
 pub record JumpsWell (code : List Instr) : Type 0 where
   pub each : AllKeepWithin code
   pub bodies : AllEndClosed code
+
+-- ---- a place that jumps as it may not
+
+-- the first place whose jump leads from outside into a body
+pub record JumpsInto (code : List Instr) (s : ℕ) : Type 0 where
+  pub from : ℕ
+  pub to : ℕ
+  pub within : to < length code
+  pub body : Body code from to
+  pub first : FirstNot (StaysOut from to) code s
+
+-- none where no jump leads into the one that ends at q
+abbrev pub IntoEnd : List Instr → ℕ → Option ℕ → Type 0
+IntoEnd code q None = EndsClosed code q
+IntoEnd code q (Some s) = JumpsInto code s
+
+abbrev pub IntoLoop : List Instr → Option ℕ → Type 0
+IntoLoop code None = AllEndClosed code
+IntoLoop code (Some s) = JumpsInto code s
+
+-- the first that goes back, past the end or has no successor, or one that leads into a body
+abbrev pub JumpFails : List Instr → ℕ → Type 0
+JumpFails code s = FirstNot (KeepsWithin (length code)) code s ⊎ JumpsInto code s
+
+-- none where the jumps are as they may be
+abbrev pub BadJumpOf : List Instr → Option ℕ → Type 0
+BadJumpOf code None = JumpsWell code
+BadJumpOf code (Some s) = JumpFails code s

@@ -8,5 +8,6 @@ pub mod Loops
 pub mod Needs
 pub mod Orders
 pub mod Overriding
+pub mod Places
 pub mod Roles
 pub mod Scanning

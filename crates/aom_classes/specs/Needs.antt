@@ -1,5 +1,5 @@
 -- Which methods a class needs, and which it may have once.
-use Rattle.std.specs.Prelude.{◌≤◌, ◌<◌, ℕ, List, length, IfSome, IsSome, slice_get, count_by}
+use Rattle.std.specs.Prelude.{◌≡◌, ◌≤◌, ◌<◌, ℕ, List, length, Option, Some, None, IfSome, IsSome, IsTrue, slice_get, take, count_by}
 use Rattle.aom_image.specs.Image.{Image}
 use Rattle.aom_image.specs.Views.{class_at}
 use Rattle.aom_image.specs.declared.class.ClassDecl.{ClassDecl}
@@ -60,6 +60,11 @@ pub record ClassSingle (methods : List Method) (c : ℕ) : Type 0 where
 
 abbrev pub EachSingle : List Method → List ClassDecl → Type 0
 EachSingle methods classes = (c : ℕ) → IfSome (slice_get classes c) (λ d. ClassSingle methods c)
+
+-- the second main; none where there are no two
+abbrev pub SecondMain : List Method → Option ℕ → Type 0
+SecondMain methods None = count_by is_main methods ≤ 1
+SecondMain methods (Some k) = (k < length methods) × IfSome (slice_get methods k) (λ d. IsTrue (is_main d)) × (count_by is_main (take k methods) ≡ 1)
 
 -- no class has two methods of one such role, and there are no two mains
 pub record RolesSingle (p : Image) : Type 0 where

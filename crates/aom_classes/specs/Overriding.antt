@@ -1,10 +1,11 @@
 -- Methods that run in the place of others.
-use Rattle.std.specs.Prelude.{◌≡◌, ℕ, zero, suc, Bool, false, ◌==◌, ◌&&◌, ◌||◌, not, IsTrue, length, position, slice_get, All, Option, Some, None, IfSome}
+use Rattle.std.specs.Prelude.{◌≡◌, ◌<◌, ℕ, zero, suc, Bool, false, ◌==◌, ◌&&◌, ◌||◌, not, IsTrue, length, position, slice_get, All, Option, Some, None, IfSome}
 use Rattle.aom_image.specs.Image.{Image}
 use Rattle.aom_image.specs.Views.{has, method_at}
 use Rattle.aom_image.specs.declared.method.Method.{Method}
 use Rattle.aom_image.specs.declared.method.Role.TheVariants.{Do}
 use Rattle.aom_roles.specs.Families.{descends, parent_of}
+use Rattle.aom_roles.specs.Firsts.{FirstNot}
 use Rattle.aom_roles.specs.Roles.{same_role}
 use Rattle.aom_roles.specs.Shapes.{may_leave, is_quiet}
 use Rattle.aom_classes.specs.Roles.{is_class, or_else}
@@ -97,6 +98,11 @@ OverriddenOnce p m = (k : ℕ) → IfSome (slice_get p.methods k) (IsOnly p m k)
 -- no two methods of a class override the same one, themselves or through others
 abbrev pub AllOverriddenOnce : Image → Type 0
 AllOverriddenOnce p = (m : ℕ) → IfSome (slice_get p.methods m) (λ e. OverriddenOnce p m)
+
+-- a method that overrides one that another of its class overrides before it; none where there is no such
+abbrev pub OtherOverrider : Image → Option ℕ → Type 0
+OtherOverrider p None = AllOverriddenOnce p
+OtherOverrider p (Some k) = (m : ℕ) × (m < length p.methods) × FirstNot (IsOnly p m) p.methods k
 
 -- no method overrides another
 abbrev pub OverridesNothing : Image → Type 0

@@ -2,9 +2,13 @@
 ghost use Rattle.std.specs.Prelude.{◌≡◌, ◌<◌, ◌↔◌, IsTrue, All};
 ghost use Rattle.aom_image.specs.Views.{fields_of};
 ghost use Rattle.aom_classes.specs.Orders.{IsOrders};
-ghost use Rattle.aom_classes.specs.Calls.{MentionsThing, MentionsArgument, MentionsResult, CallsBelow, RunsBelow, MentionsFields, MentionsRoot, CallsOrdered, EachCallsOrdered, AllCallsOrdered};
+ghost use Rattle.aom_classes.specs.Calls.{MentionsThing, MentionsArgument, MentionsResult, CallsBelow, RunsBelow, MentionsFields, MentionsRoot, CallsOrdered, AllCallsOrdered};
+ghost use Rattle.aom_classes.specs.Places.{PlaceOf};
+ghost use Rattle.aom_roles.specs.Firsts.{FirstOf};
+ghost use Rattle.aom_classes.specs.declared.fault.LinkFault.TheVariants as LinkFault;
 
 use crate::orders::Orders;
+use crate::place::LinkPlace;
 use crate::roles::is_main;
 use aom_image::{Argument, ClassNumber, Gives, Image, Instr, Method, MethodNumber, Thing};
 use aom_roles::gives_of;
@@ -137,16 +141,25 @@ fn may_take_each(image: &Image, orders: &Orders, method: usize, arguments: &[Arg
     true
 }
 
+/// The first instruction that runs or mentions what does not come before its method.
+fn first_early(image: &Image, orders: &Orders, number: usize, method: &Method) -> Option<usize>
+    requires { IsOrders image.now orders.now }
+    ensures { FirstOf (λ _. RunsBelow image.now number method.now.class) method.now.code result }
+{
+    let code = method.code.as_slice();
+    for (place, instr) in code.iter().enumerate() {
+        if !may_run(image, orders, number, method.class, instr) {
+            return Some(place);
+        }
+    }
+    None
+}
+
 fn may_run_each(image: &Image, orders: &Orders, number: usize, method: &Method) -> bool
     requires { IsOrders image.now orders.now }
     ensures { IsTrue result ↔ All (RunsBelow image.now number method.now.class) method.now.code }
 {
-    for instr in method.code.as_slice() {
-        if !may_run(image, orders, number, method.class, instr) {
-            return false;
-        }
-    }
-    true
+    first_early(image, orders, number, method).is_none()
 }
 
 fn is_call_ordered(image: &Image, orders: &Orders, number: usize, method: &Method) -> bool
@@ -160,21 +173,37 @@ fn is_call_ordered(image: &Image, orders: &Orders, number: usize, method: &Metho
         && may_run_each(image, orders, number, method)
 }
 
-fn is_each_call_ordered(image: &Image, orders: &Orders, methods: &[Method]) -> bool
+/// The first method that runs or mentions what does not come before it.
+fn first_unordered(image: &Image, orders: &Orders, methods: &[Method]) -> Option<usize>
     requires { IsOrders image.now orders.now }
-    ensures { IsTrue result ↔ EachCallsOrdered image.now methods.now }
+    ensures { FirstOf (CallsOrdered image.now) methods.now result }
 {
     for (number, method) in methods.iter().enumerate() {
         if !is_call_ordered(image, orders, number, method) {
-            return false;
+            return Some(number);
         }
     }
-    true
+    None
 }
 
 pub fn calls_are_ordered(image: &Image) -> bool
     ensures { IsTrue result ↔ AllCallsOrdered image.now }
 {
     let orders = Orders::of_image(image);
-    is_each_call_ordered(image, &orders, image.methods().as_slice())
+    first_unordered(image, &orders, image.methods().as_slice()).is_none()
+}
+
+/// Where calls are out of order.
+pub fn call_place(image: &Image) -> Option<LinkPlace>
+    ensures { PlaceOf image.now LinkFault.CallOrder result }
+{
+    let orders = Orders::of_image(image);
+    let methods = image.methods().as_slice();
+    match first_unordered(image, &orders, methods) {
+        Some(number) => {
+            let place = first_early(image, &orders, number, &methods[number]);
+            Some(LinkPlace::in_method(number, place))
+        }
+        None => None,
+    }
 }

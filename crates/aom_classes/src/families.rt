@@ -1,6 +1,7 @@
 //! What a class has of its parent.
 ghost use Rattle.std.specs.Prelude.{◌≡◌, ◌↔◌, IsTrue, Some, slice_get};
 ghost use Rattle.aom_classes.specs.Families.{AllContinue, BeginsWith, Continues, ContinuesParent};
+ghost use Rattle.aom_roles.specs.Firsts.{FirstOf};
 
 use crate::same::{same_kind, same_thing};
 use aom_image::{ClassDecl, Image, Thing};
@@ -47,13 +48,21 @@ fn continues_parent(image: &Image, class: &ClassDecl) -> bool
     }
 }
 
+/// The first class that has not what its parent has.
+pub fn first_parting(image: &Image, classes: &[ClassDecl]) -> Option<usize>
+    ensures { FirstOf (λ _. ContinuesParent image.now) classes.now result }
+{
+    for (class, decl) in classes.iter().enumerate() {
+        if !continues_parent(image, decl) {
+            return Some(class);
+        }
+    }
+    None
+}
+
 /// Whether each class has what its parent has.
 pub fn all_continue(image: &Image) -> bool
     ensures { IsTrue result ↔ AllContinue image.now }
 {
-    image
-        .classes()
-        .as_slice()
-        .iter()
-        .all(|class| continues_parent(image, class))
+    first_parting(image, image.classes().as_slice()).is_none()
 }

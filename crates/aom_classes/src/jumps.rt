@@ -1,13 +1,17 @@
 //! Where an instruction may go on, and what is asked of it.
 ghost use Rattle.std.specs.Prelude.{◌≡◌, ◌↔◌, ◌<◌, ℕ, IsTrue, IfSome, None, length};
-ghost use Rattle.aom_classes.specs.Jumps.{jump_of, goes_on, KeepsWithin, AllKeepWithin, begins_loop, back_of, Body, StaysOut, IsClosed, EndsClosed, AllEndClosed, JumpsWell};
+ghost use Rattle.aom_classes.specs.Jumps.{jump_of, goes_on, KeepsWithin, begins_loop, back_of, Body, StaysOut, IntoEnd, IntoLoop, BadJumpOf, JumpsWell};
 ghost use Rattle.aom_classes.specs.Linked.{AllJumpWell};
+ghost use Rattle.aom_classes.specs.Places.{PlaceOf};
+ghost use Rattle.aom_roles.specs.Firsts.{FirstOf};
+ghost use Rattle.aom_classes.specs.declared.fault.LinkFault.TheVariants as LinkFault;
 
-use aom_image::{Image, Instr, Place};
+use crate::place::LinkPlace;
+use aom_image::{Image, Instr, InstrPlace, Method};
 
 /// Where a jump goes that is not taken back to a loop's first place.
 #[tactic(auto, unfolding(crate::specs::Jumps::jump_of))]
-fn jump_of(instr: &Instr) -> Option<Place>
+fn jump_of(instr: &Instr) -> Option<InstrPlace>
     ensures { result ≡ jump_of instr.now }
 {
     match *instr {
@@ -30,7 +34,7 @@ fn goes_on(instr: &Instr) -> bool
 }
 
 /// Whether the target is past the place and below the count.
-fn is_forward(target: Place, place: usize, count: usize) -> bool
+fn is_forward(target: InstrPlace, place: usize, count: usize) -> bool
     ensures { IsTrue result ↔ ((place < target) × (target < count)) }
 {
     let target = target.number() as usize;
@@ -48,15 +52,16 @@ fn keeps_within(instr: &Instr, place: usize, count: usize) -> bool
     jumps_well && (!goes_on(instr) || place + 1 < count)
 }
 
-fn all_keep_within(code: &[Instr]) -> bool
-    ensures { IsTrue result ↔ AllKeepWithin code.now }
+/// The first place whose jump goes back or past the end, or which has no successor.
+fn first_astray(code: &[Instr]) -> Option<usize>
+    ensures { FirstOf (KeepsWithin (length code.now)) code.now result }
 {
     for (place, instr) in code.iter().enumerate() {
         if !keeps_within(instr, place, code.len()) {
-            return false;
+            return Some(place);
         }
     }
-    true
+    None
 }
 
 #[tactic(auto, unfolding(crate::specs::Jumps::begins_loop))]
@@ -67,7 +72,7 @@ fn begins_loop(instr: &Instr) -> bool
 }
 
 #[tactic(auto, unfolding(crate::specs::Jumps::back_of))]
-fn back_of(instr: &Instr) -> Option<Place>
+fn back_of(instr: &Instr) -> Option<InstrPlace>
     ensures { result ≡ back_of instr.now }
 {
     match *instr {
@@ -103,52 +108,86 @@ fn stays_out(instr: &Instr, place: usize, start: usize, end: usize) -> bool
     target <= start || target > end || (start < place && place <= end)
 }
 
-fn is_closed(code: &[Instr], start: usize, end: usize) -> bool
-    ensures { IsTrue result ↔ IsClosed code.now start end }
+/// The first place whose jump leads into those from `start + 1` to `end` from outside.
+fn first_into(code: &[Instr], start: usize, end: usize) -> Option<usize>
+    ensures { FirstOf (StaysOut start end) code.now result }
 {
     for (place, instr) in code.iter().enumerate() {
         if !stays_out(instr, place, start, end) {
-            return false;
+            return Some(place);
         }
     }
-    true
+    None
 }
 
-fn ends_closed(code: &[Instr], end: usize) -> bool
+/// The first place whose jump leads into the body that a place ends.
+fn first_into_end(code: &[Instr], end: usize) -> Option<usize>
     requires { end < length code.now }
-    ensures { IsTrue result ↔ EndsClosed code.now end }
+    ensures { IntoEnd code.now end result }
 {
     match loop_of(code, end) {
-        Some(start) => is_closed(code, start, end),
-        None => true,
+        Some(start) => first_into(code, start, end),
+        None => None,
     }
 }
 
-fn all_end_closed(code: &[Instr]) -> bool
-    ensures { IsTrue result ↔ AllEndClosed code.now }
+/// A place whose jump leads into a body.
+fn jump_into_loop(code: &[Instr]) -> Option<usize>
+    ensures { IntoLoop code.now result }
 {
     for end in 0..code.len() {
-        if !ends_closed(code, end) {
-            return false;
+        if let Some(place) = first_into_end(code, end) {
+            return Some(place);
         }
     }
-    true
+    None
+}
+
+/// A place that jumps as it may not.
+fn bad_jump(code: &[Instr]) -> Option<usize>
+    ensures { BadJumpOf code.now result }
+{
+    match first_astray(code) {
+        Some(place) => Some(place),
+        None => jump_into_loop(code),
+    }
 }
 
 fn jump_well(code: &[Instr]) -> bool
     ensures { IsTrue result ↔ JumpsWell code.now }
 {
-    all_keep_within(code) && all_end_closed(code)
+    bad_jump(code).is_none()
+}
+
+/// The first method with a place that jumps as it may not.
+fn first_jumping(methods: &[Method]) -> Option<usize>
+    ensures { FirstOf (λ _ d. JumpsWell d.code) methods.now result }
+{
+    for (number, method) in methods.iter().enumerate() {
+        if !jump_well(method.code.as_slice()) {
+            return Some(number);
+        }
+    }
+    None
 }
 
 pub fn all_jump_well(image: &Image) -> bool
     ensures { IsTrue result ↔ AllJumpWell image.now }
 {
-    let methods = image.methods();
-    for method in methods.as_slice() {
-        if !jump_well(method.code.as_slice()) {
-            return false;
+    first_jumping(image.methods().as_slice()).is_none()
+}
+
+/// The jump that is not as it may be.
+pub fn jump_place(image: &Image) -> Option<LinkPlace>
+    ensures { PlaceOf image.now LinkFault.BadJump result }
+{
+    let methods = image.methods().as_slice();
+    match first_jumping(methods) {
+        Some(number) => {
+            let method = &methods[number];
+            let place = bad_jump(method.code.as_slice());
+            Some(LinkPlace::in_method(number, place))
         }
+        None => None,
     }
-    true
 }

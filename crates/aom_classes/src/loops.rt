@@ -2,9 +2,10 @@
 ghost use Rattle.std.specs.Prelude.{◌≡◌, ◌↔◌, ◌<◌, ◌≤◌, IsTrue, List, ℕ, length, slice_get, IfSome, false};
 ghost use Rattle.aom_classes.specs.Loops.{LoopsNest};
 ghost use Rattle.aom_classes.specs.Linked.{AllLoopsNest};
+ghost use Rattle.aom_roles.specs.Firsts.{FirstOf};
 ghost use Rattle.aom_classes.specs.Scanning.{Enters, Leaves, Passes};
 
-use aom_image::{Image, Instr, LoopDepth, Place};
+use aom_image::{Image, Instr, InstrPlace, LoopDepth, Method};
 use arrayvec::ArrayVec;
 
 /// The loops around a place, each by its own place, the outermost first.
@@ -21,7 +22,7 @@ fn enter(around: &mut Around, place: usize, number: LoopDepth) -> bool
     true
 }
 
-fn leave(around: &mut Around, number: LoopDepth, back: Place) -> bool
+fn leave(around: &mut Around, number: LoopDepth, back: InstrPlace) -> bool
     ensures done { IsTrue result → Leaves number back around.old.items around.new.items }
     ensures refused { result ≡ false → (after : List ℕ) → ¬ Leaves number back around.old.items after }
 {
@@ -57,14 +58,20 @@ fn loops_nest(code: &[Instr]) -> bool
     around.is_empty()
 }
 
+/// The first method whose loops do not nest.
+pub fn first_unnested(methods: &[Method]) -> Option<usize>
+    ensures { FirstOf (λ _ d. LoopsNest d.code) methods.now result }
+{
+    for (number, method) in methods.iter().enumerate() {
+        if !loops_nest(method.code.as_slice()) {
+            return Some(number);
+        }
+    }
+    None
+}
+
 pub fn all_loops_nest(image: &Image) -> bool
     ensures { IsTrue result ↔ AllLoopsNest image.now }
 {
-    let methods = image.methods();
-    for method in methods.as_slice() {
-        if !loops_nest(method.code.as_slice()) {
-            return false;
-        }
-    }
-    true
+    first_unnested(image.methods().as_slice()).is_none()
 }

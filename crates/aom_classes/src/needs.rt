@@ -1,7 +1,8 @@
 //! Which methods a class needs, and which it may have once.
 ghost use Rattle.std.specs.Prelude.{◌≡◌, ◌≤◌, ◌<◌, ◌↔◌, IsTrue, length, count_by};
 ghost use Rattle.aom_classes.specs.Roles.{plays, is_main};
-ghost use Rattle.aom_classes.specs.Needs.{Has, HasActive, KindNeeds, EmptiesMore, NeedsMet, EachNeedsMet, AllNeedsMet, AtMostOne, ClassSingle, EachSingle, RolesSingle};
+ghost use Rattle.aom_classes.specs.Needs.{Has, HasActive, KindNeeds, EmptiesMore, NeedsMet, AllNeedsMet, AtMostOne, ClassSingle, EachSingle, SecondMain, RolesSingle};
+ghost use Rattle.aom_roles.specs.Firsts.{FirstOf};
 
 use crate::roles::{find_role, is_main, own_role, plays};
 use aom_image::{ClassDecl, ClassKind, ClassNumber, Image, Method, Role};
@@ -65,23 +66,24 @@ fn meets_needs(image: &Image, class: ClassNumber, decl: &ClassDecl) -> bool
         && empties_more(image, class, decl)
 }
 
-fn each_meets_needs(image: &Image, classes: &[ClassDecl]) -> bool
+/// The first class that wants a method that it needs.
+pub fn first_wanting(image: &Image, classes: &[ClassDecl]) -> Option<usize>
     requires { length classes.now ≤ 256 }
-    ensures { IsTrue result ↔ EachNeedsMet image.now classes.now }
+    ensures { FirstOf (NeedsMet image.now) classes.now result }
 {
     for (class, decl) in classes.iter().enumerate() {
         if !meets_needs(image, class_number(class), decl) {
-            return false;
+            return Some(class);
         }
     }
-    true
+    None
 }
 
 /// Whether each class has the methods that it needs.
 pub fn needs_are_met(image: &Image) -> bool
     ensures { IsTrue result ↔ AllNeedsMet image.now }
 {
-    each_meets_needs(image, image.classes().as_slice())
+    first_wanting(image, image.classes().as_slice()).is_none()
 }
 
 fn at_most_one(methods: &[Method], class: ClassNumber, role: Role) -> bool
@@ -108,28 +110,46 @@ fn is_single(methods: &[Method], class: ClassNumber) -> bool
         && at_most_one(methods, class, Role::Service)
 }
 
+/// The first class with two methods of one role that it may have once.
+pub fn first_double(methods: &[Method], classes: &[ClassDecl]) -> Option<usize>
+    requires { length classes.now ≤ 256 }
+    ensures { FirstOf (λ c _. ClassSingle methods.now c) classes.now result }
+{
+    for (class, _decl) in classes.iter().enumerate() {
+        if !is_single(methods, class_number(class)) {
+            return Some(class);
+        }
+    }
+    None
+}
+
 fn is_each_single(methods: &[Method], classes: &[ClassDecl]) -> bool
     requires { length classes.now ≤ 256 }
     ensures { IsTrue result ↔ EachSingle methods.now classes.now }
 {
-    for (class, _decl) in classes.iter().enumerate() {
-        if !is_single(methods, class_number(class)) {
-            return false;
+    first_double(methods, classes).is_none()
+}
+
+/// The second main.
+pub fn second_main(methods: &[Method]) -> Option<usize>
+    ensures { SecondMain methods.now result }
+{
+    let mut mains: usize = 0;
+    for (number, method) in methods.iter().enumerate() {
+        if is_main(method) {
+            if mains == 1 {
+                return Some(number);
+            }
+            mains += 1;
         }
     }
-    true
+    None
 }
 
 fn has_one_main(methods: &[Method]) -> bool
     ensures { IsTrue result ↔ (count_by is_main methods.now ≤ 1) }
 {
-    let mut mains: usize = 0;
-    for method in methods {
-        if is_main(method) {
-            mains += 1;
-        }
-    }
-    mains <= 1
+    second_main(methods).is_none()
 }
 
 /// Whether no class has two methods of one role that it may have once, and there are no two mains.

@@ -1,7 +1,8 @@
 //! Methods that run in the place of others.
 ghost use Rattle.std.specs.Prelude.{◌≡◌, ◌↔◌, ◌<◌, ◌≤◌, IsTrue, Some, length, position, slice_get};
 ghost use Rattle.aom_classes.specs.Families.{BeginsWith};
-ghost use Rattle.aom_classes.specs.Overriding.{over_of, leads_to, replaces, overrider_of, is_below, AsksNoMore, StandsIn, StandsInNamed, AllStandIn, IsOnly, OverriddenOnce, AllOverriddenOnce, OverridesNothing, OverridersFit};
+ghost use Rattle.aom_classes.specs.Overriding.{over_of, leads_to, replaces, overrider_of, is_below, AsksNoMore, StandsIn, StandsInNamed, AllStandIn, IsOnly, OtherOverrider, AllOverriddenOnce, OverridesNothing, OverridersFit};
+ghost use Rattle.aom_roles.specs.Firsts.{FirstOf};
 
 use crate::roles::{is_class, number_at};
 use crate::same::{same_argument, same_gives};
@@ -141,14 +142,22 @@ fn stands_in_named(image: &Image, method: &Method) -> bool
     }
 }
 
+/// The first method that may not stand in the place of the one that it overrides.
+pub fn first_misfit(image: &Image, methods: &[Method]) -> Option<usize>
+    ensures { FirstOf (λ _. StandsInNamed image.now) methods.now result }
+{
+    for (number, method) in methods.iter().enumerate() {
+        if !stands_in_named(image, method) {
+            return Some(number);
+        }
+    }
+    None
+}
+
 fn all_stand_in(image: &Image) -> bool
     ensures { IsTrue result ↔ AllStandIn image.now }
 {
-    image
-        .methods()
-        .as_slice()
-        .iter()
-        .all(|method| stands_in_named(image, method))
+    first_misfit(image, image.methods().as_slice()).is_none()
 }
 
 fn is_found(index: usize, found: Option<usize>) -> bool
@@ -169,28 +178,29 @@ fn is_only(image: &Image, named: MethodNumber, index: usize, method: &Method) ->
     }
 }
 
-fn is_overridden_once(image: &Image, named: MethodNumber) -> bool
-    ensures { IsTrue result ↔ OverriddenOnce image.now named }
+/// The first method that overrides that one where another of its class does before it.
+fn first_other(image: &Image, methods: &[Method], named: MethodNumber) -> Option<usize>
+    ensures { FirstOf (IsOnly image.now named) methods.now result }
 {
-    let methods = image.methods();
-    for (index, method) in methods.as_slice().iter().enumerate() {
+    for (index, method) in methods.iter().enumerate() {
         if !is_only(image, named, index, method) {
-            return false;
+            return Some(index);
         }
     }
-    true
+    None
 }
 
-fn all_overridden_once(image: &Image) -> bool
-    ensures { IsTrue result ↔ AllOverriddenOnce image.now }
+/// A method that overrides one that another method of its class overrides before it.
+fn other_overrider(image: &Image) -> Option<usize>
+    ensures { OtherOverrider image.now result }
 {
-    let methods = image.methods();
-    for (named, _method) in methods.as_slice().iter().enumerate() {
-        if !is_overridden_once(image, number_at(named)) {
-            return false;
+    let methods = image.methods().as_slice();
+    for (named, _method) in methods.iter().enumerate() {
+        if let Some(index) = first_other(image, methods, number_at(named)) {
+            return Some(index);
         }
     }
-    true
+    None
 }
 
 /// Whether no method overrides another.
@@ -204,14 +214,20 @@ fn overrides_nothing(image: &Image) -> bool
         .all(|method| method.over.is_none())
 }
 
-/// Whether no two methods of a class override the same one. Where none overrides nothing more is looked at.
+/// A method that overrides one that another method of its class overrides. Where none overrides nothing more is looked at.
+pub fn second_overrider(image: &Image) -> Option<usize>
+    ensures { OtherOverrider image.now result }
+{
+    if overrides_nothing(image) {
+        return None;
+    }
+    other_overrider(image)
+}
+
 fn overriders_are_single(image: &Image) -> bool
     ensures { IsTrue result ↔ AllOverriddenOnce image.now }
 {
-    if overrides_nothing(image) {
-        return true;
-    }
-    all_overridden_once(image)
+    second_overrider(image).is_none()
 }
 
 /// Whether what overrides is as it may be.

@@ -6,8 +6,8 @@ ghost use Rattle.aom_codec.specs.Reads.{Reads};
 use crate::LoadFault;
 use crate::reader::ByteReader;
 use aom_image::{
-    ClassNumber, EntryDepth, FieldIndex, Instr, Kinds, Large, LargeKind, Limits, LoopDepth,
-    MethodNumber, Mnemonic, Operands, Place, Register, Small, SmallKind, Target, Version,
+    ClassNumber, EntryDepth, FieldIndex, Instr, InstrPlace, Kinds, Large, LargeKind, Limits,
+    LoopDepth, MethodNumber, Mnemonic, Operands, Register, Small, SmallKind, Target, Version,
     WordIndex,
 };
 
@@ -58,7 +58,7 @@ fn large_of(kind: LargeKind, number: u32, limits: Limits) -> Result<Large, LoadF
         LargeKind::Rounds if 0 < number && number < 65536 => Some(Large::Rounds(number as u16)),
         LargeKind::Rounds => return Err(LoadFault::BadOperand),
         LargeKind::Place if (number as usize) < limits.places => {
-            Place::new(number as u16).map(Large::Place)
+            InstrPlace::new(number as u16).map(Large::Place)
         }
         LargeKind::Class if (number as usize) < limits.classes => {
             ClassNumber::new(number as u16).map(Large::Class)

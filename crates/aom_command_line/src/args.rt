@@ -20,7 +20,7 @@ pub fn native_arg<'a>(alloc: Global) -> Arg<'a>
     ensures own { result.global ≡ false }
 {
     Arg::new(alloc, "NATIVE")
-        .help("The natives, from number 0 on")
+        .help("The natives in their order, each counter, line or delay")
         .action(ArgAction::Append)
         .num_args(0..)
 }
@@ -32,7 +32,7 @@ pub fn limit_arg<'a>(alloc: Global) -> Arg<'a>
     number_arg(
         alloc,
         "limit",
-        "The most dispatches after main's",
+        "Ends a run after N dispatches, main's not counted",
         value_parser!(u32).range(1..=1_000_000_000),
         "1000000",
     )
@@ -45,7 +45,7 @@ pub fn from_arg<'a>(alloc: Global) -> Arg<'a>
     number_arg(
         alloc,
         "from",
-        "The first allocation request that is refused",
+        "The number of the first request for memory that is refused",
         value_parser!(u32).range(1..),
         "1",
     )
@@ -58,7 +58,7 @@ pub fn to_arg<'a>(alloc: Global) -> Arg<'a>
     number_arg(
         alloc,
         "to",
-        "The last allocation request that is refused",
+        "The number of the last request for memory that is refused",
         value_parser!(u32).range(1..),
         "4294967295",
     )
@@ -103,7 +103,7 @@ pub fn prices_arg<'a>(alloc: Global) -> Arg<'a>
     flag_arg(
         alloc,
         "prices",
-        "Tells too what the methods come to and cost, accepted or not",
+        "Also tells the most steps, frames and cleanup entries that each method comes to",
     )
 }
 
@@ -114,7 +114,7 @@ pub fn explain_arg<'a>(alloc: Global) -> Arg<'a>
     flag_arg(
         alloc,
         "explain",
-        "Tells too what a fault means and what usually mends it",
+        "Explains a fault: what it means, where it is, and what usually mends it",
     )
 }
 
@@ -125,7 +125,7 @@ pub fn lines_arg<'a>(alloc: Global) -> Arg<'a>
     flag_arg(
         alloc,
         "lines",
-        "Tells a fault in one line with its place in the text, as compilers do",
+        "Tells a fault in one line with its file and line, as compilers do; needs --asm or --text",
     )
 }
 
@@ -136,7 +136,7 @@ pub fn names_arg<'a>(alloc: Global) -> Arg<'a>
     flag_arg(
         alloc,
         "names",
-        "Writes the transcript with the names of a text in place of the numbers of classes",
+        "Writes the names of classes in place of their numbers; needs --asm or --text",
     )
 }
 
@@ -147,7 +147,7 @@ pub fn asm_arg<'a>(alloc: Global) -> Arg<'a>
     flag_arg(
         alloc,
         "asm",
-        "The file is an assembly text, and the image is what it denotes",
+        "Takes an assembly text in place of the image, and assembles it first",
     )
 }
 
@@ -156,7 +156,7 @@ pub fn text_arg<'a>(alloc: Global) -> Arg<'a>
     ensures own { result.global ≡ false }
 {
     Arg::new(alloc, "text").long("text").value_name("TEXT").help(
-        "The text that the image is of, whose lines and names are told",
+        "The text that the image was made of, to tell things by its names and lines",
     )
 }
 
@@ -167,7 +167,7 @@ pub fn kills_arg<'a>(alloc: Global) -> Arg<'a>
     flag_arg(
         alloc,
         "kills",
-        "Kills too each native, at each time at which the run does something",
+        "Also kills each native in turn, at each time at which a dispatch begins",
     )
 }
 
@@ -178,7 +178,7 @@ pub fn deaths_arg<'a>(alloc: Global) -> Arg<'a>
     flag_arg(
         alloc,
         "deaths",
-        "Lets die too each client that the script names, at each such time",
+        "Also lets each client of the script die in turn, at each of these times",
     )
 }
 
@@ -186,7 +186,11 @@ pub fn pairs_arg<'a>(alloc: Global) -> Arg<'a>
     ensures rule { rule_of result ≡ pairs_rule }
     ensures own { result.global ≡ false }
 {
-    flag_arg(alloc, "pairs", "Refuses too each two allocation requests")
+    flag_arg(
+        alloc,
+        "pairs",
+        "Also refuses two requests for memory in one run, each pair in turn",
+    )
 }
 
 /// An option that stands alone.

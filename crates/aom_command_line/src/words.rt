@@ -138,6 +138,19 @@ const MOST_NATIVES: usize = 16;
 /// The program's version. Its number stands here alone: the tools take it from this line.
 const VERSION: &str = "0.1.0";
 
+/// What stands below the list of commands: what the files are, and the exit statuses.
+const NOTES: &str = "\
+A text is a program as you write it, and an image the same in bytes, as asm makes it. With --asm a command
+takes the text itself. A script says what happens to a run from outside, line by line; it may be empty.
+
+Exit status:
+ 0 all is well
+ 1 the image or the text is refused
+ 2 the words, the script or the natives are refused
+ 3 the run waits for what will not come, or is at its limit
+ 4 main or a dispatch has ended in an error
+ 5 a file, the output or memory has failed";
+
 /// Reads a command line, the program's own word first.
 pub fn read_words(alloc: Global, words: Vec<String>) -> Result<Words, WordsFault>
     ensures asks { IfOk result (λ asked. Asks (subcommand_of form (texts_of words.items)) asked) }
@@ -164,7 +177,8 @@ fn aom_command<'a>(alloc: Global) -> Result<Command<'a>, AllocError>
     ensures { IfOk result (λ c. app_of c ≡ form) }
 {
     let command = Command::new(alloc, "aom")
-        .about("Assembles, lists, checks and runs images of programs of active objects")
+        .about("Assembles, checks, runs and debugs programs of active objects")
+        .after_help(NOTES)
         .version(VERSION)
         .subcommand_required(true);
     with_translations(alloc, with_uses(alloc, command))
@@ -242,13 +256,20 @@ fn check_command<'a>(alloc: Global) -> Result<Command<'a>, AllocError>
     ensures { IfOk result (λ c. HasForm check_form c) }
 {
     let command = Command::new(alloc, "check")
-        .about("Tells whether an image is accepted")
+        .about("Says whether an image is accepted, or what is wrong with it first")
         .arg(prices_arg(alloc));
     let command = with_arg(command, explain_arg(alloc));
     let command = with_arg(command, lines_arg(alloc));
     let command = with_arg(command, text_arg(alloc));
     let command = with_arg(command, asm_arg(alloc));
-    with_arg(command, file_arg(alloc, "IMAGE", "The file of an image"))
+    with_arg(
+        command,
+        file_arg(
+            alloc,
+            "IMAGE",
+            "The file of an image; with --asm of an assembly text",
+        ),
+    )
 }
 
 /// Adds an argument to a command, where that was made.
@@ -265,7 +286,7 @@ fn asm_command<'a>(alloc: Global) -> Result<Command<'a>, AllocError>
     ensures { IfOk result (λ c. HasForm asm_form c) }
 {
     let command = Command::new(alloc, "asm")
-        .about("Writes the image that a text denotes")
+        .about("Assembles a text: writes the image to standard output")
         .arg(explain_arg(alloc));
     with_arg(
         command,
@@ -277,7 +298,7 @@ fn dis_command<'a>(alloc: Global) -> Result<Command<'a>, AllocError>
     ensures { IfOk result (λ c. HasForm dis_form c) }
 {
     Command::new(alloc, "dis")
-        .about("Writes the listing of an image")
+        .about("Lists an image: writes it as a text to standard output")
         .arg(file_arg(alloc, "IMAGE", "The file of an image"))
 }
 
@@ -285,17 +306,24 @@ fn dot_command<'a>(alloc: Global) -> Result<Command<'a>, AllocError>
     ensures { IfOk result (λ c. HasForm dot_form c) }
 {
     let command = Command::new(alloc, "dot")
-        .about("Writes an image as a graph in Graphviz's language")
+        .about("Draws an image: writes its classes and methods as a graph for Graphviz")
         .arg(text_arg(alloc));
     let command = with_arg(command, asm_arg(alloc));
-    with_arg(command, file_arg(alloc, "IMAGE", "The file of an image"))
+    with_arg(
+        command,
+        file_arg(
+            alloc,
+            "IMAGE",
+            "The file of an image; with --asm of an assembly text",
+        ),
+    )
 }
 
 fn run_command<'a>(alloc: Global) -> Result<Command<'a>, AllocError>
     ensures { IfOk result (λ c. HasForm run_form c) }
 {
     let command = Command::new(alloc, "run")
-        .about("Runs an image under a script and writes the transcript")
+        .about("Checks an image, runs it under a script and writes the transcript")
         .arg(limit_arg(alloc));
     let command = with_arg(command, explain_arg(alloc));
     let command = with_arg(command, names_arg(alloc));
@@ -307,7 +335,7 @@ fn explore_command<'a>(alloc: Global) -> Result<Command<'a>, AllocError>
     ensures { IfOk result (λ c. HasForm explore_form c) }
 {
     let command = Command::new(alloc, "explore")
-        .about("Runs an image again with one more allocation request refused, for each in turn")
+        .about("Runs an image again with each fault in turn, such as a refused request for memory")
         .arg(limit_arg(alloc));
     let command = with_arg(command, from_arg(alloc));
     let command = with_arg(command, to_arg(alloc));
@@ -323,7 +351,7 @@ fn debug_command<'a>(alloc: Global) -> Result<Command<'a>, AllocError>
     ensures { IfOk result (λ c. HasForm debug_form c) }
 {
     let command = Command::new(alloc, "debug")
-        .about("Runs an image as commands say, which are read from standard input")
+        .about("Runs an image step by step, by commands from standard input; help tells them")
         .arg(limit_arg(alloc));
     let command = with_arg(command, text_arg(alloc));
     with_files(alloc, command)
@@ -337,8 +365,22 @@ fn with_files<'a>(
     ensures { (form : App) → IfOk command.entry (λ c. HasForm form c) → IfOk result (λ c. HasForm (with_files form) c) }
 {
     let command = with_arg(command, asm_arg(alloc));
-    let command = with_arg(command, file_arg(alloc, "IMAGE", "The file of an image"));
-    let command = with_arg(command, file_arg(alloc, "SCRIPT", "The file of a script"));
+    let command = with_arg(
+        command,
+        file_arg(
+            alloc,
+            "IMAGE",
+            "The file of an image; with --asm of an assembly text",
+        ),
+    );
+    let command = with_arg(
+        command,
+        file_arg(
+            alloc,
+            "SCRIPT",
+            "The file of a script; /dev/null is an empty one",
+        ),
+    );
     with_arg(command, native_arg(alloc))
 }
 

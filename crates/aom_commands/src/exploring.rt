@@ -16,7 +16,7 @@ ghost use Rattle.aom_commands.specs.Untold.{Untold};
 use crate::accepting::accept_bytes;
 use crate::faults::answer;
 use crate::keeper::Keeper;
-use crate::running::{booted, runs_well, turn_of};
+use crate::running::{booted, line_buffer, runs_well};
 use crate::{ExitStatus, Fault, tell};
 use aom_budget::Accepted;
 use aom_injection::{Injection, Plan, Tally, Tries, times_of};
@@ -79,8 +79,8 @@ fn last_booted(
     ensures ok { IfOk result (λ last. (text : List ℕ) × IsLast trial.now.accepted.now (outside_of trial.now.script.now trial.now.limit (natives_of machine.old)) last text × (kept_text kept.new.keeps kept.new.text.items ≡ after (kept_text kept.old.keeps kept.old.text.items) text)) }
     ensures err { IfErr result (λ fault. fault ≡ Fault.Memory) }
 {
-    let mut turn = turn_of(alloc, trial.accepted, trial.script)?;
-    let outcome = run(machine, trial.script, &mut turn, trial.limit, kept);
+    let mut lines = line_buffer(alloc, trial.accepted, trial.script)?;
+    let outcome = run(machine, trial.script, &mut lines, trial.limit, kept);
     let Some(ending) = ending_of(outcome) else {
         return Err(Fault::Memory);
     };

@@ -29,4 +29,5 @@ pub use commands::{
 pub use exploring::explore_bytes;
 pub use fault_line::{FaultLine, fault_text};
 pub use faults::{Fault, answer, tell};
+pub use running::line_buffer;
 pub use status::ExitStatus;

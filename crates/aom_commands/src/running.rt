@@ -38,14 +38,14 @@ pub fn booted<'a>(
 }
 
 /// The buffer for the lines of a run of an accepted image, with the requests that a script refuses.
-pub fn turn_of(
+pub fn line_buffer(
     alloc: Global,
     accepted: &Accepted,
     script: &Script,
 ) -> Result<LineBuffer, AllocError>
-    ensures lines { IfOk result (λ t. t.lines ≡ []) }
-    ensures refused { IfOk result (λ t. t.refused ≡ script.now.refused) }
-    ensures room { IfOk result (λ t. t.room ≡ 64 + step_lines accepted.now.header.messages) }
+    ensures lines { IfOk result (λ b. b.lines ≡ []) }
+    ensures refused { IfOk result (λ b. b.refused ≡ script.now.refused) }
+    ensures room { IfOk result (λ b. b.room ≡ 64 + step_lines accepted.now.header.messages) }
 {
     let refused = Vec::from_slice(alloc, script.refused())?;
     LineBuffer::new(alloc, accepted.linked(), refused)
@@ -68,8 +68,8 @@ fn run_booted<W: Sink>(
     ensures ok { IfOk result (λ outcome. Shows (named_by names.entry) accepted.now (outside_of script.now limit (natives_of machine.old)) outcome (record { before = W.out out.old; now = W.out out.new; failed = W.failed out.new })) }
     ensures err { IfErr result (λ fault. (fault ≡ Memory) × (W.out out.new ≡ W.out out.old)) }
 {
-    let mut turn = turn_of(alloc, accepted, script)?;
-    Ok(run_named(machine, script, &mut turn, limit, names, out))
+    let mut lines = line_buffer(alloc, accepted, script)?;
+    Ok(run_named(machine, script, &mut lines, limit, names, out))
 }
 
 /// Boots a machine beside those natives, runs it to its end, and writes classes by these names, if there are some. All memory is taken before anything is written.

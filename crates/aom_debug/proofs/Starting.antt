@@ -13,9 +13,9 @@ use Rattle.aom_debug.specs.Beginning.{IsBegun}
 
 module _ {X : Type 0} {B : X → Type 0} (ns : Names) (p : Image) (script : Script)
     (limit natives : ℕ) (m : Machine X B) (image : m.core.image ≡ p) (stands : StandsFor m (boot_state p)) (count : natives_of m ≡ natives) where
-  pub begun_of : (d : Debugger X B) (turn : LineBuffer) → d.mover.machine ≡ m → (d.mover.script ≡ script) × (d.mover.turn ≡ turn) × (d.mover.limit ≡ limit) →
-      turn.refused ≡ script.refused → (d.breakpoints ≡ []) × (d.mover.recent ≡ []) × (d.has_failed ≡ false) → d.names ≡ ns → IsBegun ns p script limit natives d
-  begun_of d turn same given refused marks names = record {
+  pub begun_of : (d : Debugger X B) (lines : LineBuffer) → d.mover.machine ≡ m → (d.mover.script ≡ script) × (d.mover.lines ≡ lines) × (d.mover.limit ≡ limit) →
+      lines.refused ≡ script.refused → (d.breakpoints ≡ []) × (d.mover.recent ≡ []) × (d.has_failed ≡ false) → d.names ≡ ns → IsBegun ns p script limit natives d
+  begun_of d lines same given refused marks names = record {
     image = ap (λ (n : Machine X B). n.core.image) same ∙ image;
     stands = subst (λ (n : Machine X B). StandsFor n (boot_state p)) (sym same) stands;
     outside = rw (same, given.0, given.1, given.2, refused, count) refl;

@@ -42,18 +42,18 @@ impl<'a> Debugger<'a> {
         alloc: Global,
         machine: Machine<'a>,
         script: Script,
-        turn: LineBuffer,
+        lines: LineBuffer,
         limit: u32,
         names: SourceNames<'a>,
     ) -> Result<Debugger<'a>, DebugFault>
         requires agree { AllAgree (λ l. l.ids) (λ l. (⟦<dyn Native as Native>⟧ l.native.vtable).owed l.native.value) machine.natives.slots.items }
         requires stands { Stands machine }
         requires timely { IsTimely script.timed }
-        requires turn { (turn.lines ≡ []) × (64 + step_lines machine.core.image.header.messages ≤ turn.room) }
+        requires lines { (lines.lines ≡ []) × (64 + step_lines machine.core.image.header.messages ≤ lines.room) }
         ensures agree { IfOk result (λ d. AllAgree (λ l. l.ids) (λ l. (⟦<dyn Native as Native>⟧ l.native.vtable).owed l.native.value) d.mover.machine.natives.slots.items) }
         ensures ready { IfOk result (λ d. IsReady d.mover) }
         ensures machine { IfOk result (λ d. d.mover.machine ≡ machine.entry) }
-        ensures given { IfOk result (λ d. (d.mover.script ≡ script) × (d.mover.turn ≡ turn) × (d.mover.limit ≡ limit)) }
+        ensures given { IfOk result (λ d. (d.mover.script ≡ script) × (d.mover.lines ≡ lines) × (d.mover.limit ≡ limit)) }
         ensures marks { IfOk result (λ d. (d.breakpoints ≡ []) × (d.mover.recent ≡ []) × (d.has_failed ≡ false)) }
         ensures page { IfOk result (λ d. d.mover.page ≡ []) }
         ensures names { IfOk result (λ d. d.names ≡ names.entry) }
@@ -66,7 +66,7 @@ impl<'a> Debugger<'a> {
                     machine,
                     script,
                     limit,
-                    turn,
+                    lines,
                     page,
                     recent,
                 };
@@ -80,7 +80,7 @@ impl<'a> Debugger<'a> {
             Err(_) => {
                 drop(machine);
                 drop(script);
-                drop(turn);
+                drop(lines);
                 drop(names);
                 Err(DebugFault::OutOfMemory)
             }

@@ -1,9 +1,8 @@
 //! A debugger over the bytes of files, as commands come.
-ghost use Rattle.std.specs.Prelude.{ℕ, ◌≡◌, ◌+◌, [], Err, IfErr, IfOk, List, Ok, Some, length, map, option_map};
+ghost use Rattle.std.specs.Prelude.{ℕ, ◌≡◌, Err, IfErr, IfOk, List, Ok, Some, length, map, option_map};
 ghost use Rattle.aom_natives.specs.Owed.{OweNothing};
 ghost use Rattle.aom_natives.specs.Slots.{AllAgree};
 ghost use Rattle.aom_semantics.specs.World.{boot_state};
-ghost use Rattle.aom_machine_state.specs.LineBuffer.{step_lines};
 ghost use Rattle.aom_run.specs.Calls.{StandsFor, natives_of};
 ghost use Rattle.aom_script.specs.Script.{IsTimely, denoted};
 ghost use Rattle.aom_debug.specs.Movers.{IsReady};
@@ -18,13 +17,12 @@ ghost use Rattle.aom_debug.specs.Beginning.{IsBegun};
 use crate::conversing::converse;
 use crate::{Debugger, Reader, Sink};
 use aom_budget::Accepted;
-use aom_commands::{ExitStatus, Fault, accept_bytes, tell};
+use aom_commands::{ExitStatus, Fault, accept_bytes, line_buffer, tell};
 use aom_debug_names::SourceNames;
-use aom_machine_state::LineBuffer;
 use aom_natives::Native;
 use aom_run::Machine;
 use aom_script::{Script, read_script};
-use std::alloc::{AllocError, Global};
+use std::alloc::Global;
 
 /// Runs an image under a script beside those natives as commands say, which come from a reader, and writes what they tell. The image is looked
 /// at before the script, and the script before the natives. After so many reads that give no end it is a fault.
@@ -185,8 +183,8 @@ fn begun<'a>(
     ensures machine { IfOk result (λ d. d.mover.machine ≡ machine.entry) }
     ensures err { IfErr result (λ fault. fault ≡ Memory) }
 {
-    match turn_of(alloc, accepted, &script) {
-        Ok(turn) => match Debugger::new(alloc, machine, script, turn, limit, names) {
+    match line_buffer(alloc, accepted, &script) {
+        Ok(lines) => match Debugger::new(alloc, machine, script, lines, limit, names) {
             Ok(debugger) => Ok(debugger),
             Err(_) => Err(Fault::Memory),
         },
@@ -197,14 +195,4 @@ fn begun<'a>(
             Err(Fault::Memory)
         }
     }
-}
-
-/// The buffer for the lines of a run under a script.
-fn turn_of(alloc: Global, accepted: &Accepted, script: &Script) -> Result<LineBuffer, AllocError>
-    ensures lines { IfOk result (λ t. t.lines ≡ []) }
-    ensures refused { IfOk result (λ t. t.refused ≡ script.now.refused) }
-    ensures room { IfOk result (λ t. t.room ≡ 64 + step_lines accepted.now.header.messages) }
-{
-    let refused = Vec::from_slice(alloc, script.refused())?;
-    LineBuffer::new(alloc, accepted.linked(), refused)
 }

@@ -15,14 +15,14 @@ use Rattle.aom_debug_moves.specs.Sends.{Breaks, Leads, Machine, Sends}
 
 module _ {X : Type 0} {B : X → Type 0} where
   pub keeps_all : (m : Mover X B) → IsReady m → Keeps m m
-  keeps_all m ready = record { image = refl; natives = refl; script = refl; turn = refl; limit = refl; ready = ready }
+  keeps_all m ready = record { image = refl; natives = refl; script = refl; lines = refl; limit = refl; ready = ready }
 
   pub keeps_on : {old mid new : Mover X B} → Keeps old mid → Keeps mid new → Keeps old new
   keeps_on was is = record {
     image = is.image ∙ was.image;
     natives = is.natives ∙ was.natives;
     script = is.script ∙ was.script;
-    turn = is.turn ∙ was.turn;
+    lines = is.lines ∙ was.lines;
     limit = is.limit ∙ was.limit;
     ready = is.ready;
   }
@@ -33,32 +33,32 @@ module _ {X : Type 0} {B : X → Type 0} where
       let ready = keeps.ready in
       let again : IsReady (record new { recent = spots }) =
       record { stands = ready.stands; none = ready.none; room = ready.room; timely = ready.timely; few = ready.few } in
-      record { image = keeps.image; natives = keeps.natives; script = keeps.script; turn = keeps.turn; limit = keeps.limit; ready = again }
+      record { image = keeps.image; natives = keeps.natives; script = keeps.script; lines = keeps.lines; limit = keeps.limit; ready = again }
 
-  -- a machine that has moved, and stands for a state, and whose turn is cleared again
-  pub keeps_with : (m : Mover X B) → IsReady m → (machine : Machine X B) (turn : LineBuffer) (page : List ℕ) → machine.core.image ≡ m.machine.core.image →
-      natives_of machine ≡ natives_of m.machine → turn ≡ m.turn → Stands machine → Keeps m (record m { machine = machine; turn = turn; page = page })
-  keeps_with m ready machine turn page image natives same stands =
-      let again : IsReady (record m { machine = machine; turn = turn; page = page }) = record {
+  -- a machine that has moved, and stands for a state, and whose buffer is cleared again
+  pub keeps_with : (m : Mover X B) → IsReady m → (machine : Machine X B) (lines : LineBuffer) (page : List ℕ) → machine.core.image ≡ m.machine.core.image →
+      natives_of machine ≡ natives_of m.machine → lines ≡ m.lines → Stands machine → Keeps m (record m { machine = machine; lines = lines; page = page })
+  keeps_with m ready machine lines page image natives same stands =
+      let again : IsReady (record m { machine = machine; lines = lines; page = page }) = record {
         stands = stands;
         none = ap (λ (t : LineBuffer). t.lines) same ∙ ready.none;
         room = rw (image, ap (λ (t : LineBuffer). t.room) same) ready.room;
         timely = ready.timely;
         few = ready.few;
       } in
-      record { image = image; natives = natives; script = refl; turn = same; limit = refl; ready = again }
+      record { image = image; natives = natives; script = refl; lines = same; limit = refl; ready = again }
 
   module _ {old new : Mover X B} (keeps : Keeps old new) where
     -- what is heard outside is the same
     pub hears_as : outside_of new ≡ outside_of old
-    hears_as = ap (λ (t : LineBuffer). hearing t.refused new.limit (natives_of new.machine) new.script.timed) keeps.turn ∙ ap (λ l. hearing old.turn.refused l
-        (natives_of new.machine) new.script.timed) keeps.limit ∙ ap (λ n. hearing old.turn.refused old.limit n new.script.timed) keeps.natives
-        ∙ ap (λ (s : Script). hearing old.turn.refused old.limit (natives_of old.machine) s.timed) keeps.script
+    hears_as = ap (λ (t : LineBuffer). hearing t.refused new.limit (natives_of new.machine) new.script.timed) keeps.lines ∙ ap (λ l. hearing old.lines.refused l
+        (natives_of new.machine) new.script.timed) keeps.limit ∙ ap (λ n. hearing old.lines.refused old.limit n new.script.timed) keeps.natives
+        ∙ ap (λ (s : Script). hearing old.lines.refused old.limit (natives_of old.machine) s.timed) keeps.script
 
     pub heard_as : (F : Image → Environment → Type 0) → F new.machine.core.image (outside_of new) → F old.machine.core.image (outside_of old)
     heard_as F x = subst (λ p. F p (outside_of old)) keeps.image (subst (λ o. F new.machine.core.image o) hears_as x)
 
-    pub begun_as : (F : Image → List ℕ → Type 0) → F new.machine.core.image new.turn.refused → F old.machine.core.image old.turn.refused
+    pub begun_as : (F : Image → List ℕ → Type 0) → F new.machine.core.image new.lines.refused → F old.machine.core.image old.lines.refused
     begun_as F = heard_as (λ p outside. F p outside.refused)
 
   -- what came of a move, by whether all its lines are out

@@ -69,10 +69,10 @@ module _ {X : Type 0} {B : X → Type 0} (a : Mover X B) where
     abbrev pub cut : Mover X B
     cut = record a { machine = record a.machine { core = core } }
 
-    takes : TakesTurns a.machine (outside_of a) (Some Limit) a.turn a.turn cut.machine
+    takes : TakesTurns a.machine (outside_of a) (Some Limit) a.lines a.lines cut.machine
     takes = let at = leb-true a.limit a.machine.core.parts.rest.dispatches
         (cut_parts (progress a.machine.core) (nat_le a.limit a.machine.core.parts.rest.dispatches) (sym told ∙ is)).1 in
-        limit_cuts a.machine (outside_of a) at a.turn cut.machine (cut_so a.machine core image all)
+        limit_cuts a.machine (outside_of a) at a.lines cut.machine (cut_so a.machine core image all)
 
     pub cut_ends : Ends cut
     cut_ends out =
@@ -85,4 +85,4 @@ module _ {X : Type 0} {B : X → Type 0} (a : Mover X B) where
     pub cut_keeps : IsReady a → Keeps a cut
     cut_keeps ready =
         let x = takes ready.stands.0 ready.stands.1 in
-        keeps_with a ready cut.machine a.turn a.page image refl refl (x.1, x.5)
+        keeps_with a ready cut.machine a.lines a.page image refl refl (x.1, x.5)

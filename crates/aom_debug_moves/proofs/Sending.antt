@@ -214,10 +214,10 @@ module _ {X : Type 0} {B : X → Type 0} where
 
   -- fewer dispatches or events are to come
   pub fewer : (outside : Environment) →
-      outside.limit ≤ 2 ^ 64 - 1 → (m mid : Machine X B) (told turn : LineBuffer) (ending : Option Ending) → Stands m → progress m.core ≡ Turned →
-      TakesTurns m outside ending told turn mid → progress mid.core ≡ Turned → left outside.events outside.limit mid < left outside.events outside.limit m
-  fewer outside few m mid told turn None stands between takes again = fewer_left outside few m mid mid told turn (record turn { lines = [] }) Turned None None
+      outside.limit ≤ 2 ^ 64 - 1 → (m mid : Machine X B) (told buffer : LineBuffer) (ending : Option Ending) → Stands m → progress m.core ≡ Turned →
+      TakesTurns m outside ending told buffer mid → progress mid.core ≡ Turned → left outside.events outside.limit mid < left outside.events outside.limit m
+  fewer outside few m mid told buffer None stands between takes again = fewer_left outside few m mid mid told buffer (record buffer { lines = [] }) Turned None None
       stands between takes (λ s st. ([], s, begins, refl, refl, sym again ∙ is_as_far mid.core s st.stands, (λ no. absurd (turned_not_running no)), st))
-  fewer outside few m mid told turn (Some ending) stands between takes again =
+  fewer outside few m mid told buffer (Some ending) stands between takes again =
       let x = takes stands.0 stands.1 in
       absurd (not_over x.1 ending x.4.1 (sym (is_as_far mid.core x.1 x.5.stands) ∙ again))

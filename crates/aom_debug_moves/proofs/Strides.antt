@@ -88,13 +88,13 @@ module _ {X : Type 0} {B : X → Type 0} (p : Image) (refused : List ℕ) (stays
 -- ---- by what a loop of steps keeps
 
 module _ {X : Type 0} {B : X → Type 0} (a m n : Mover X B) (keeps : Keeps a m) (stays : State → Bool) (old : List Spot) (before here out : Option (List ℕ))
-    (so_far : Sends (Underway a.machine.core.image a.turn.refused stays old m.recent) a.machine before here m.machine) where
-  pub stepped : progress m.machine.core ≡ Running → Sends (Strides m.machine.core.image m.turn.refused m.recent n.recent) m.machine here out n.machine
-      → Sends (Begun a.machine.core.image a.turn.refused stays old n.recent) a.machine before out n.machine
-  stepped running step = steps_more a.machine.core.image a.turn.refused stays old m.recent a.machine m.machine n.machine before here out so_far n.recent running
+    (so_far : Sends (Underway a.machine.core.image a.lines.refused stays old m.recent) a.machine before here m.machine) where
+  pub stepped : progress m.machine.core ≡ Running → Sends (Strides m.machine.core.image m.lines.refused m.recent n.recent) m.machine here out n.machine
+      → Sends (Begun a.machine.core.image a.lines.refused stays old n.recent) a.machine before out n.machine
+  stepped running step = steps_more a.machine.core.image a.lines.refused stays old m.recent a.machine m.machine n.machine before here out so_far n.recent running
       (begun_as keeps (λ q r. Sends (Strides q r m.recent n.recent) m.machine here out n.machine) step)
 
-  pub step_cut : Breaks (Moving m.machine.core.image m.turn.refused) m.machine here out n.machine →
-      Breaks (Moving a.machine.core.image a.turn.refused) a.machine before out n.machine
-  step_cut cut = steps_cut a.machine.core.image a.turn.refused stays old m.recent a.machine m.machine n.machine before here out so_far
+  pub step_cut : Breaks (Moving m.machine.core.image m.lines.refused) m.machine here out n.machine →
+      Breaks (Moving a.machine.core.image a.lines.refused) a.machine before out n.machine
+  step_cut cut = steps_cut a.machine.core.image a.lines.refused stays old m.recent a.machine m.machine n.machine before here out so_far
       (begun_as keeps (λ q r. Breaks (Moving q r) m.machine here out n.machine) cut)

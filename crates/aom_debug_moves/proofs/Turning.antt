@@ -44,7 +44,7 @@ turn_cut p outside a m c before mid out x y = breaks_then a m c before mid out (
 
 -- so where the turns keep the machine's image and what is refused
 pub walk_cut : {X : Type 0} {B : X → Type 0} (a m n : Mover X B) → Keeps a m → (before mid out : Option (List ℕ)) →
-    Sends (Arrives a.machine.core.image (outside_of a)) a.machine before mid m.machine → Breaks (Moving m.machine.core.image m.turn.refused) m.machine mid out
+    Sends (Arrives a.machine.core.image (outside_of a)) a.machine before mid m.machine → Breaks (Moving m.machine.core.image m.lines.refused) m.machine mid out
     n.machine → Breaks (Reaches a.machine.core.image (outside_of a)) a.machine before out n.machine
 walk_cut a m n keeps before mid out x y = turn_cut a.machine.core.image
     (outside_of a) a.machine m.machine n.machine before mid out x (begun_as keeps (λ q r. Breaks (Moving q r) m.machine mid out n.machine) y)

@@ -13,13 +13,13 @@ pub use Rattle.aom_debug_moves.specs.declared.mover.Mover.{Mover}
 module _ {X : Type 0} {B : X → Type 0} where
   -- what comes from outside of the image
   abbrev pub outside_of : Mover X B → Environment
-  outside_of m = hearing m.turn.refused m.limit (natives_of m.machine) m.script.timed
+  outside_of m = hearing m.lines.refused m.limit (natives_of m.machine) m.script.timed
 
   -- the machine stands for a state, the buffer has no lines and room for those of a step, the events of the script are as a machine needs them, and the limit is a number of 64 bits
   pub record IsReady (m : Mover X B) : Type 0 where
     pub stands : Stands m.machine
-    pub none : m.turn.lines ≡ []
-    pub room : 64 + step_lines m.machine.core.image.header.messages ≤ m.turn.room
+    pub none : m.lines.lines ≡ []
+    pub room : 64 + step_lines m.machine.core.image.header.messages ≤ m.lines.room
     pub timely : IsTimely m.script.timed
     pub few : m.limit ≤ 2 ^ 64 - 1
 
@@ -28,7 +28,7 @@ module _ {X : Type 0} {B : X → Type 0} where
     pub image : new.machine.core.image ≡ old.machine.core.image
     pub natives : natives_of new.machine ≡ natives_of old.machine
     pub script : new.script ≡ old.script
-    pub turn : new.turn ≡ old.turn
+    pub lines : new.lines ≡ old.lines
     pub limit : new.limit ≡ old.limit
     pub ready : IsReady new
 

@@ -1,7 +1,7 @@
 //! What comes between dispatches, whose lines go out.
 ghost use Rattle.std.specs.Prelude.{◌≡◌, ◌≢◌, IfSome, Option};
 ghost use Rattle.aom_machine.specs.Steps.{progress};
-ghost use Rattle.aom_machine_state.specs.LineBuffer.{LineBuffer as TurnRecord};
+ghost use Rattle.aom_machine_state.specs.LineBuffer.{LineBuffer as LineBufferRecord};
 ghost use Rattle.aom_machine_state.specs.declared.progress.Progress.TheVariants.{Turned};
 ghost use Rattle.aom_natives.specs.Slots.{AllAgree};
 ghost use Rattle.aom_semantics.specs.World.{Reaches};
@@ -24,13 +24,13 @@ pub fn turn_out<W: Sink>(mover: &mut Mover, out: &mut W) -> Option<Progress>
     ensures agree { AllAgree (λ l. l.ids) (λ l. (⟦<dyn Native as Native>⟧ l.native.vtable).owed l.native.value) mover.new.machine.natives.slots.items }
     ensures keeps { Keeps mover.old mover.new }
     ensures recent { mover.new.recent ≡ mover.old.recent }
-    ensures takes { (ending : Option EndingRecord) × (now : TurnRecord) × TakesTurns mover.old.machine (outside_of mover.old) ending mover.old.turn now mover.new.machine }
+    ensures takes { (ending : Option EndingRecord) × (now : LineBufferRecord) × TakesTurns mover.old.machine (outside_of mover.old) ending mover.old.lines now mover.new.machine }
     ensures went { Went (TurnsOnce mover.old.machine.core.image (outside_of mover.old)) (Reaches mover.old.machine.core.image (outside_of mover.old)) mover.old (W.out out.old) (W.out out.new) (W.failed out.new) result mover.new }
 {
     let events = mover.script.events();
-    let _ = take_turns(&mut mover.machine, events, &mut mover.turn, mover.limit);
+    let _ = take_turns(&mut mover.machine, events, &mut mover.lines, mover.limit);
     let progress = mover.machine.core.progress();
-    send(&mut mover.turn, &mut mover.page, out).then_some(progress)
+    send(&mut mover.lines, &mut mover.page, out).then_some(progress)
 }
 
 /// Such turns, until something is at hand or the run is over.

@@ -39,7 +39,7 @@ fn go_stretch<W: Sink>(
     requires running { progress mover.old.machine.core ≡ Running }
     ensures agree { AllAgree (λ l. l.ids) (λ l. (⟦<dyn Native as Native>⟧ l.native.vtable).owed l.native.value) mover.new.machine.natives.slots.items }
     ensures keeps { Keeps mover.old mover.new }
-    ensures went { Went (stretch_of mover.old.machine.core.image mover.old.turn.refused breakpoints.now stretch mover.old.recent mover.new.recent) (Moving mover.old.machine.core.image mover.old.turn.refused) mover.old (W.out out.old) (W.out out.new) (W.failed out.new) result mover.new }
+    ensures went { Went (stretch_of mover.old.machine.core.image mover.old.lines.refused breakpoints.now stretch mover.old.recent mover.new.recent) (Moving mover.old.machine.core.image mover.old.lines.refused) mover.old (W.out out.old) (W.out out.new) (W.failed out.new) result mover.new }
 {
     match stretch {
         Stretch::Whole => walk(mover, Until::EndOfDispatch, breakpoints, out),
@@ -65,7 +65,7 @@ pub fn go_in_dispatch<W: Sink>(
     requires ready { IsReady mover.old }
     ensures agree { AllAgree (λ l. l.ids) (λ l. (⟦<dyn Native as Native>⟧ l.native.vtable).owed l.native.value) mover.new.machine.natives.slots.items }
     ensures keeps { Keeps mover.old mover.new }
-    ensures went { Went (InDispatch mover.old.machine.core.image (outside_of mover.old) (stretch_of mover.old.machine.core.image mover.old.turn.refused breakpoints.now stretch) mover.old.recent mover.new.recent) (Reaches mover.old.machine.core.image (outside_of mover.old)) mover.old (W.out out.old) (W.out out.new) (W.failed out.new) result mover.new }
+    ensures went { Went (InDispatch mover.old.machine.core.image (outside_of mover.old) (stretch_of mover.old.machine.core.image mover.old.lines.refused breakpoints.now stretch) mover.old.recent mover.new.recent) (Reaches mover.old.machine.core.image (outside_of mover.old)) mover.old (W.out out.old) (W.out out.new) (W.failed out.new) result mover.new }
 {
     match arrive(mover, out)? {
         Progress::Running => go_stretch(mover, stretch, breakpoints, out),

@@ -12,7 +12,7 @@ pub struct Mover<'a> {
     pub script: Script,
     /// The most dispatches after main's.
     pub limit: u32,
-    pub turn: LineBuffer,
+    pub lines: LineBuffer,
     pub page: Page,
     /// The latest instructions.
     pub recent: Recent,

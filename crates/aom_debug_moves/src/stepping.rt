@@ -21,14 +21,14 @@ use aom_run::{Machine, Sink, write_lines};
 use aom_transcript::Page;
 
 /// Sends out the lines of the buffer, and clears it. Answers whether all is out.
-pub fn send<W: Sink>(turn: &mut LineBuffer, page: &mut Page, out: &mut W) -> bool
-    ensures clear { turn.new ≡ record turn.old { lines = [] } }
-    ensures prefix { (n : ℕ) × (W.out out.new ≡ after (W.out out.old) (take n (text_of turn.old.lines))) }
-    ensures whole { result ≡ true → W.out out.new ≡ after (W.out out.old) (text_of turn.old.lines) }
+pub fn send<W: Sink>(lines: &mut LineBuffer, page: &mut Page, out: &mut W) -> bool
+    ensures clear { lines.new ≡ record lines.old { lines = [] } }
+    ensures prefix { (n : ℕ) × (W.out out.new ≡ after (W.out out.old) (take n (text_of lines.old.lines))) }
+    ensures whole { result ≡ true → W.out out.new ≡ after (W.out out.old) (text_of lines.old.lines) }
     ensures fails { result ≡ false → W.failed out.new ≡ true }
 {
-    write_lines(out, page, turn.lines());
-    turn.clear();
+    write_lines(out, page, lines.lines());
+    lines.clear();
     !out.has_failed()
 }
 
@@ -39,7 +39,7 @@ fn step_if<W: Sink>(asked: bool, mover: &mut Mover, out: &mut W) -> Option<Progr
     ensures agree { AllAgree (λ l. l.ids) (λ l. (⟦<dyn Native as Native>⟧ l.native.vtable).owed l.native.value) mover.new.machine.natives.slots.items }
     ensures keeps { Keeps mover.old mover.new }
     ensures recent { mover.new.recent ≡ mover.old.recent }
-    ensures went { Went (IfSo asked (StepsOnce mover.old.machine.core.image mover.old.turn.refused)) (Moving mover.old.machine.core.image mover.old.turn.refused) mover.old (W.out out.old) (W.out out.new) (W.failed out.new) result mover.new }
+    ensures went { Went (IfSo asked (StepsOnce mover.old.machine.core.image mover.old.lines.refused)) (Moving mover.old.machine.core.image mover.old.lines.refused) mover.old (W.out out.old) (W.out out.new) (W.failed out.new) result mover.new }
     ensures was { progress mover.new.machine.core ≡ Running → progress mover.old.machine.core ≡ Running }
     ensures rank { progress mover.new.machine.core ≡ Running → rank mover.new.machine.core ≤ rank mover.old.machine.core }
     ensures falls { asked ≡ true → progress mover.new.machine.core ≡ Running → rank mover.new.machine.core < rank mover.old.machine.core }
@@ -47,8 +47,8 @@ fn step_if<W: Sink>(asked: bool, mover: &mut Mover, out: &mut W) -> Option<Progr
     if !asked {
         return Some(mover.machine.core.progress());
     }
-    let progress = mover.machine.step(&mut mover.turn);
-    send(&mut mover.turn, &mut mover.page, out).then_some(progress)
+    let progress = mover.machine.step(&mut mover.lines);
+    send(&mut mover.lines, &mut mover.page, out).then_some(progress)
 }
 
 /// Notes the instruction that is next, if one is.
@@ -82,7 +82,7 @@ pub fn stride<W: Sink>(mover: &mut Mover, out: &mut W) -> Option<Progress>
     requires ready { IsReady mover.old }
     ensures agree { AllAgree (λ l. l.ids) (λ l. (⟦<dyn Native as Native>⟧ l.native.vtable).owed l.native.value) mover.new.machine.natives.slots.items }
     ensures keeps { Keeps mover.old mover.new }
-    ensures went { Went (Strides mover.old.machine.core.image mover.old.turn.refused mover.old.recent mover.new.recent) (Moving mover.old.machine.core.image mover.old.turn.refused) mover.old (W.out out.old) (W.out out.new) (W.failed out.new) result mover.new }
+    ensures went { Went (Strides mover.old.machine.core.image mover.old.lines.refused mover.old.recent mover.new.recent) (Moving mover.old.machine.core.image mover.old.lines.refused) mover.old (W.out out.old) (W.out out.new) (W.failed out.new) result mover.new }
     ensures falls { IfSome result (λ _. progress mover.new.machine.core ≡ Running → rank mover.new.machine.core < rank mover.old.machine.core) }
 {
     let begins = starts_end(&mover.machine);

@@ -79,7 +79,7 @@ pub fn walk<W: Sink>(
     requires running { progress mover.old.machine.core ≡ Running }
     ensures agree { AllAgree (λ l. l.ids) (λ l. (⟦<dyn Native as Native>⟧ l.native.vtable).owed l.native.value) mover.new.machine.natives.slots.items }
     ensures keeps { Keeps mover.old mover.new }
-    ensures went { Went (WalksThere mover.old.machine.core.image mover.old.turn.refused (λ s. stays_at mover.old.machine.core.image until breakpoints.now s) mover.old.recent mover.new.recent) (Moving mover.old.machine.core.image mover.old.turn.refused) mover.old (W.out out.old) (W.out out.new) (W.failed out.new) result mover.new }
+    ensures went { Went (WalksThere mover.old.machine.core.image mover.old.lines.refused (λ s. stays_at mover.old.machine.core.image until breakpoints.now s) mover.old.recent mover.new.recent) (Moving mover.old.machine.core.image mover.old.lines.refused) mover.old (W.out out.old) (W.out out.new) (W.failed out.new) result mover.new }
 {
     loop {
         let progress = stride(mover, out)?;
@@ -106,7 +106,7 @@ pub fn walk_unless<W: Sink>(
     requires running { rests ≡ false → progress mover.old.machine.core ≡ Running }
     ensures agree { AllAgree (λ l. l.ids) (λ l. (⟦<dyn Native as Native>⟧ l.native.vtable).owed l.native.value) mover.new.machine.natives.slots.items }
     ensures keeps { Keeps mover.old mover.new }
-    ensures went { Went (WalksUnless rests mover.old.machine.core.image mover.old.turn.refused (λ s. stays_at mover.old.machine.core.image until breakpoints.now s) mover.old.recent mover.new.recent) (Moving mover.old.machine.core.image mover.old.turn.refused) mover.old (W.out out.old) (W.out out.new) (W.failed out.new) result mover.new }
+    ensures went { Went (WalksUnless rests mover.old.machine.core.image mover.old.lines.refused (λ s. stays_at mover.old.machine.core.image until breakpoints.now s) mover.old.recent mover.new.recent) (Moving mover.old.machine.core.image mover.old.lines.refused) mover.old (W.out out.old) (W.out out.new) (W.failed out.new) result mover.new }
 {
     if rests {
         return Some(mover.machine.core.progress());

@@ -15,7 +15,7 @@ use Rattle.aom_determinism.proofs.SafetyLemmas.{Same, asked_there, client_here, 
 use Rattle.aom_determinism.proofs.SafetyLemmas.{service_here, service_left, service_moved, service_there, service_unnamed}
 use Rattle.aom_transcript.specs.declared.event.ClientCommand.{ClientCommand}
 use Rattle.aom_semantics.specs.Clients.{Listed, asked_server, client_at, commanded, connecting, leaving, own, sending, told, with_client, with_message}
-use Rattle.aom_semantics.specs.Enlisted.{part_of}
+use Rattle.aom_semantics.specs.Requests.{part_of}
 use Rattle.aom_safety.specs.Kept.{ClientsFit, is_connect_of}
 use Rattle.aom_semantics.specs.Places.{Asked, Cell, Close_of, Connect_of, Elsewhere, In_service, Message_of, Object, Queued}
 use Rattle.aom_semantics.specs.Places.{Service, Session, Tidy, held, moved, named, service_of, unserved}

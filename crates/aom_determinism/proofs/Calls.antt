@@ -11,8 +11,8 @@ use Rattle.aom_determinism.proofs.Cells.{Unchanged, meets_asked, meets_opened, o
 use Rattle.aom_determinism.proofs.Cells.{served_so, unchanged_asked, unchanged_itself, unchanged_opened}
 use Rattle.aom_determinism.proofs.Requests.{aborted_owed, cancelled_owed, completed_owed, idle_owed, issued_owed, started_owed}
 use Rattle.aom_determinism.specs.Owed.{Finds, FindsWell, SessionsHold, is_for, meets, meets_after, owes, owes_after, serves, serves_object, takes_on}
-use Rattle.aom_semantics.specs.Enlisted.{Asking, aborted, ended_cells, home_kind, in_phase, is_idle, issued_of}
-use Rattle.aom_semantics.specs.Enlisted.{on_request, own_request, pending, rerequested, status_of, thing_kind}
+use Rattle.aom_semantics.specs.Requests.{Asking, aborted, ended_cells, home_kind, in_phase, is_idle, issued_of}
+use Rattle.aom_semantics.specs.Requests.{on_request, own_request, pending, rerequested, status_of, thing_kind}
 use Rattle.aom_semantics.specs.Natives.{has_died, is_dead, is_owed, native_of, opens, own_session, resessioned, started}
 use Rattle.aom_semantics.specs.Places.{Cell, Object, Request, in_session, named, requested, set_request, set_session}
 use Rattle.aom_semantics.specs.State.{Frame, Home, Inside, State, Task}

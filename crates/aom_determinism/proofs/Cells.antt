@@ -11,7 +11,7 @@ use Rattle.aom_determinism.proofs.SemanticsLemmas.{named_moved, named_without, r
 use Rattle.aom_determinism.proofs.SafetyLemmas.{named_set_word, requested_here, requested_set_word, requested_there, rerequested_alike, resessioned_alike}
 use Rattle.aom_determinism.proofs.SafetyLemmas.{resessioned_requests, session_asked, session_moved, session_set_word, session_without}
 use Rattle.aom_semantics.specs.Natives.{is_owed, is_served_by, native_of}
-use Rattle.aom_semantics.specs.Enlisted.{thing_kind}
+use Rattle.aom_semantics.specs.Requests.{thing_kind}
 use Rattle.aom_semantics.specs.Places.{Cell, Elsewhere, Object, Place, Request, Root, Tidy, held, in_session}
 use Rattle.aom_semantics.specs.Places.{moved, named, requested, set_request, set_session, with_new, without}
 use Rattle.aom_semantics.specs.State.{Home, Inside}

@@ -18,7 +18,7 @@ use Rattle.aom_semantics.specs.Effects.{Calls, Cancels, Carried, Destroys, Destr
 use Rattle.aom_semantics.specs.Effects.{Pushed, Requested, Returns, Sets_trap, Spot, Update, Written, applied}
 use Rattle.aom_semantics.specs.Effects.{cancels_if, cells_after, deals, deletes, effect, hands_unless, items_after, jumps_if, jumps_unless, makes_unless}
 use Rattle.aom_semantics.specs.Effects.{round, spot_place, Replied, Sessioned, Handed}
-use Rattle.aom_semantics.specs.Enlisted.{cancel_method, ended_cells, in_phase, is_active, own_request, rerequested}
+use Rattle.aom_semantics.specs.Requests.{cancel_method, ended_cells, in_phase, is_active, own_request, rerequested}
 use Rattle.aom_semantics.specs.Moves.{does, needs}
 use Rattle.aom_semantics.specs.Places.{Cell, Entry, Object, Place, Register, Request, held, moved}
 use Rattle.aom_semantics.specs.State.{An_object, Choice, Dispatch, Frame, Home, Item, Run, State, Task, Trapped, home_view}

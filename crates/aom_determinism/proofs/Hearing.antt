@@ -7,7 +7,7 @@ use Rattle.aom_instructions.specs.declared.instr.Instr.{Instr}
 use Rattle.std.proofs.lemmas.Bool.{and_right}
 use Rattle.aom_determinism.proofs.SafetyLemmas.{by_exchange}
 use Rattle.aom_semantics.specs.Wanted.{exchange_at}
-use Rattle.aom_semantics.specs.Enlisted.{home_kind, thing_kind}
+use Rattle.aom_semantics.specs.Requests.{home_kind, thing_kind}
 use Rattle.aom_semantics.specs.Moves.{counted, step, step_instr, step_task}
 use Rattle.aom_semantics.specs.State.{Choice, Frame, Run, State, Task}
 use Rattle.aom_determinism.proofs.Needs.{kind_kept}

@@ -16,7 +16,7 @@ use Rattle.aom_determinism.proofs.SemanticsLemmas.{named_name}
 use Rattle.aom_semantics.specs.Calls.{passed_cells, result_cells}
 use Rattle.aom_semantics.specs.Clients.{each_unslotted}
 use Rattle.aom_semantics.specs.Effects.{Spot, Update, cells_after, spot_place}
-use Rattle.aom_semantics.specs.Enlisted.{ended_cells}
+use Rattle.aom_semantics.specs.Requests.{ended_cells}
 use Rattle.aom_safety.specs.Kept.{is_connect_of}
 use Rattle.aom_semantics.specs.Places.{Cell, Elsewhere, Object, Place, Service, Session, Tidy, held, moved, named, same_place, service_of}
 use Rattle.aom_semantics.specs.Servers.{reserved}

@@ -9,7 +9,7 @@ use Rattle.aom_image.specs.Image.{Image}
 use Rattle.aom_clients.specs.declared.client.Client.{Client}
 use Rattle.aom_semantics.specs.Clients.{commanded, leaving}
 use Rattle.aom_semantics.specs.Servers.{withdrawn}
-use Rattle.aom_semantics.specs.Enlisted.{completed_with, on_request}
+use Rattle.aom_semantics.specs.Requests.{completed_with, on_request}
 use Rattle.aom_semantics.specs.Natives.{all_bereaved, is_served_by, terminated_request}
 use Rattle.aom_semantics.specs.Places.{Cell, Object, Request, Service, Tidy, requested, set_request, set_service}
 use Rattle.aom_semantics.specs.State.{State}

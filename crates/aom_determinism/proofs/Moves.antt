@@ -27,8 +27,8 @@ use Rattle.aom_safety.specs.Claims.{Dispatching, Layer}
 use Rattle.aom_semantics.specs.Destruction.{vanished, gone, is_at_rest, needs_gone}
 use Rattle.aom_semantics.specs.Effects.{Effect, Leaves, Same, applied, cancels_if, deals, deletes, effect}
 use Rattle.aom_semantics.specs.Effects.{makes_unless, round, sets, unless_refused, updates, cells_after, hands_unless}
-use Rattle.aom_semantics.specs.Enlisted.{cancel_method, ended_cells, in_phase, is_active, next_timer}
-use Rattle.aom_semantics.specs.Enlisted.{own_request, thing_kind, home_kind, rerequested}
+use Rattle.aom_semantics.specs.Requests.{cancel_method, ended_cells, in_phase, is_active, next_timer}
+use Rattle.aom_semantics.specs.Requests.{own_request, thing_kind, home_kind, rerequested}
 use Rattle.aom_semantics.specs.Moves.{stage_ends, answered, counted, dispatch_ends, handled, main_ends, needs, object_ends, step, step_task}
 use Rattle.aom_semantics.specs.Natives.{is_owed, native_of}
 use Rattle.aom_semantics.specs.Places.{In_service, Tidy, Cell, Elsewhere, Going, Object}

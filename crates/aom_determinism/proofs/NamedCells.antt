@@ -11,7 +11,7 @@ use Rattle.aom_image.specs.declared.method.Thing.{Thing}
 use Rattle.aom_roles.specs.Things.{is_object}
 use Rattle.aom_semantics.specs.Calls.{is_register_but, none_owns_but}
 use Rattle.aom_semantics.specs.Destruction.{is_past, needs_past, owns_none_past, is_field_of, needs_emptied, owns_none}
-use Rattle.aom_semantics.specs.Enlisted.{next_order, next_timer, order_after, request_after}
+use Rattle.aom_semantics.specs.Requests.{next_order, next_timer, order_after, request_after}
 use Rattle.aom_semantics.specs.Places.{Cell, Elsewhere, Entry, Field, Going, Place, Register, Request, held, moved, named, requested, same_place}
 use Rattle.aom_semantics.specs.Places.{set_request, set_word_field, without, word_field, in_session, set_session, count_cells, Other}
 use Rattle.aom_semantics.specs.State.{Task}

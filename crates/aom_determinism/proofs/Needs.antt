@@ -15,7 +15,7 @@ use Rattle.aom_semantics.specs.Calls.{none_filled, end_needs, is_asked, given_ce
 use Rattle.aom_semantics.specs.Calls.{needs_call, needs_each, needs_ended, needs_entering, needs_reply, needs_result}
 use Rattle.aom_semantics.specs.Calls.{needs_return, needs_target, needs_target_object, needs_trap, passed_cells, result_needs}
 use Rattle.aom_semantics.specs.Cleanup.{above_trap_is_free, has_trap, if_refused, leave_needs, needs_push, pushed_cells, top_is_whole}
-use Rattle.aom_semantics.specs.Enlisted.{home_kind, own_request}
+use Rattle.aom_semantics.specs.Requests.{home_kind, own_request}
 use Rattle.aom_semantics.specs.Objects.{is_no_message, is_thing, needs_put, needs_take_message}
 use Rattle.aom_semantics.specs.Places.{Cell, Elsewhere, Entry, In_service, Object, Place, Register, held}
 use Rattle.aom_semantics.specs.State.{A_mark, An_object, An_operation, Choice, Dispatch, Frame, Home, Item}

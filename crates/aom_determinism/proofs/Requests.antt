@@ -7,8 +7,8 @@ use Rattle.aom_image.specs.declared.class.ClassKind.{ClassKind}
 use Rattle.aom_determinism.proofs.SafetyLemmas.{recorded_so}
 use Rattle.aom_determinism.specs.Owed.{takes_on}
 use Rattle.aom_semantics.specs.Destruction.{is_at_rest}
-use Rattle.aom_semantics.specs.Enlisted.{Asking, aborted, cancelled, cancelling, completed_with, taken_up, in_phase, is_active}
-use Rattle.aom_semantics.specs.Enlisted.{is_idle, is_issued, issued_of, on_request, pending, status_of, waits}
+use Rattle.aom_semantics.specs.Requests.{Asking, aborted, cancelled, cancelling, completed_with, taken_up, in_phase, is_active}
+use Rattle.aom_semantics.specs.Requests.{is_idle, is_issued, issued_of, on_request, pending, status_of, waits}
 use Rattle.aom_semantics.specs.Natives.{is_owed, native_of, started}
 use Rattle.aom_semantics.specs.Places.{Request}
 

@@ -17,7 +17,7 @@ use Rattle.aom_roles.specs.Tests.{AllTrue}
 use Rattle.aom_rules.specs.Typing.{Typing}
 use Rattle.aom_semantics.specs.Destruction.{gone, needs_gone, vanished}
 use Rattle.aom_semantics.specs.Effects.{Returns, applied, effect, needs}
-use Rattle.aom_semantics.specs.Enlisted.{completed_with, recorded, timed_out}
+use Rattle.aom_semantics.specs.Requests.{completed_with, recorded, timed_out}
 use Rattle.aom_safety.specs.Kept.{IsKept}
 use Rattle.aom_safety.specs.Laws.{IsWired}
 use Rattle.aom_semantics.specs.Moves.{counted, needs_end, step_instr, step_task}

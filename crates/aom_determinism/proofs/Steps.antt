@@ -10,7 +10,7 @@ use Rattle.aom_semantics.specs.World.{Heard, HearsWell, Environment}
 use Rattle.aom_semantics.specs.Cleanup.{arrived, unwound}
 use Rattle.aom_clients.specs.declared.client.Client.TheVariants.{Unconnected}
 use Rattle.aom_semantics.specs.Destruction.{closing, gone, parting, vanished}
-use Rattle.aom_semantics.specs.Enlisted.{part_of}
+use Rattle.aom_semantics.specs.Requests.{part_of}
 use Rattle.aom_semantics.specs.Moves.{IsOpen, answered, asking, dispatch_ends, is_refused, main_ends, makes_cell}
 use Rattle.aom_semantics.specs.Moves.{needs_end, object_ends, stage_ends, step, step_instr, step_task, written, written_task}
 use Rattle.aom_semantics.specs.Places.{Cell, Elsewhere, Going, In_service, Object, Root, named}

@@ -15,7 +15,7 @@ use Rattle.aom_determinism.specs.Laws.{TurnsKillOrComplete}
 use Rattle.aom_determinism.specs.Owed.{CompletesOwed, SessionsHold, has_name, killed_turned, meets, meets_turned, owes, owes_turned, serves, serves_object}
 use Rattle.aom_rules.specs.Typing.{Typing}
 use Rattle.aom_determinism.proofs.SafetyLemmas.{Picked, accepts, attends, goes_same, guarded_goes, handles, parts as by_parting, picked_so, recorded_so}
-use Rattle.aom_semantics.specs.Enlisted.{completed_with, is_active, on_request, pending, recorded, taken_up, thing_kind, timed_out}
+use Rattle.aom_semantics.specs.Requests.{completed_with, is_active, on_request, pending, recorded, taken_up, thing_kind, timed_out}
 use Rattle.aom_roles.specs.Classes.{sessions_in, sessions_of}
 use Rattle.aom_safety.specs.Kept.{ClientsFit}
 use Rattle.aom_semantics.specs.Natives.{all_bereaved, is_outstanding_at, is_owed, is_served_by, native_of, terminated, terminated_request}

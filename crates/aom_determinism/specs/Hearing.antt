@@ -5,7 +5,7 @@ use Rattle.aom_image.specs.Views.{instr_at}
 use Rattle.aom_image.specs.declared.class.ClassKind.{ClassKind}
 use Rattle.aom_roles.specs.Kinds.{is_native_kind}
 use Rattle.aom_roles.specs.Shapes.{kind_of}
-use Rattle.aom_semantics.specs.Enlisted.{home_kind}
+use Rattle.aom_semantics.specs.Requests.{home_kind}
 use Rattle.aom_semantics.specs.State.{Run, State, Task}
 use Rattle.aom_semantics.specs.Wanted.{Exchange, An_open, A_start, An_ask, exchange_at}
 use Rattle.aom_semantics.specs.World.{begins, moves, nothing_heard, turns, Completion, Environment, Polls, Reaches, Turning, turning}

@@ -1,6 +1,7 @@
 pub mod Declarations
 pub mod Laws
 pub mod Lines
+pub mod Linking
 pub mod Compared
 pub mod Entries
 pub mod Known

@@ -20,6 +20,10 @@ shown_byte b = if is_blank b then 32 else if is_plain b then b else 63
 abbrev pub line_text : List ℕ → ℕ → List ℕ
 line_text text number = codes "Line " ++ decimal number ++ codes ": " ++ map shown_byte (take 200 (numbered_line text number)) ++ 10 ∷ []
 
+-- a word of a text
+abbrev pub word_text : List ℕ → List ℕ
+word_text word = codes "Word: " ++ map shown_byte word ++ 10 ∷ []
+
 -- the line that declares a method, as a listing has it
 abbrev pub heading_text : ℕ → Method → List ℕ
 heading_text number m = codes "In: " ++ line_of (heading_words number m)

@@ -48,7 +48,7 @@ abbrev pub load_texts : LoadFault → Texts
 load_texts fault = elim fault [
   | loads.BadMagic ↦ texts "wrong magic"
       "The first four bytes are not AOIM. An assembly text is refused so."
-      "Assemble the text first, and name the image."
+      "Put --asm before a text, or assemble it first and name the image."
   | loads.BadVersion ↦ texts "wrong version"
       "The version is neither 1 nor 2."
       "Make the image in one of these versions."
@@ -65,7 +65,7 @@ load_texts fault = elim fault [
       "An opcode is none of the table."
       "Take an opcode from 01 to 30, in version 2 to 31; look whether an instruction has its 8 bytes."
   | loads.BadOperand ↦ texts "no operand"
-      "An operand, a kind, a role, a flag or a set of states is none, or not for this kind."
+      "An operand, a kind, a role, a flag or a set of states is none that there is, or none that may stand here."
       "Look up the range of the field."
   | loads.BadIndex ↦ texts "no such number"
       "A class, method, place or native of that number is not there."
@@ -170,7 +170,7 @@ verify_texts why = elim why [
       "A destructor ends, and a field may still own something."
       "take from each field and delete."
   | whys.NotFresh ↦ texts "not fresh"
-      "A construct method is called on an object that is constructed already, as what self or a field has always is, or on one whose class has another; on self a construct method may call that of its class's parent."
+      "A construct method is called on an object that is constructed already, as self and what a field owns always are, or on one whose class has another construct method; on self a construct method may call that of its class's parent."
       "Construct each object once, right after new or newl, by the construct method that its class has."
   | whys.StillFresh ↦ texts "still fresh"
       "An object is used, given or put in a field before its construct method has run."
@@ -215,7 +215,7 @@ verify_texts why = elim why [
 abbrev pub budget_texts : BudgetFault → Texts
 budget_texts fault = elim fault [
   | budgets.OverBudget payer price declared ↦ texts "over budget"
-      "budget 1 main price P declared D: main, with the root's destruction, may take P steps, and the image declares D. A P of 4294967296 stands for all that is more. budget 1 class K price P declared D says the same of a dispatch of an object of the class K: its run method, and its error method, which follows where the run has left."
+      "budget 1 main price P declared D: main, with the root's destruction, may take P steps, and the image declares D. A P of 4294967296 stands for all that is more. budget 1 class K price P declared D says the same of a dispatch of an object of the class K: of an active object its run method, and its error method, which follows where the run has left; of a server the dearest of its accept method, its sessions' service method and a session's destruction."
       "Declare at least P, or make loops shorter, those in called methods first."
   | budgets.TooDeep ↦ texts "too deep"
       "A method may come to more than 256 frames."

@@ -4,7 +4,7 @@ use crate::Explanation;
 
 pub(crate) const OVER_BUDGET: Explanation = Explanation {
     name: b"over budget",
-    meaning: b"budget 1 main price P declared D: main, with the root's destruction, may take P steps, and the image declares D. A P of 4294967296 stands for all that is more. budget 1 class K price P declared D says the same of a dispatch of an object of the class K: its run method, and its error method, which follows where the run has left.",
+    meaning: b"budget 1 main price P declared D: main, with the root's destruction, may take P steps, and the image declares D. A P of 4294967296 stands for all that is more. budget 1 class K price P declared D says the same of a dispatch of an object of the class K: of an active object its run method, and its error method, which follows where the run has left; of a server the dearest of its accept method, its sessions' service method and a session's destruction.",
     mend: b"Declare at least P, or make loops shorter, those in called methods first.",
 };
 

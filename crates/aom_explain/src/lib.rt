@@ -5,7 +5,8 @@
 //! kind's own texts stand in a file of its name. `put_entry` writes an entry, and `put_line`, `put_method` and `put_compared` what
 //! `specs/Places.antt` and `specs/Compared.antt` say of a line of a text, of an instruction and of a budget. A method and an
 //! instruction are written as in a listing; `put_source` and `put_declared` write in their place the statements of a text, as
-//! `specs/Sources.antt` says, and `put_lined` all in one line, as `specs/Lines.antt` says. `put_known` writes what is known where a method stands (`specs/Known.antt`).
+//! `specs/Sources.antt` says, and `put_lined` all in one line, as `specs/Lines.antt` says. `put_link_place` and `put_link_source` write
+//! where an image fails a link condition (`specs/Linking.antt`), and `put_known` what is known where a method stands (`specs/Known.antt`).
 //!
 //! The way back from an image to its text: `image_statement`, `class_statement`, `method_statement` and `instruction_statement` answer
 //! the statements, with their lines, that `specs/Declarations.antt` finds in a text by counting those that begin with `class` or `method`;
@@ -24,6 +25,7 @@ mod known;
 mod laws;
 mod lined;
 mod link;
+mod linking;
 mod load;
 mod naming;
 mod place;
@@ -39,8 +41,9 @@ pub use finding::{begins_with, instruction_statement};
 pub use known::put_known;
 pub use laws::statements_declare;
 pub use lined::{budget_line, class_lines, image_line, method_lines, put_lined, refusal_line};
+pub use linking::{link_line, put_link_place, put_link_source};
 pub use naming::{class_names, method_names};
-pub use place::{put_line, put_method};
+pub use place::{put_line, put_method, put_word};
 pub use source::{put_declared, put_source};
 pub use table::{
     asm_entry, boot_entry, budget_entry, link_entry, load_entry, script_entry, verify_entry,

@@ -12,7 +12,7 @@ use aom_syntax::Keyword;
 use aom_text::{Statement, StatementCursor};
 use std::alloc::{AllocError, Global};
 
-fn line_of(found: Option<Statement>) -> Option<u32>
+pub(crate) fn line_of(found: Option<Statement>) -> Option<u32>
     ensures { result ≡ line_of found.entry }
 {
     match found {

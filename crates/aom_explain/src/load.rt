@@ -5,7 +5,7 @@ use crate::Explanation;
 pub(crate) const BAD_MAGIC: Explanation = Explanation {
     name: b"wrong magic",
     meaning: b"The first four bytes are not AOIM. An assembly text is refused so.",
-    mend: b"Assemble the text first, and name the image.",
+    mend: b"Put --asm before a text, or assemble it first and name the image.",
 };
 
 pub(crate) const BAD_VERSION: Explanation = Explanation {
@@ -40,7 +40,7 @@ pub(crate) const BAD_OPCODE: Explanation = Explanation {
 
 pub(crate) const BAD_OPERAND: Explanation = Explanation {
     name: b"no operand",
-    meaning: b"An operand, a kind, a role, a flag or a set of states is none, or not for this kind.",
+    meaning: b"An operand, a kind, a role, a flag or a set of states is none that there is, or none that may stand here.",
     mend: b"Look up the range of the field.",
 };
 

@@ -1,6 +1,6 @@
 //! Where a fault is: a line of a text, or an instruction of a method.
 ghost use Rattle.std.specs.Prelude.{◌≡◌, ◌≤◌, ◌++◌, OnOk, length, map, take};
-ghost use Rattle.aom_explain.specs.Places.{heading_text, instruction_text, line_text, method_text, numbered_line, shown_byte};
+ghost use Rattle.aom_explain.specs.Places.{heading_text, instruction_text, line_text, method_text, numbered_line, shown_byte, word_text};
 
 use aom_figures::FigureWriter;
 use aom_image::{Image, Method, MethodNumber};
@@ -64,8 +64,17 @@ pub fn put_line(out: &mut FigureWriter, text: &[u8], number: u32) -> Result<(), 
     out.words(b"\n")
 }
 
+/// Writes a word of a text.
+pub fn put_word(out: &mut FigureWriter, word: &[u8]) -> Result<(), AllocError>
+    ensures { OnOk result (out.new ≡ out.old ++ word_text word.now) }
+{
+    out.words(b"Word: ")?;
+    put_shown(out, word)?;
+    out.words(b"\n")
+}
+
 /// Writes the line of a listing that declares a method.
-fn put_heading(
+pub(crate) fn put_heading(
     alloc: Global,
     out: &mut FigureWriter,
     number: MethodNumber,

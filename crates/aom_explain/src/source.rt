@@ -35,7 +35,7 @@ fn put_statement(
 }
 
 /// Writes a statement with its line, where there is one.
-fn put_found(
+pub(crate) fn put_found(
     out: &mut FigureWriter,
     lead: &[u8],
     found: Option<Statement>,

@@ -52,7 +52,7 @@ pub(crate) const FIELDS_LEFT: Explanation = Explanation {
 
 pub(crate) const NOT_FRESH: Explanation = Explanation {
     name: b"not fresh",
-    meaning: b"A construct method is called on an object that is constructed already, as what self or a field has always is, or on one whose class has another; on self a construct method may call that of its class's parent.",
+    meaning: b"A construct method is called on an object that is constructed already, as self and what a field owns always are, or on one whose class has another construct method; on self a construct method may call that of its class's parent.",
     mend: b"Construct each object once, right after new or newl, by the construct method that its class has.",
 };
 

@@ -5,10 +5,11 @@ use Rattle.aom_commands.specs.declared.status.ExitStatus.{ExitStatus}
 use Rattle.aom_commands.specs.declared.faults.Fault.{Fault}
 use Rattle.aom_commands.specs.declared.faults.Fault.TheVariants.{Memory}
 use Rattle.aom_commands.specs.Headline.{Says, Sent, Tells, Told}
+use Rattle.aom_commands.specs.Status.{status_of}
 use Rattle.aom_commands.specs.Untold.{Untold}
 use Rattle.aom_explaining.specs.Explaining.{AnsweredOrExplained, Explaining, ToldAndExplained}
 use Rattle.aom_explaining.specs.Explaining.Explaining.{behind, without}
-use Rattle.aom_explaining.specs.Lined.{AnsweredOrLined, Lining}
+use Rattle.aom_explaining.specs.Lined.{AnsweredOrLined, LinesFault, Lining}
 use Rattle.aom_explaining.specs.Lined.Lining.{without as unfaulted, told as faulted}
 use Rattle.aom_explaining.proofs.Saying.{said_or_told}
 
@@ -19,10 +20,15 @@ answered answers explains (Ok found) errors status untold told = without told.1 
 answered answers explains (Err fault) errors status untold more = behind fault more (untold more.line status more.told)
 
 -- so it is with a fault that is told in another line
-pub lined : (answers : Sent → ExitStatus → Type 0) (line : Fault → List ℕ) (found : Result ExitStatus Fault) (errors : Sent) (status : ExitStatus) →
-    Untold answers found → AnsweredOrLined line found errors status → Lining answers line errors status
-lined answers line (Ok found) errors status untold told = unfaulted told.1 (subst (answers errors) (sym told.0) (untold errors told.1))
-lined answers line (Err fault) errors status untold (is, told) = faulted fault (λ plain. untold plain status) is told
+pub lined : (answers : Sent → ExitStatus → Type 0) (file : List ℕ) (is : Fault → Option ℕ → Type 0) (found : Result ExitStatus Fault) (errors : Sent)
+    (status : ExitStatus) → Untold answers found → AnsweredOrLined file is found errors status → Lining answers file is errors status
+lined answers file is (Ok found) errors status untold told = unfaulted told.1 (subst (answers errors) (sym told.0) (untold errors told.1))
+lined answers file is (Err fault) errors status untold (so, told) = faulted fault (λ plain. untold plain status) so told
+
+-- a fault that was found and told so is answered so
+pub lined_fault : (file : List ℕ) (is : Fault → Option ℕ → Type 0) (found : Result ExitStatus Fault) (fault : Fault) (errors : Sent) (status : ExitStatus) →
+    found ≡ Err fault → status ≡ status_of fault → LinesFault file (is fault) fault errors → AnsweredOrLined file is found errors status
+lined_fault file is found fault errors status same so told = subst (λ f. AnsweredOrLined file is f errors status) (sym same) (so, told)
 
 -- the explanation begins where the line has ended
 pub told_first : {X E : Type 0} (made : Result X E) (items : X → List ℕ) (tells : Sent → Type 0) (explains : List ℕ → Type 0)

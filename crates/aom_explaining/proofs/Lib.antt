@@ -1,4 +1,5 @@
 mod Behind
+mod Searching
 mod Knowing
 mod Placing
 mod Saying

@@ -23,6 +23,8 @@ use Rattle.aom_explain.specs.declared.word.Unnumbered.TheVariants as words
 use Rattle.aom_commands.specs.Acceptable.{IsSpelled}
 use Rattle.aom_commands.specs.declared.faults.Fault.{Fault}
 use Rattle.aom_commands.specs.declared.faults.Fault.TheVariants.{Load, Asm, Link, Verify, Budget, Script, Boot, Native, File, Write, Memory}
+use Rattle.aom_explaining.specs.Linking.{AddsLink, AddsLinkSource}
+use Rattle.aom_explaining.specs.Wrong.{AddsWord, has_word}
 
 -- what is told of a refusal by its number
 abbrev pub refusal_texts : Refusal → Texts
@@ -100,6 +102,8 @@ AddsRefusal image refusal before after = (p : Image) → IsSpelled image p → K
 -- the place of a fault is written behind a text
 abbrev pub Adds : (image text : List ℕ) → Fault → List ℕ → List ℕ → Type 0
 Adds image text (Verify refusal) before after = AddsRefusal image refusal before after
+Adds image text (Link fault) before after = AddsLink image fault before after
+Adds image text (Asm fault) before after = AddsWord (has_word fault.kind) text fault (before ++ line_text text fault.line) after
 Adds image text fault before after = after ≡ before ++ place_text text fault
 
 -- a text explains a fault: what is told of it by its kind and number, and its place
@@ -121,6 +125,7 @@ beside_text text script fault = place_text script fault
 -- the place of a fault is written behind a text, by the text that the image is of, and of a refusal what is known there
 abbrev pub AddsBeside : (image text script : List ℕ) → Fault → List ℕ → List ℕ → Type 0
 AddsBeside image text script (Verify refusal) before after = AddsKnown image refusal (before ++ refusal_source text refusal) after
+AddsBeside image text script (Link fault) before after = AddsLinkSource image text fault before after
 AddsBeside image text script fault before after = after ≡ before ++ beside_text text script fault
 
 -- a text explains a fault by the text that the image is of

@@ -7,7 +7,7 @@ ghost use Rattle.aom_commands.specs.Prices.{Checks, ChecksBy};
 ghost use Rattle.aom_commands.specs.Translations.{Translates};
 ghost use Rattle.aom_commands.specs.declared.commands.Translation.TheVariants.{Asm};
 ghost use Rattle.aom_explaining.specs.Explained.{Explains, ExplainsByText};
-ghost use Rattle.aom_explaining.specs.Lined.{Lining, LinesText, fault_lined};
+ghost use Rattle.aom_explaining.specs.Lined.{IsLineOf, Lining, LinesText};
 ghost use Rattle.aom_explaining.specs.Explaining.{Beside, Explaining, TellsText};
 
 use crate::beside::ImageText;
@@ -95,13 +95,13 @@ pub fn check_lined<W: Sink, E: Sink>(
     out: &mut W,
     errors: &mut E,
 ) -> ExitStatus
-    ensures { Beside (λ status. Lining (ChecksBy (placed_names file.now text.now) prices image.now (record { before = W.out out.old; now = W.out out.new; failed = W.failed out.new })) (fault_lined file.now text.now) (record { before = E.out errors.old; now = E.out errors.new; failed = E.failed errors.new }) status) (LinesText file.now text.now) text.now image.now (record { before = W.out out.old; now = W.out out.new; failed = W.failed out.new }) (record { before = E.out errors.old; now = E.out errors.new; failed = E.failed errors.new }) result }
+    ensures { Beside (λ status. Lining (ChecksBy (placed_names file.now text.now) prices image.now (record { before = W.out out.old; now = W.out out.new; failed = W.failed out.new })) file.now (IsLineOf image.now text.now) (record { before = E.out errors.old; now = E.out errors.new; failed = E.failed errors.new }) status) (LinesText file.now text.now) text.now image.now (record { before = W.out out.old; now = W.out out.new; failed = W.failed out.new }) (record { before = E.out errors.old; now = E.out errors.new; failed = E.failed errors.new }) result }
 {
     match ImageText::beside(alloc, text, image) {
         Err(fault) => line_text(alloc, &fault, file, errors),
         Ok(text) => {
             let found = try_check_by_lines(alloc, image, &text, file, prices, out);
-            answer_lined(alloc, found, file, &text, errors)
+            answer_lined(alloc, found, image, file, &text, errors)
         }
     }
 }

@@ -9,7 +9,9 @@ ghost use Rattle.aom_commands.specs.Acceptable.{IsSpelled};
 ghost use Rattle.aom_explaining.specs.Explained.{Adds, AddsBeside, AddsKnown, AddsRefusal, Explains, ExplainsByText, refusal_source, refusal_texts, texts_of};
 
 use crate::beside::ImageText;
+use crate::linking::{put_link, put_link_beside};
 use crate::stopping::put_known_at;
+use crate::wrong::put_asm;
 use aom_budget::BudgetFault;
 use aom_codec::decode;
 use aom_commands::Fault;
@@ -83,10 +85,11 @@ fn put_place(
     ensures { OnOk result (Adds image.now text.now fault.now out.old out.new) }
 {
     match fault {
-        Fault::Asm(fault) => put_line(out, text, fault.line),
+        Fault::Asm(fault) => put_asm(alloc, out, text, *fault),
         Fault::Script(fault) => put_line(out, text, fault.line),
         Fault::Budget(fault) => put_compared(out, fault),
         Fault::Verify(refusal) => put_refusal(alloc, out, image, *refusal),
+        Fault::Link(fault) => put_link(alloc, out, image, *fault),
         _ => Ok(()),
     }
 }
@@ -157,6 +160,7 @@ fn put_beside(
         Fault::Script(fault) => put_line(out, script, fault.line),
         Fault::Budget(fault) => put_budget(out, text, fault),
         Fault::Verify(refusal) => put_refusal_source(alloc, out, image, text, *refusal),
+        Fault::Link(fault) => put_link_beside(alloc, out, image, text, *fault),
         _ => Ok(()),
     }
 }

@@ -6,7 +6,8 @@
 //! text too that the image is of, and explain by its lines; they promise `Beside`, and refuse a text that denotes no image or
 //! another one. `run_named`, `prices_named`, `dot_named` and `debug_named` (`specs/Debugged.antt`) take it to tell by its names
 //! (`specs/Naming.antt`), and so do the others that have a text; `explore_by_text` tells none. `check_lined` takes it too, and tells a fault
-//! in one line of its file, as compilers do (`specs/Lined.antt`). Nothing here knows why an image is refused, nor where a sink leads.
+//! in one line of its file, as compilers do (`specs/Lined.antt`). `tell_unread` tells which file cannot be read (`specs/Unread.antt`).
+//! Nothing here knows why an image is refused, nor where a sink leads.
 #![tactic(auto)]
 
 mod beside;
@@ -15,10 +16,13 @@ mod debugging;
 mod explaining;
 mod exploring;
 mod lining;
+mod linking;
 mod naming;
 mod stopping;
 mod telling;
 mod telling_by_text;
+mod unread;
+mod wrong;
 
 pub use commands::{
     asm_explained, check_by_text, check_explained, check_lined, run_by_text, run_explained,
@@ -29,3 +33,4 @@ pub use exploring::explore_by_text;
 pub use lining::tell_lined;
 pub use naming::{dot_named, prices_named, run_named};
 pub use telling::tell_explained;
+pub use unread::tell_unread;

@@ -1,18 +1,25 @@
 //! A fault in one line with its place, as compilers write it.
 ghost use Rattle.std.specs.Prelude.{ℕ, ◌≡◌, IfOk, List, None, codes};
+ghost use Rattle.aom_image.specs.Image.{Image as ImageRecord};
 ghost use Rattle.aom_explain.specs.Lines.{lined_text};
 ghost use Rattle.aom_explain.specs.Table.{word_texts};
 ghost use Rattle.aom_explain.specs.declared.word.Unnumbered.TheVariants.{Text};
+ghost use Rattle.aom_commands.specs.Acceptable.{IsSpelled};
 ghost use Rattle.aom_commands.specs.Headline.{Says, Tells};
 ghost use Rattle.aom_commands.specs.Status.{status_of};
 ghost use Rattle.aom_transcript.specs.Text.{ended};
-ghost use Rattle.aom_explaining.specs.Lined.{AnsweredOrLined, LinesText, TellsLined, fault_lined, fault_place, line_at, refusal_place};
+ghost use Rattle.aom_explaining.specs.Lined.{AnsweredOrLined, IsLineOf, LinesFault, LinesLink, LinesText, TellsLined, fault_place, line_at, refusal_place};
 
 use crate::beside::{ImageText, TextFault};
 use crate::explaining::entry_of;
+use aom_classes::{LinkFault, link_place};
+use aom_codec::decode;
 use aom_commands::{ExitStatus, Fault, fault_text, tell};
-use aom_explain::{Explanation, Unnumbered, budget_line, put_lined, refusal_line, word_entry};
+use aom_explain::{
+    Explanation, Unnumbered, budget_line, link_line, put_lined, refusal_line, word_entry,
+};
 use aom_figures::FigureWriter;
+use aom_image::Image;
 use aom_run::{Sink, write_text};
 use aom_verify::Refusal;
 use std::alloc::{AllocError, Global};
@@ -26,15 +33,45 @@ fn refusal_place(text: &ImageText, refusal: Refusal) -> Option<u32>
     }
 }
 
+fn link_place_line(image: &Image, text: &ImageText, fault: LinkFault) -> Option<u32>
+    ensures { LinesLink image.now text.now fault result }
+{
+    match link_place(image, fault) {
+        Some(place) => link_line(text.bytes(), place),
+        None => None,
+    }
+}
+
+/// The line of a text in which its image fails a link condition.
+fn link_fault_line(
+    alloc: Global,
+    image: &[u8],
+    text: &ImageText,
+    fault: LinkFault,
+) -> Result<Option<u32>, AllocError>
+    ensures { IfOk result (λ line. (p : ImageRecord) → IsSpelled image.now p → LinesLink p text.now fault line) }
+{
+    match decode(alloc, image) {
+        Ok(image) => Ok(link_place_line(&image, text, fault)),
+        Err(_) => Err(AllocError),
+    }
+}
+
 /// The line of a text in which a fault of it or of its image is.
-fn fault_place(text: &ImageText, fault: &Fault) -> Option<u32>
-    ensures { result ≡ fault_place text.now fault.now }
+fn line_of_fault(
+    alloc: Global,
+    image: &[u8],
+    text: &ImageText,
+    fault: &Fault,
+) -> Result<Option<u32>, AllocError>
+    ensures { IfOk result (IsLineOf image.now text.now fault.now) }
 {
     match fault {
-        Fault::Asm(fault) => Some(fault.line),
-        Fault::Verify(refusal) => refusal_place(text, *refusal),
-        Fault::Budget(fault) => budget_line(text.bytes(), fault),
-        _ => None,
+        Fault::Asm(fault) => Ok(Some(fault.line)),
+        Fault::Link(fault) => link_fault_line(alloc, image, text, *fault),
+        Fault::Verify(refusal) => Ok(refusal_place(text, *refusal)),
+        Fault::Budget(fault) => Ok(budget_line(text.bytes(), fault)),
+        _ => Ok(None),
     }
 }
 
@@ -74,22 +111,39 @@ pub fn tell_lined<E: Sink>(
     }
 }
 
-/// Answers the status that a call has come to, or tells its fault in one line of the text that the image is of.
-pub fn answer_lined<E: Sink>(
+/// Tells a fault in one line of the text that the image is of, and answers its status. Where there is no memory to find the line, the
+/// fault's own is told.
+fn tell_placed<E: Sink>(
     alloc: Global,
-    found: Result<ExitStatus, Fault>,
+    fault: &Fault,
+    image: &[u8],
     file: &[u8],
     text: &ImageText,
     errors: &mut E,
 ) -> ExitStatus
-    ensures { AnsweredOrLined (fault_lined file.now text.now) found (record { before = E.out errors.old; now = E.out errors.new; failed = E.failed errors.new }) result }
+    ensures status { result ≡ status_of fault.now }
+    ensures told { LinesFault file.now (IsLineOf image.now text.now fault.now) fault.now (record { before = E.out errors.old; now = E.out errors.new; failed = E.failed errors.new }) }
+{
+    match line_of_fault(alloc, image, text, fault) {
+        Ok(line) => tell_lined(alloc, file, line, fault, errors),
+        Err(_) => tell(fault, errors),
+    }
+}
+
+/// Answers the status that a call has come to, or tells its fault in one line of the text that the image is of.
+pub fn answer_lined<E: Sink>(
+    alloc: Global,
+    found: Result<ExitStatus, Fault>,
+    image: &[u8],
+    file: &[u8],
+    text: &ImageText,
+    errors: &mut E,
+) -> ExitStatus
+    ensures { AnsweredOrLined file.now (IsLineOf image.now text.now) found (record { before = E.out errors.old; now = E.out errors.new; failed = E.failed errors.new }) result }
 {
     match found {
         Ok(status) => status,
-        Err(fault) => {
-            let place = fault_place(text, &fault);
-            tell_lined(alloc, file, place, &fault, errors)
-        }
+        Err(fault) => tell_placed(alloc, &fault, image, file, text, errors),
     }
 }
 

@@ -8,8 +8,8 @@ mod items;
 mod method;
 
 pub use aom_instructions::{
-    ClassNumber, EntryDepth, FieldIndex, Instr, Kinds, Large, LargeKind, Limits, LoopDepth,
-    MethodNumber, Mnemonic, NativeNumber, OperandOrder, Operands, Place, Register, Row, Small,
+    ClassNumber, EntryDepth, FieldIndex, Instr, InstrPlace, Kinds, Large, LargeKind, Limits,
+    LoopDepth, MethodNumber, Mnemonic, NativeNumber, OperandOrder, Operands, Register, Row, Small,
     SmallKind, Target, Version, WordIndex, instructions_and_rows,
 };
 pub use class::{ClassDecl, ClassKind, Provider};

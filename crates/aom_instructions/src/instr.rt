@@ -1,6 +1,6 @@
 //! The instructions of image version 1.
 use crate::{
-    ClassNumber, EntryDepth, FieldIndex, LoopDepth, MethodNumber, Place, Register, WordIndex,
+    ClassNumber, EntryDepth, FieldIndex, InstrPlace, LoopDepth, MethodNumber, Register, WordIndex,
 };
 
 /// What a call is made on.
@@ -25,16 +25,16 @@ pub enum Instr {
     And(Register, Register, Register),
     Or(Register, Register, Register),
     Xor(Register, Register, Register),
-    Jump(Place),
-    JumpEqual(Register, Register, Place),
-    JumpLess(Register, Register, Place),
-    JumpNull(Register, Place),
-    JumpEmpty(FieldIndex, Place),
-    JumpActive(Place),
-    JumpAdded(Place),
+    Jump(InstrPlace),
+    JumpEqual(Register, Register, InstrPlace),
+    JumpLess(Register, Register, InstrPlace),
+    JumpNull(Register, InstrPlace),
+    JumpEmpty(FieldIndex, InstrPlace),
+    JumpActive(InstrPlace),
+    JumpAdded(InstrPlace),
     /// So many rounds, from 1.
     Loop(LoopDepth, u16),
-    Next(LoopDepth, Place),
+    Next(LoopDepth, InstrPlace),
     Print(Register),
     Load(Register, WordIndex),
     Store(WordIndex, Register),

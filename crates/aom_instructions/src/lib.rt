@@ -22,7 +22,7 @@ pub use limits::{Limits, fits};
 pub use mnemonic::{Mnemonic, Row};
 pub use operand::{Large, Operands, Small};
 pub use operands::{
-    ClassNumber, EntryDepth, FieldIndex, LoopDepth, MethodNumber, NativeNumber, Place, Register,
-    WordIndex,
+    ClassNumber, EntryDepth, FieldIndex, InstrPlace, LoopDepth, MethodNumber, NativeNumber,
+    Register, WordIndex,
 };
 pub use version::Version;

@@ -4,8 +4,8 @@ ghost use Rattle.aom_instructions.specs.Operands.{SmallFits, LargeFits, Operands
 ghost use Rattle.aom_instructions.specs.Fits.{InstrFits};
 
 use crate::{
-    ClassNumber, Instr, Kinds, Large, LargeKind, MethodNumber, Operands, Place, Small, SmallKind,
-    Target, Version,
+    ClassNumber, Instr, InstrPlace, Kinds, Large, LargeKind, MethodNumber, Operands, Small,
+    SmallKind, Target, Version,
 };
 
 /// The version of the image, and its counts of classes, of methods and of the method's own instructions.
@@ -30,7 +30,7 @@ impl Limits {
         (method.number() as usize) < self.methods
     }
 
-    pub fn has_place(self, place: Place) -> bool
+    pub fn has_place(self, place: InstrPlace) -> bool
         ensures { IsTrue result ↔ (place < self.places) }
     {
         (place.number() as usize) < self.places

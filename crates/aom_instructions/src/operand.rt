@@ -2,7 +2,9 @@
 ghost use Rattle.std.specs.Prelude.{◌≡◌};
 ghost use Rattle.aom_instructions.specs.Parts.{register, word, field, depth, target, number, rounds, place, class, method, operands_of};
 
-use crate::{ClassNumber, FieldIndex, LoopDepth, MethodNumber, Place, Register, Target, WordIndex};
+use crate::{
+    ClassNumber, FieldIndex, InstrPlace, LoopDepth, MethodNumber, Register, Target, WordIndex,
+};
 
 /// A small operand.
 #[derive(Clone, Copy)]
@@ -21,7 +23,7 @@ pub enum Large {
     Nothing,
     Number(i32),
     Rounds(u16),
-    Place(Place),
+    Place(InstrPlace),
     Class(ClassNumber),
     Method(MethodNumber),
 }
@@ -140,12 +142,12 @@ impl Large {
         }
     }
 
-    pub(crate) fn place(self) -> Place
+    pub(crate) fn place(self) -> InstrPlace
         ensures { result ≡ place self }
     {
         match self {
             Large::Place(place) => place,
-            _ => Place::FIRST,
+            _ => InstrPlace::FIRST,
         }
     }
 

@@ -330,11 +330,11 @@ impl MethodNumber {
 
 /// The place of an instruction in its method, below 1,024.
 #[derive(Clone, Copy)]
-pub struct Place {
+pub struct InstrPlace {
     number: u16,
 }
 
-impl Model for Place {
+impl Model for InstrPlace {
     ghost use Rattle.std.specs.Prelude.{ℕ, ◌<◌};
 
     ghost Value = { ℕ };
@@ -346,16 +346,16 @@ impl Model for Place {
     ghost inverse = { λ n. record { number = n } };
 }
 
-impl Place {
-    pub const FIRST: Place = Place { number: 0 };
+impl InstrPlace {
+    pub const FIRST: InstrPlace = InstrPlace { number: 0 };
 
     /// The operand of that number, if it is in range.
-    pub fn new(number: u16) -> Option<Place>
+    pub fn new(number: u16) -> Option<InstrPlace>
         ensures variant { IsSome result ↔ (number < 1024) }
         ensures value { IfSome result (λ n. n ≡ number) }
     {
         if number < 1024 {
-            Some(Place { number })
+            Some(InstrPlace { number })
         } else {
             None
         }

@@ -7,7 +7,8 @@ pub use aom_commands::{
 };
 pub use aom_debug::debug_bytes;
 pub use aom_explaining::{
-    asm_explained, check_by_text, check_explained, debug_named, dot_named, entry_of, explanation,
-    explore_by_text, prices_named, run_by_text, run_explained, run_named, tell_explained,
+    asm_explained, check_by_text, check_explained, check_lined, debug_named, dot_named, entry_of,
+    explanation, explore_by_text, prices_named, run_by_text, run_explained, run_named,
+    tell_explained, tell_lined, tell_unread,
 };
 pub use aom_injection::{Part, Tries};

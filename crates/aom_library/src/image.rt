@@ -3,6 +3,6 @@
 pub use aom_codec::{LoadFault, decode, encode};
 pub use aom_image::{
     Argument, ClassDecl, ClassKind, ClassNumber, EntryDepth, FieldIndex, Gives, Header, Image,
-    Instr, Items, LoopDepth, Method, MethodFlags, MethodNumber, Mnemonic, NativeNumber, Place,
+    Instr, InstrPlace, Items, LoopDepth, Method, MethodFlags, MethodNumber, Mnemonic, NativeNumber,
     Provider, Register, Role, States, Target, Thing, Version, WordIndex, form_ok, spelled_len,
 };

@@ -3,10 +3,10 @@ ghost use Rattle.std.specs.Prelude.{◌≡◌, ◌<◌, ◌||◌, ℕ, false, sl
 ghost use Rattle.aom_syntax.specs.Classes.{is_at};
 ghost use Rattle.aom_listing.specs.Jumps.{jump_of, Tells};
 
-use aom_image::{Instr, Large, Operands, Place};
+use aom_image::{Instr, InstrPlace, Large, Operands};
 
 /// Where an instruction jumps to.
-fn jump_of(instr: Instr) -> Option<Place>
+fn jump_of(instr: Instr) -> Option<InstrPlace>
     ensures { result ≡ jump_of instr }
 {
     let Operands { d, .. } = instr.operands();

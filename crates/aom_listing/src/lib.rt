@@ -18,4 +18,4 @@ mod writer;
 
 pub use disassembling::disassemble;
 pub use laws::listings_split;
-pub use single::{heading_line, line_at};
+pub use single::{class_line, heading_line, line_at};

@@ -1,13 +1,23 @@
 //! Single lines of a listing, for those who tell of one place.
 ghost use Rattle.std.specs.Prelude.{◌≡◌, ◌≤◌, length, IfOk};
+ghost use Rattle.aom_listing.specs.Classes.{class_words};
 ghost use Rattle.aom_listing.specs.Methods.{heading_words};
 ghost use Rattle.aom_listing.specs.Single.{line_at};
 ghost use Rattle.aom_listing.specs.Text.{line_of};
 
 use crate::jumps::targets;
 use crate::writer::ListingWriter;
-use aom_image::{Instr, Method};
+use aom_image::{ClassDecl, Instr, Method};
 use std::alloc::{AllocError, Global};
+
+/// The line that declares a class, at its place among the classes.
+pub fn class_line(alloc: Global, place: u32, class: &ClassDecl) -> Result<Vec<u8>, AllocError>
+    ensures { IfOk result (λ v. v.items ≡ line_of (class_words place class.now)) }
+{
+    let mut writer = ListingWriter::new(alloc);
+    writer.class(place, class)?;
+    Ok(writer.into_text())
+}
 
 /// The line that declares a method, at its place among the methods.
 pub fn heading_line(alloc: Global, place: u32, method: &Method) -> Result<Vec<u8>, AllocError>

@@ -5,7 +5,7 @@ use Rattle.std.specs.Prelude.{◌⊎◌}
 use Rattle.aom_image.specs.Image.{Image}
 use Rattle.aom_machine.proofs.SafetyLemmas.{IsEnd, Takes, course_announced, move_rest, steps_are_moves}
 use Rattle.aom_image.specs.declared.method.Role.TheVariants.{Error as Answers}
-use Rattle.aom_semantics.specs.Enlisted.{part_of}
+use Rattle.aom_semantics.specs.Requests.{part_of}
 use Rattle.aom_semantics.specs.Moves.{answered, asking, dispatch_ends, handled, main_ends, object_ends, stage_ends, step}
 use Rattle.aom_semantics.specs.Places.{Elsewhere, Object, Root, held}
 use Rattle.aom_semantics.specs.State.{Answered, Asks, Choice, Dispatch, Goes, Main_left, Object_left, Of_main, Of_object, Of_root, Of_server, Seat, Stage, State}

@@ -30,7 +30,7 @@ use Rattle.aom_roles.specs.Shapes.{kind_of}
 use Rattle.aom_machine.proofs.SemanticsLemmas.{held_without, named_name, tidy_without}
 use Rattle.aom_machine.proofs.SafetyLemmas.{service_unnamed, waiting_message}
 use Rattle.aom_semantics.specs.Clients.{count_messages, most_of}
-use Rattle.aom_semantics.specs.Enlisted.{thing_kind}
+use Rattle.aom_semantics.specs.Requests.{thing_kind}
 use Rattle.aom_safety.specs.Kept.{ClientsFit, QueueFits}
 use Rattle.aom_semantics.specs.Lines.{ended_line}
 use Rattle.aom_semantics.specs.Places.{Asked, Cell, Close_of, Connect_of, Elsewhere, Message_of, Object, Queued as Waits_at, Tidy, held, service_of, without}

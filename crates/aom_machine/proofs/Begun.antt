@@ -29,7 +29,7 @@ use Rattle.aom_semantics.specs.Tokens.{TokensApart}
 use Rattle.aom_safety.specs.Claims.{declared}
 use Rattle.aom_semantics.specs.Clients.{most_of}
 use Rattle.aom_semantics.specs.Destruction.{begun, begun_by}
-use Rattle.aom_semantics.specs.Enlisted.{thing_kind}
+use Rattle.aom_semantics.specs.Requests.{thing_kind}
 use Rattle.aom_safety.specs.Kept.{ClientsFit, IsKept, is_close_of, is_connect_of}
 use Rattle.aom_safety.specs.Laws.{IsWired}
 use Rattle.aom_semantics.specs.Lines.{serve_of}

@@ -29,7 +29,7 @@ use Rattle.aom_cells.specs.Store.{word_at as message_word}
 use Rattle.aom_machine.proofs.SemanticsLemmas.{held_lives, held_moved, named_moved, requested_moved}
 use Rattle.aom_machine.proofs.SafetyLemmas.{at_rest, fits_unowning, held_served, message_plain, service_moved, service_there, session_object}
 use Rattle.aom_semantics.specs.Destruction as checked
-use Rattle.aom_semantics.specs.Enlisted.{part_of}
+use Rattle.aom_semantics.specs.Requests.{part_of}
 use Rattle.aom_semantics.specs.Places.{Cell, Elsewhere, Entry as Entry_at, Field, Going, In_service, Object, Place, Queued, Register}
 use Rattle.aom_semantics.specs.Places.{Service, Session, changed, held, moved, named, service_of, same_place, word_field}
 use Rattle.aom_semantics.specs.Servers.{is_server, reserved, taken_first, has_more}

@@ -17,7 +17,7 @@ use Rattle.aom_determinism.specs.Owed.{serves}
 use Rattle.aom_cells.specs.Sessions.{Sets, Standing, is_open}
 use Rattle.aom_roles.specs.Tables.{at}
 use Rattle.aom_machine.proofs.SafetyLemmas.{bereaved_alike, bereaved_well, comes_bereaved, count_bereaved, fit_same, same_bereaved, session_unnamed}
-use Rattle.aom_semantics.specs.Enlisted.{completed_with, is_unanswered, on_request}
+use Rattle.aom_semantics.specs.Requests.{completed_with, is_unanswered, on_request}
 use Rattle.aom_semantics.specs.Natives.{all_bereaved, bereaved, is_owed, terminated, terminated_request}
 use Rattle.aom_semantics.specs.Places.{Cell, Request, in_session, named, requested, word_field}
 use Rattle.aom_semantics.specs.State.{Counters, State}

@@ -20,6 +20,7 @@ mod RunsAfter
 mod Unwanted
 mod Wanting
 mod Many
+mod AtOnce
 mod Onward
 mod Agreeing
 mod Seen

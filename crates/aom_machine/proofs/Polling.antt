@@ -12,7 +12,7 @@ use Rattle.aom_active.specs.Agrees.{Active, queued, timer_in}
 use Rattle.aom_active.specs.Meanings.{Makes}
 use Rattle.aom_determinism.specs.Owed.{owes, serves, serves_object}
 use Rattle.aom_machine.proofs.SafetyLemmas.{comes_asked, completed, fit_same, on_none, recorded_so, same_requested}
-use Rattle.aom_semantics.specs.Enlisted.{completed_with, on_request, recorded}
+use Rattle.aom_semantics.specs.Requests.{completed_with, on_request, recorded}
 use Rattle.aom_semantics.specs.Natives.{is_outstanding_at, is_owed, is_served_by}
 use Rattle.aom_semantics.specs.Places.{Object, Request, named, requested}
 use Rattle.aom_semantics.specs.State.{CompletedTwice, Goes, IsStuck, Counters, State, FitsWord}

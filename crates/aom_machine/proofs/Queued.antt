@@ -25,7 +25,7 @@ use Rattle.aom_cells.specs.Store.{IsKept}
 use Rattle.aom_machine.proofs.SemanticsLemmas.{held_lives}
 use Rattle.aom_machine.proofs.SafetyLemmas.{at_rest, session_object}
 use Rattle.aom_safety.specs.Claims.{items_of}
-use Rattle.aom_semantics.specs.Enlisted.{part_of}
+use Rattle.aom_semantics.specs.Requests.{part_of}
 use Rattle.aom_safety.specs.Kept.{EntryFits, QueueFits, asked_again}
 use Rattle.aom_semantics.specs.Places.{Elsewhere, Object, Session, held, named, service_of}
 use Rattle.aom_semantics.specs.Servers.{is_server}

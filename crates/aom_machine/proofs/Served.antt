@@ -15,7 +15,7 @@ use Rattle.aom_scheduler.specs.Requests.{request_at}
 use Rattle.aom_active.specs.Agrees.{timer_in}
 use Rattle.aom_machine.proofs.DeterminismLemmas.{native_served}
 use Rattle.aom_determinism.specs.Owed.{owes, serves}
-use Rattle.aom_semantics.specs.Enlisted.{is_unanswered, thing_kind}
+use Rattle.aom_semantics.specs.Requests.{is_unanswered, thing_kind}
 use Rattle.aom_semantics.specs.Natives.{is_owed, is_served_by, native_of}
 use Rattle.aom_semantics.specs.Places.{Cell, Object, Request, Timer, in_session, named, requested}
 use Rattle.aom_safety.specs.Requests.{Known, Suits, states_claim}

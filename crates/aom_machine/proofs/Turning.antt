@@ -35,7 +35,7 @@ use Rattle.aom_scheduler.specs.Requests.{is_server as is_served, request_at}
 use Rattle.aom_machine.proofs.SafetyLemmas.{Alike, apart_still, at_rest, comes_asked, completed, fit_same, on_none, picked, picked_well, rerequested_alike}
 use Rattle.aom_machine.proofs.SafetyLemmas.{same_requested, signals_are_ready}
 use Rattle.aom_safety.specs.Claims.{items_of}
-use Rattle.aom_semantics.specs.Enlisted.{on_request, part_of, status_of, taken_up, timed_out}
+use Rattle.aom_semantics.specs.Requests.{on_request, part_of, status_of, taken_up, timed_out}
 use Rattle.aom_semantics.specs.Tokens.{awaited}
 use Rattle.aom_semantics.specs.Servers.{has_more, is_server}
 use Rattle.aom_semantics.specs.Places.{Cell, Elsewhere, Object, Place, Register, Request, Root, Timer, held, named, requested, service_of}

@@ -11,7 +11,7 @@ use Rattle.aom_image.specs.declared.method.Thing.TheVariants.{Object as An_objec
 use Rattle.aom_machine.proofs.ClassesLemmas.{all_there}
 use Rattle.aom_roles.specs.Classes.{kind_in}
 use Rattle.aom_roles.specs.Shapes.{kind_of}
-use Rattle.aom_semantics.specs.Enlisted.{thing_kind}
+use Rattle.aom_semantics.specs.Requests.{thing_kind}
 use Rattle.aom_semantics.specs.Natives.{native_of}
 use Rattle.aom_semantics.specs.Places.{Going, Object, held}
 use Rattle.aom_semantics.specs.State.{Closing, Destroy, Dispatched, Frame, Home, Run, State, Task, Trapped, Unwind}

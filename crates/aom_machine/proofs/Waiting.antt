@@ -53,7 +53,7 @@ use Rattle.aom_machine.proofs.MachineInstructionsLemmas.{at_step, no_word, step_
 use Rattle.std.specs.Ordering.{int_eq}
 use Rattle.aom_image.specs.declared.method.Role.TheVariants.{Error as Answers}
 use Rattle.aom_roles.specs.Tests.{AllTrue}
-use Rattle.aom_semantics.specs.Enlisted.{begun_cells, ended_cells, on_request, own_request, part_of, rerequested}
+use Rattle.aom_semantics.specs.Requests.{begun_cells, ended_cells, on_request, own_request, part_of, rerequested}
 use Rattle.aom_semantics.specs.Tokens.{next_token, promised, redeemed_by, token_of}
 
 -- ---- kinds

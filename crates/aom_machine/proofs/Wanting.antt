@@ -14,7 +14,7 @@ use Rattle.aom_roles.specs.Things.{is_object}
 use Rattle.aom_roles.specs.Classes.{kind_in}
 use Rattle.aom_roles.specs.Shapes.{kind_of}
 use Rattle.aom_cells.specs.Sessions.{is_killed, is_open}
-use Rattle.aom_semantics.specs.Enlisted.{thing_kind}
+use Rattle.aom_semantics.specs.Requests.{thing_kind}
 use Rattle.aom_semantics.specs.Natives.{is_dead, is_owed, native_of}
 use Rattle.aom_semantics.specs.Places.{Going, Object, held as owned_at, in_session, named, requested}
 use Rattle.aom_semantics.specs.State.{AtRoot, Destroy, Home, Inside, State, Static, Task, word}

@@ -5,7 +5,7 @@ use Rattle.aom_image.specs.declared.method.Thing.TheVariants.{Object as An_objec
 use Rattle.aom_active.specs.Agrees.{Active, StandsFor as Asks_for, queued}
 use Rattle.aom_active.specs.Meanings.{Makes}
 use Rattle.aom_cells.specs.Sessions.{is_open}
-use Rattle.aom_semantics.specs.Enlisted.{completed_with, recorded}
+use Rattle.aom_semantics.specs.Requests.{completed_with, recorded}
 use Rattle.aom_semantics.specs.Natives.{all_bereaved, is_served_by}
 use Rattle.aom_semantics.specs.Places.{in_session, requested}
 use Rattle.aom_semantics.specs.State.{State}

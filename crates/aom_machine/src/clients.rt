@@ -154,16 +154,16 @@ pub fn obey(
     client: u8,
     command: ClientCommand,
     linked: &Linked,
-    turn: &mut LineBuffer,
+    lines: &mut LineBuffer,
 ) -> bool
     requires stands { Stands (record { image = linked.now; parts = parts.old }) }
     requires between { progress_by parts.old.rest.ended parts.old.stack.tasks ≡ Turned }
     requires few { parts.old.rest.delivered + 1 < 2 ^ 64 }
     requires client { client < 64 }
     requires ranged { IsInRange command }
-    requires room { length turn.old.lines < turn.old.room }
-    ensures obeyed { (s : StateRecord) → StandsFor (record { image = linked.now; parts = parts.old }) s → Obeyed (record { image = linked.now; parts = parts.old }) s client command turn.old turn.new (record { image = linked.now; parts = parts.new }) }
-    ensures quiet { result ≡ false → turn.new ≡ turn.old }
+    requires room { length lines.old.lines < lines.old.room }
+    ensures obeyed { (s : StateRecord) → StandsFor (record { image = linked.now; parts = parts.old }) s → Obeyed (record { image = linked.now; parts = parts.old }) s client command lines.old lines.new (record { image = linked.now; parts = parts.new }) }
+    ensures quiet { result ≡ false → lines.new ≡ lines.old }
     ensures rest { parts.new.rest ≡ record parts.old.rest { delivered = suc parts.old.rest.delivered } }
     ensures natives { parts.new.sessions ≡ parts.old.sessions }
     ensures timers { parts.new.active.pending.timers ≡ parts.old.active.pending.timers }
@@ -182,7 +182,7 @@ pub fn obey(
     match answer {
         Ok(()) => false,
         Err(refusal) => {
-            turn.push(Line::Refuse(client, refusal.code()));
+            lines.push(Line::Refuse(client, refusal.code()));
             true
         }
     }

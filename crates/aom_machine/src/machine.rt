@@ -4,7 +4,7 @@
 ghost use Rattle.std.specs.Prelude.{◌≡◌, ◌<◌, ◌≤◌, ◌+◌, ◌++◌, ◌∷◌, ◌^◌, ◌↔◌, ◌⊎◌, [], IfOk, IfSome, IsTrue, Option, false, length, option_map, suc, true};
 ghost use Rattle.aom_cells.specs.Heap.{count};
 ghost use Rattle.aom_semantics.specs.World.{AnswersWell, Completion, Cuts, Hears, Kills, Passes, Polls, Waits, boot_state, due_of, first_due, ready_count, signal_count};
-ghost use Rattle.aom_machine_state.specs.LineBuffer.{LineBuffer as TurnRecord, step_lines};
+ghost use Rattle.aom_machine_state.specs.LineBuffer.{LineBuffer as LineBufferRecord, step_lines};
 ghost use Rattle.aom_determinism.specs.Owed.{owes};
 ghost use Rattle.aom_machine.specs.Agreement.{AgreesInAll};
 ghost use Rattle.aom_machine.specs.Clients.{IsInRange, Obeyed};
@@ -64,29 +64,29 @@ impl<'a> Machine<'a> {
 
     /// One instruction, or the going of one cell, with what counts as no step after it: a leave's next move, and the end of
     /// the dispatch. The first step writes main's line before all else. Where nothing is at hand, nothing changes.
-    pub fn step(&mut self, turn: &mut LineBuffer) -> Progress
-        requires room { length turn.old.lines + step_lines self.old.image.header.messages < turn.old.room }
+    pub fn step(&mut self, lines: &mut LineBuffer) -> Progress
+        requires room { length lines.old.lines + step_lines self.old.image.header.messages < lines.old.room }
         ensures image { self.new.image ≡ self.old.image }
-        ensures steps { Stepped self.old result turn.old turn.new self.new }
-        ensures idle { StaysIdle self.old turn.old turn.new self.new }
+        ensures steps { Stepped self.old result lines.old lines.new self.new }
+        ensures idle { StaysIdle self.old lines.old lines.new self.new }
         ensures agrees { AgreesInAll self.new }
         ensures falls { result ≡ Running → rank self.new < rank self.old }
     {
-        moves::step(&mut self.parts, self.accepted.linked(), turn, 1)
+        moves::step(&mut self.parts, self.accepted.linked(), lines, 1)
     }
 
     /// Steps until the buffer has many lines, nothing is at hand, or the next step asks something of a native. The first step alone hears one.
-    pub fn step_on(&mut self, turn: &mut LineBuffer) -> Progress
-        requires room { length turn.old.lines + step_lines self.old.image.header.messages < turn.old.room }
-        requires many { 64 + step_lines self.old.image.header.messages ≤ turn.old.room }
+    pub fn step_on(&mut self, lines: &mut LineBuffer) -> Progress
+        requires room { length lines.old.lines + step_lines self.old.image.header.messages < lines.old.room }
+        requires many { 64 + step_lines self.old.image.header.messages ≤ lines.old.room }
         ensures image { self.new.image ≡ self.old.image }
-        ensures steps { SteppedOn self.old result turn.old turn.new self.new }
-        ensures idle { StaysIdle self.old turn.old turn.new self.new }
+        ensures steps { SteppedOn self.old result lines.old lines.new self.new }
+        ensures idle { StaysIdle self.old lines.old lines.new self.new }
         ensures agrees { AgreesInAll self.new }
-        ensures told { result ≡ Running → (length turn.old.lines < length turn.new.lines) ⊎ Wants self.new }
+        ensures told { result ≡ Running → (length lines.old.lines < length lines.new.lines) ⊎ Wants self.new }
         ensures falls { result ≡ Running → rank self.new < rank self.old }
     {
-        moves::step_on(&mut self.parts, self.accepted.linked(), turn)
+        moves::step_on(&mut self.parts, self.accepted.linked(), lines)
     }
 
     /// What the next step asks of a native, if it asks anything. The call is made before the step, which hears its answer.
@@ -118,14 +118,14 @@ impl<'a> Machine<'a> {
 
     /// Between dispatches: the ready object that goes before all others is dispatched, with its line (CActiveScheduler::Start's
     /// RunL), and a server for the first of its queue. Answers false where nothing signals.
-    pub fn pick(&mut self, turn: &mut LineBuffer) -> bool
+    pub fn pick(&mut self, lines: &mut LineBuffer) -> bool
         requires between { progress self.old ≡ Turned }
-        requires room { length turn.old.lines < turn.old.room }
+        requires room { length lines.old.lines < lines.old.room }
         ensures image { self.new.image ≡ self.old.image }
-        ensures picked { Picked self.old result turn.old turn.new self.new }
+        ensures picked { Picked self.old result lines.old lines.new self.new }
         ensures agrees { AgreesInAll self.new }
     {
-        turns::pick(&mut self.parts, self.accepted.linked(), turn)
+        turns::pick(&mut self.parts, self.accepted.linked(), lines)
     }
 
     /// When the timer that is due first is due.
@@ -173,32 +173,32 @@ impl<'a> Machine<'a> {
 
     /// Between dispatches an event kills a native, with its line: what is outstanding there is completed with -15
     /// (KErrServerTerminated), and sessions with it are over.
-    pub fn kill(&mut self, native: u8, turn: &mut LineBuffer)
+    pub fn kill(&mut self, native: u8, lines: &mut LineBuffer)
         requires between { progress self.old ≡ Turned }
         requires few { self.old.parts.rest.delivered + 1 < 2 ^ 64 }
         requires lives { is_killed self.old.parts.sessions native ≡ false }
-        requires room { length turn.old.lines < turn.old.room }
+        requires room { length lines.old.lines < lines.old.room }
         ensures image { self.new.image ≡ self.old.image }
-        ensures killed { (s : State) → StandsFor self.old s → Takes self.old s (Kills native) turn.old turn.new self.new }
+        ensures killed { (s : State) → StandsFor self.old s → Takes self.old s (Kills native) lines.old lines.new self.new }
         ensures rest { self.new.parts.rest ≡ record self.old.parts.rest { delivered = suc self.old.parts.rest.delivered } }
         ensures ended { self.new.parts.sessions.killed ≡ self.old.parts.sessions.killed ++ native ∷ [] }
         ensures timers { timers self.new ≡ timers self.old }
         ensures agrees { AgreesInAll self.new }
     {
-        natives::kill(&mut self.parts, native, self.accepted.linked(), turn);
+        natives::kill(&mut self.parts, native, self.accepted.linked(), lines);
     }
 
     /// Between dispatches the client of that number does what it is told, with a line where that is refused. Answers whether it was.
-    pub fn obey(&mut self, client: u8, command: ClientCommand, turn: &mut LineBuffer) -> bool
+    pub fn obey(&mut self, client: u8, command: ClientCommand, lines: &mut LineBuffer) -> bool
         requires between { progress self.old ≡ Turned }
         requires few { self.old.parts.rest.delivered + 1 < 2 ^ 64 }
         requires client { client < 64 }
         requires ranged { IsInRange command }
-        requires room { length turn.old.lines < turn.old.room }
+        requires room { length lines.old.lines < lines.old.room }
         ensures image { self.new.image ≡ self.old.image }
-        ensures obeyed { (s : State) → StandsFor self.old s → Obeyed self.old s client command turn.old turn.new self.new }
-        ensures told { length turn.new.lines ≤ length turn.old.lines + 1 }
-        ensures quiet { result ≡ false → turn.new ≡ turn.old }
+        ensures obeyed { (s : State) → StandsFor self.old s → Obeyed self.old s client command lines.old lines.new self.new }
+        ensures told { length lines.new.lines ≤ length lines.old.lines + 1 }
+        ensures quiet { result ≡ false → lines.new ≡ lines.old }
         ensures rest { self.new.parts.rest ≡ record self.old.parts.rest { delivered = suc self.old.parts.rest.delivered } }
         ensures sessions { self.new.parts.sessions ≡ self.old.parts.sessions }
         ensures none_due { ((s : State) → StandsFor self.old s → NoneDue s) → (s : State) → StandsFor self.new s → NoneDue s }
@@ -210,7 +210,7 @@ impl<'a> Machine<'a> {
             client,
             command,
             self.accepted.linked(),
-            turn,
+            lines,
         )
     }
 
@@ -220,7 +220,7 @@ impl<'a> Machine<'a> {
         requires few { native + 1 < 2 ^ 64 }
         requires owed { IfSome completion (λ x. (s : State) × StandsFor self.old s × (owes self.old.image s.cells native x.0 ≡ true)) }
         ensures image { self.new.image ≡ self.old.image }
-        ensures polled { (s : State) → StandsFor self.old s → (answer : Option Completion) × Answers s.cells completion answer × AnswersWell self.old.image s (Polls native answer) × ((told : TurnRecord) → Takes self.old s (Polls native answer) told told self.new) }
+        ensures polled { (s : State) → StandsFor self.old s → (answer : Option Completion) × Answers s.cells completion answer × AnswersWell self.old.image s (Polls native answer) × ((told : LineBufferRecord) → Takes self.old s (Polls native answer) told told self.new) }
         ensures rest { self.new.parts.rest ≡ record self.old.parts.rest { polled = suc native } }
         ensures sessions { self.new.parts.sessions ≡ self.old.parts.sessions }
         ensures none_due { ((s : State) → StandsFor self.old s → NoneDue s) → (s : State) → StandsFor self.new s → NoneDue s }

@@ -9,7 +9,7 @@ ghost use Rattle.aom_machine.specs.Turns.{Takes};
 ghost use Rattle.aom_machine_state.specs.declared.progress.Progress.TheVariants.{Turned};
 ghost use Rattle.aom_scheduler.specs.Requests.{is_pending, request_at};
 ghost use Rattle.aom_cells.specs.Sessions.{Sets, is_killed, is_open};
-ghost use Rattle.aom_semantics.specs.Enlisted.{is_unanswered};
+ghost use Rattle.aom_semantics.specs.Requests.{is_unanswered};
 ghost use Rattle.aom_semantics.specs.Natives.{is_owed, terminated_request};
 ghost use Rattle.aom_semantics.specs.Places.{Request};
 ghost use Rattle.aom_semantics.specs.State.{State, FitsWord};
@@ -66,13 +66,13 @@ fn fail_all_requests(parts: &mut Parts, native: usize, linked: &Linked)
 }
 
 /// A native is killed, with its line: what is outstanding there is completed, and sessions with it are over.
-pub fn kill(parts: &mut Parts, native: u8, linked: &Linked, turn: &mut LineBuffer)
+pub fn kill(parts: &mut Parts, native: u8, linked: &Linked, lines: &mut LineBuffer)
     requires stands { Stands (record { image = linked.now; parts = parts.old }) }
     requires between { progress_by parts.old.rest.ended parts.old.stack.tasks ≡ Turned }
     requires few { parts.old.rest.delivered + 1 < 2 ^ 64 }
     requires lives { is_killed parts.old.sessions native ≡ false }
-    requires room { length turn.old.lines < turn.old.room }
-    ensures killed { (s : State) → StandsFor (record { image = linked.now; parts = parts.old }) s → Takes (record { image = linked.now; parts = parts.old }) s (Kills native) turn.old turn.new (record { image = linked.now; parts = parts.new }) }
+    requires room { length lines.old.lines < lines.old.room }
+    ensures killed { (s : State) → StandsFor (record { image = linked.now; parts = parts.old }) s → Takes (record { image = linked.now; parts = parts.old }) s (Kills native) lines.old lines.new (record { image = linked.now; parts = parts.new }) }
     ensures rest { parts.new.rest ≡ record parts.old.rest { delivered = suc parts.old.rest.delivered } }
     ensures ended { parts.new.sessions.killed ≡ parts.old.sessions.killed ++ native ∷ [] }
     ensures timers { parts.new.active.pending.timers ≡ parts.old.active.pending.timers }
@@ -80,7 +80,7 @@ pub fn kill(parts: &mut Parts, native: u8, linked: &Linked, turn: &mut LineBuffe
     fail_all_requests(parts, native as usize, linked);
     parts.sessions.kill(native);
     parts.rest.deliver();
-    turn.push(Line::Killed(native));
+    lines.push(Line::Killed(native));
 }
 
 /// A native is polled: it completes the request of the cell of that number with a code, or nothing.

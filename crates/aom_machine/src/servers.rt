@@ -41,10 +41,10 @@ pub fn note_queue(parts: &mut Parts, server: u16)
 }
 
 /// The first of a server's queue is served, with its line. Its dispatch has taken no step.
-pub fn serve(parts: &mut Parts, id: CellId, linked: &Linked, turn: &mut LineBuffer)
+pub fn serve(parts: &mut Parts, id: CellId, linked: &Linked, lines: &mut LineBuffer)
     requires can { HasCaller linked.now parts.old id }
-    requires room { length turn.old.lines < turn.old.room }
-    ensures { ServesFirst linked.now id parts.old turn.old turn.new parts.new }
+    requires room { length lines.old.lines < lines.old.room }
+    ensures { ServesFirst linked.now id parts.old lines.old lines.new parts.new }
 {
     let server = id.number() as u16;
     let class = parts.class(id.number());
@@ -53,7 +53,7 @@ pub fn serve(parts: &mut Parts, id: CellId, linked: &Linked, turn: &mut LineBuff
     };
     note_queue(parts, server);
     parts.rest.count_anew();
-    turn.push(Line::Serve(parts.rest.clock(), class, asked(taken.entry), taken.client));
+    lines.push(Line::Serve(parts.rest.clock(), class, asked(taken.entry), taken.client));
     begin(parts, Subject::new(id.number(), class), taken, linked);
 }
 

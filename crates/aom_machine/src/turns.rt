@@ -25,35 +25,35 @@ pub fn due(parts: &mut Parts) -> bool
 }
 
 /// The first object that is ready is dispatched, or the first server in whose queue something waits, with its line.
-pub fn pick(parts: &mut Parts, linked: &Linked, turn: &mut LineBuffer) -> bool
+pub fn pick(parts: &mut Parts, linked: &Linked, lines: &mut LineBuffer) -> bool
     requires stands { Stands (record { image = linked.now; parts = parts.old }) }
     requires between { progress_by parts.old.rest.ended parts.old.stack.tasks ≡ Turned }
-    requires room { length turn.old.lines < turn.old.room }
-    ensures { Picked (record { image = linked.now; parts = parts.old }) result turn.old turn.new (record { image = linked.now; parts = parts.new }) }
+    requires room { length lines.old.lines < lines.old.room }
+    ensures { Picked (record { image = linked.now; parts = parts.old }) result lines.old lines.new (record { image = linked.now; parts = parts.new }) }
 {
     let Some(id) = parts.active.pick() else {
         return false;
     };
     if parts.active.is_server(id) {
-        servers::serve(parts, id, linked, turn);
+        servers::serve(parts, id, linked, lines);
     } else {
-        dispatch(parts, id, linked, turn);
+        dispatch(parts, id, linked, lines);
     }
     true
 }
 
 /// The method of a ready object that handles its signal runs, under the trap of its dispatch.
-fn dispatch(parts: &mut Parts, id: CellId, linked: &Linked, turn: &mut LineBuffer)
+fn dispatch(parts: &mut Parts, id: CellId, linked: &Linked, lines: &mut LineBuffer)
     requires can { CanDispatch linked.now parts.old id }
-    requires room { length turn.old.lines < turn.old.room }
-    ensures { Dispatches linked.now id parts.old turn.old turn.new parts.new }
+    requires room { length lines.old.lines < lines.old.room }
+    ensures { Dispatches linked.now id parts.old lines.old lines.new parts.new }
 {
     let number = id.number();
     let class = parts.class(number);
     let Some(method) = linked.role(class, Role::Run) else {
         unreachable!();
     };
-    turn.push(Line::Run(parts.rest.clock(), class, parts.active.status(id)));
+    lines.push(Line::Run(parts.rest.clock(), class, parts.active.status(id)));
     parts.rest.count_anew();
     let subject = Subject::new(number, class);
     run_under(

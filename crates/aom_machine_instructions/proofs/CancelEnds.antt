@@ -20,7 +20,7 @@ use Rattle.aom_roles.specs.Shapes.{IsShaped, is_active_in}
 use Rattle.aom_rules.specs.Requests.{own_kind}
 use Rattle.aom_semantics.specs.Calls.{result_needs}
 use Rattle.aom_safety.specs.Claims.{forms, items_of}
-use Rattle.aom_semantics.specs.Enlisted.{cancelled, ended_cells, hangs, in_phase, is_cancelling, on_request, own_request, pending, rerequested, status_of}
+use Rattle.aom_semantics.specs.Requests.{cancelled, ended_cells, hangs, in_phase, is_cancelling, on_request, own_request, pending, rerequested, status_of}
 use Rattle.aom_semantics.specs.Places.{Cell, Object, Request, named, requested, set_request}
 use Rattle.aom_safety.specs.Requests.{Known, Suits, states_claim}
 use Rattle.aom_semantics.specs.State.{AtRoot, Choice, Home, Inside, Run, Static}

@@ -16,7 +16,7 @@ use Rattle.aom_clients.specs.Lists.{IsFree, IsIn, Table, list_at, with_list}
 use Rattle.aom_roles.specs.Classes.{sessions_in}
 use Rattle.aom_machine_instructions.proofs.SafetyLemmas.{requested_here, requested_there, rerequested_alike, service_asked}
 use Rattle.aom_semantics.specs.Clients.{is_of_class}
-use Rattle.aom_semantics.specs.Enlisted.{first_request, home_kind, next_order, rerequested}
+use Rattle.aom_semantics.specs.Requests.{first_request, home_kind, next_order, rerequested}
 use Rattle.aom_semantics.specs.Places.{Cell, Object, Register, Request, Service, Tidy, named, requested, set_request}
 use Rattle.aom_semantics.specs.Servers.{is_among, is_server}
 use Rattle.aom_semantics.specs.State.{Inside}

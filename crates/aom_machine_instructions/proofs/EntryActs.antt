@@ -129,55 +129,59 @@ leaves_if : (p : Image) (m : Parts) (fr : Frame) (ts : List Task) (s : State) (b
 leaves_if p m fr ts s true off on agrees same needs = subst (Agrees p (leaving (negsuc 3) m)) same (leaves p m (applied p fr ts s on) no_memory agrees needs.1.0)
 leaves_if p m fr ts s false off on agrees same needs = agrees
 
-module _ (m : Parts) (turn : LineBuffer) where
-  pub push_does : (a : ℕ) (refused : Bool) → a < 16 → refused ≡ refuses_entry turn m →
-      Does turn.refused (Push a) m (cond refused (leaving (negsuc 3) (held_pushed a m)) (held_pushed a m))
+module _ (m : Parts) (lines : LineBuffer) where
+  pub push_does : (a : ℕ) (refused : Bool) → a < 16 → refused ≡ refuses_entry lines m →
+      Does lines.refused (Push a) m (cond refused (leaving (negsuc 3) (held_pushed a m)) (held_pushed a m))
   push_does a refused small same p h here =
       let s = h.state in
       let c : Choice = record { name = null; refused = refused; answer = heard_by m } in (
         c,
-        record { name = null_unnamed p m s h.agrees; refusal = same ∙ same_entry_refusal p turn m h (Push a) here refl; answer = heard_fits m },
+        record { name = null_unnamed p m s h.agrees; refusal = same ∙ same_entry_refusal p lines m h (Push a) here refl; answer = heard_fits m },
         refl,
         λ needs typed.
             let was = no_word _ needs.0 in
-            let object = object_pushed p m h _ (asks_one m turn s.rest h.agrees.rest) a small was in
+            let object = object_pushed p m h _ (asks_one m lines s.rest h.agrees.rest) a small was in
             leaves_if p (held_pushed a m) h.frame h.below (requested (Push a) s) refused (Pushed a) (sets h.frame a None (Pushed a)) object refl needs.1.1.1.1,
       )
 
-  pub push_operation_does : (a k : ℕ) (refused : Bool) →
-      refused ≡ refuses_entry turn m → Does turn.refused (PushOperation a k) m (cond refused (leaving (negsuc 3) (held_operation a k m)) (held_operation a k m))
+  pub push_operation_does : (a k : ℕ) (refused : Bool) → refused ≡ refuses_entry lines m →
+      Does lines.refused (PushOperation a k) m (cond refused (leaving (negsuc 3) (held_operation a k m)) (held_operation a k m))
   push_operation_does a k refused same p h here =
       let s = h.state in
       let c : Choice = record { name = null; refused = refused; answer = heard_by m } in (
         c,
-        record { name = null_unnamed p m s h.agrees; refusal = same ∙ same_entry_refusal p turn m h (PushOperation a k) here refl; answer = heard_fits m },
+        record { name = null_unnamed p m s h.agrees; refusal = same ∙ same_entry_refusal p lines m h (PushOperation a k) here refl; answer = heard_fits m },
         refl,
         λ needs typed.
             let is = word_read p m h a needs.0 in
-            let operation = operation_comes p m h _ (asks_one m turn s.rest h.agrees.rest) a k is in
+            let operation = operation_comes p m h _ (asks_one m lines s.rest h.agrees.rest) a k is in
             leaves_if p (held_operation a k m) h.frame h.below (requested (PushOperation a k) s) refused
             (Pushed_operation k (read h.frame h.below s a)) (updates h.frame (Pushed_operation k (read h.frame h.below s a))) operation refl needs.1.1,
       )
 
   -- `newl` leaves where it is refused
-  pub newl_refused : (a class : ℕ) → true ≡ refuses turn m → Does turn.refused (NewOrLeave a class) m (leaving (negsuc 3) (asked m))
+  pub newl_refused : (a class : ℕ) → true ≡ refuses lines m → Does lines.refused (NewOrLeave a class) m (leaving (negsuc 3) (asked m))
   newl_refused a class full p h here = (
     record { name = null; refused = true; answer = heard_by m },
-    record { name = null_unnamed p m h.state h.agrees; refusal = full ∙ same_refusal p turn m h (NewOrLeave a class) here refl; answer = heard_fits m },
+    record { name = null_unnamed p m h.state h.agrees; refusal = full ∙ same_refusal p lines m h (NewOrLeave a class) here refl; answer = heard_fits m },
     refl,
     λ needs typed. leaves_at p (asked m) (requested (NewOrLeave a class) h.state) h.frame h.below no_memory h.top
-        (agrees_rest p m h.state _ _ (asks_one m turn h.state.rest h.agrees.rest) h.agrees) needs.1.1.0,
+        (agrees_rest p m h.state _ _ (asks_one m lines h.state.rest h.agrees.rest) h.agrees) needs.1.1.0,
   )
 
-  pub newl_made : (a class n : ℕ) (heap : Heap) → a < 16 → false ≡ refuses turn m →
-      Made class false n m.cells heap → Does turn.refused (NewOrLeave a class) m (places.next (set_register a n (record (asked m) { cells = heap })))
+  pub newl_made : (a class n : ℕ) (heap : Heap) → a < 16 → false ≡ refuses lines m →
+      Made class false n m.cells heap → Does lines.refused (NewOrLeave a class) m (places.next (set_register a n (record (asked m) { cells = heap })))
   newl_made a class n heap small granted made p h here = elim made [
     | inl none ↦ absurd (true≢false (sym none.0))
     | inr it ↦ (
       record { name = n; refused = false; answer = heard_by m },
-      record { name = unnamed p m h.state n h.agrees (new_small p m h heap n class it.4 it.6) it.2; refusal = granted ∙ same_refusal p turn m h (NewOrLeave a class) here refl; answer = heard_fits m },
+      record {
+        name = unnamed p m h.state n h.agrees (new_small p m h heap n class it.4 it.6) it.2;
+        refusal = granted ∙ same_refusal p lines m h (NewOrLeave a class) here refl;
+        answer = heard_fits m;
+      },
       refl,
-      λ needs typed. made_agrees m turn p h a class n heap _ small (asks_one m turn h.state.rest h.agrees.rest) needs.0 it.1 it.2 it.3 it.4 it.5 it.6,
+      λ needs typed. made_agrees m lines p h a class n heap _ small (asks_one m lines h.state.rest h.agrees.rest) needs.0 it.1 it.2 it.3 it.4 it.5 it.6,
     )
   ]
 

@@ -369,15 +369,15 @@ module _ (p : Image) (m : Parts) (st : Stands (record { image = p; parts = m }))
       pub taken_none : result ≡ None → taken ≡ with_tasks (below_first m.stack.tasks) m
       taken_none none = grind (arith, nat_tests, takes_here, first_none none)
 
-      pub moves_none : (turn : LineBuffer) (class : ℕ) (new : Parts) → result ≡ None → class_at taken.cells number ≡ Some class →
-          new ≡ with_tasks (destructed p (destructor_in p (Some class)) number taken.stack.tasks) taken → Moves p m turn turn new
-      moves_none turn class new none its new_is =
+      pub moves_none : (lines : LineBuffer) (class : ℕ) (new : Parts) → result ≡ None → class_at taken.cells number ≡ Some class →
+          new ≡ with_tasks (destructed p (destructor_in p (Some class)) number taken.stack.tasks) taken → Moves p m lines lines new
+      moves_none lines class new none its new_is =
           let same = taken_none none in
           let class_is : class_at m.cells number ≡ Some class = ap (λ h. class_at h number) (sym cells_taken) ∙ its in
-          subst (λ k. Moves p m turn turn k) (sym (new_is ∙ ap (λ (k : Parts). with_tasks (destructed p (destructor_in p (Some class)) number k.stack.tasks) k)
-          same ∙ ap (λ o. with_tasks (destructed p (destructor_in p o) number (below_first m.stack.tasks)) m) (sym class_is)
+          subst (λ k. Moves p m lines lines k) (sym (new_is ∙ ap (λ (k : Parts). with_tasks (destructed p (destructor_in p (Some class)) number k.stack.tasks)
+          k) same ∙ ap (λ o. with_tasks (destructed p (destructor_in p o) number (below_first m.stack.tasks)) m) (sym class_is)
           ∙ ap (λ us. with_tasks (destructed p (destructor_at p m.cells number) number us) m) below_is))
-          (destructor_moves p m announced turn number found.below tasks_are (first_none none))
+          (destructor_moves p m announced lines number found.below tasks_are (first_none none))
 
       pub session_found : (r : ℕ) → result ≡ Some r → r < 65536 → Lives taken.cells r
       session_found r some small =
@@ -385,13 +385,13 @@ module _ (p : Image) (m : Parts) (st : Stands (record { image = p; parts = m }))
           subst (λ h. Lives h r) (sym cells_taken)
           (found.session one.0 r (ap (λ i. kept.first_there m.clients (kept.sessions_at m.clients i)) (sym (is ∙ here)) ∙ one.1) one.2 small)
 
-      pub moves_some : (turn : LineBuffer) (r : ℕ) (new : Parts) → result ≡ Some r → r < 65536 →
-          new ≡ with_tasks (dying p taken.cells r (Closes ∷ taken.stack.tasks)) taken → Moves p m turn turn new
-      moves_some turn r new some small new_is =
+      pub moves_some : (lines : LineBuffer) (r : ℕ) (new : Parts) → result ≡ Some r → r < 65536 →
+          new ≡ with_tasks (dying p taken.cells r (Closes ∷ taken.stack.tasks)) taken → Moves p m lines lines new
+      moves_some lines r new some small new_is =
           let one = one_taken m.clients (kept.sessions_at m.clients number) r (sym told_here ∙ some) in
           let then = record m { clients = kept.after_release one.0 m.clients } in
-          subst (λ k. Moves p m turn turn k)
+          subst (λ k. Moves p m lines lines k)
           (sym (new_is ∙ ap (λ (k : Parts). with_tasks (dying p k.cells r (Closes ∷ k.stack.tasks)) k)
           (takes_here ∙ ap (λ o. record (with_tasks (below_first m.stack.tasks) m) { clients = released_by o m.clients }) one.1)
           ∙ ap (λ us. with_tasks (dying p m.cells r (Closes ∷ us)) then) below_is))
-          (session_moves p m announced turn number one.0 r found.below tasks_are one.1 one.2 small)
+          (session_moves p m announced lines number one.0 r found.below tasks_are one.1 one.2 small)

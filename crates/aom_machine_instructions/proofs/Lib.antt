@@ -35,6 +35,7 @@ mod DealActs
 mod Topping
 mod Resulting
 mod Silent
+mod Standing
 mod UnwindActs
 mod Vanishing
 mod MessageActs

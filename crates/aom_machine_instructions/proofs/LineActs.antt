@@ -20,7 +20,7 @@ use Rattle.aom_machine_instructions.proofs.SafetyLemmas.{all_parts, ended_alike,
 use Rattle.aom_semantics.specs.Calls.{none_owns_but, result_needs, result_source, returned}
 use Rattle.aom_safety.specs.Claims.{Method}
 use Rattle.aom_semantics.specs.Destruction.{class_destructor, line_on, next_destructor}
-use Rattle.aom_semantics.specs.Enlisted.{ended_cells}
+use Rattle.aom_semantics.specs.Requests.{ended_cells}
 use Rattle.aom_semantics.specs.Places.{Going, Object, Place, Register, held}
 use Rattle.aom_semantics.specs.State.{Destroy, Inside, Run, State, Task}
 use Rattle.aom_safety.specs.WellTyped.{Good}

@@ -131,31 +131,31 @@ makes_here : (p : Image) (m : Parts) (h : At_hand p m) (i : Instr) → instr_at 
 makes_here p m h i here = ap (makes_cell p) h.top ∙ ap makes here
 
 -- what the machine refuses is what the checked machine hears
-module _ (p : Image) (turn : LineBuffer) (m : Parts) (h : At_hand p m) (i : Instr) (here : instr_at p h.frame.method h.frame.place ≡ Some i) where
+module _ (p : Image) (lines : LineBuffer) (m : Parts) (h : At_hand p m) (i : Instr) (here : instr_at p h.frame.method h.frame.place ≡ Some i) where
   abbrev is_named : ℕ → Bool
-  is_named requests = list_any (λ n. n == raised requests) turn.refused
+  is_named requests = list_any (λ n. n == raised requests) lines.refused
 
-  pub same_refusal : makes (Some i) ≡ true → refuses turn m ≡ is_refused p turn.refused h.state
+  pub same_refusal : makes (Some i) ≡ true → refuses lines m ≡ is_refused p lines.refused h.state
   same_refusal cell = grind (arith, nat_tests, makes_here p m h i here)
 
-  pub same_entry_refusal : makes (Some i) ≡ false → refuses_entry turn m ≡ is_refused p turn.refused h.state
+  pub same_entry_refusal : makes (Some i) ≡ false → refuses_entry lines m ≡ is_refused p lines.refused h.state
   same_entry_refusal none = grind (arith, nat_tests, makes_here p m h i here)
 
 -- a new cell's number is below those of messages
 pub new_small : (p : Image) (m : Parts) (h : At_hand p m) (heap : Heap) (n class : ℕ) → Changes m.cells heap n (Some (blank class)) → n < heap.limit → n < 4096
 new_small p m h heap n class ch within = let few = h.formed.header.cells in omega (arith, within, ch.limit, h.agrees.cells.limit, few)
 
-module _ (m : Parts) (turn : LineBuffer) where
+module _ (m : Parts) (lines : LineBuffer) where
   -- the machine whose request is counted, with these cells
   abbrev pub asked : Heap → Parts
   asked heap = record m { cells = heap; rest = record m.rest { requests = raised m.rest.requests } }
 
-  refused_does : (a class : ℕ) → a < 16 → true ≡ refuses turn m → Does turn.refused (New a class) m (places.next (set_register a null (asked m.cells)))
+  refused_does : (a class : ℕ) → a < 16 → true ≡ refuses lines m → Does lines.refused (New a class) m (places.next (set_register a null (asked m.cells)))
   refused_does a class small full p h here = (
     record { name = null; refused = true; answer = heard_by m },
-    record { name = null_unnamed p m h.state h.agrees; refusal = full ∙ same_refusal p turn m h (New a class) here refl; answer = heard_fits m },
+    record { name = null_unnamed p m h.state h.agrees; refusal = full ∙ same_refusal p lines m h (New a class) here refl; answer = heard_fits m },
     refl,
-    λ needs typed. nulled m turn.refused p h a _ _ small (ap (λ (r : Counters). record r { requests = raised r.requests }) h.agrees.rest) (free _ needs.0),
+    λ needs typed. nulled m lines.refused p h a _ _ small (ap (λ (r : Counters). record r { requests = raised r.requests }) h.agrees.rest) (free _ needs.0),
   )
 
   -- a new cell comes to a register
@@ -184,19 +184,19 @@ module _ (m : Parts) (turn : LineBuffer) where
   pub asks_one : (r : Counters) → m.rest ≡ r → record m.rest { requests = raised m.rest.requests } ≡ record r { requests = raised r.requests }
   asks_one r e = ap (λ (q : Counters). record q { requests = raised q.requests }) e
 
-  made_does : (a class n : ℕ) (heap : Heap) → a < 16 → false ≡ refuses turn m → class < 256 → cell_at m.cells n ≡ None → n ≢ null → Changes m.cells heap n
-      (Some (blank class)) → count heap ≡ count m.cells + 1 → n < heap.limit → Does turn.refused (New a class) m (places.next (set_register a n (asked heap)))
+  made_does : (a class n : ℕ) (heap : Heap) → a < 16 → false ≡ refuses lines m → class < 256 → cell_at m.cells n ≡ None → n ≢ null → Changes m.cells heap n
+      (Some (blank class)) → count heap ≡ count m.cells + 1 → n < heap.limit → Does lines.refused (New a class) m (places.next (set_register a n (asked heap)))
   made_does a class n heap small granted fits none some ch more within p h here = (
     record { name = n; refused = false; answer = heard_by m },
-    record { name = unnamed p m h.state n h.agrees (new_small p m h heap n class ch within) none; refusal = granted ∙ same_refusal p turn m h (New a class) here refl; answer = heard_fits m },
+    record { name = unnamed p m h.state n h.agrees (new_small p m h heap n class ch within) none; refusal = granted ∙ same_refusal p lines m h (New a class) here refl; answer = heard_fits m },
     refl,
     λ needs typed. made_agrees p h a class n heap _ small (asks_one h.state.rest h.agrees.rest) needs.0 fits none some ch more within,
   )
 
   pub new_does : (a class n : ℕ) (refused : Bool) (heap : Heap) →
-      a < 16 → refused ≡ refuses turn m → Made class refused n m.cells heap → Does turn.refused (New a class) m (places.next (set_register a n (asked heap)))
+      a < 16 → refused ≡ refuses lines m → Made class refused n m.cells heap → Does lines.refused (New a class) m (places.next (set_register a n (asked heap)))
   new_does a class n refused heap small same it = elim it [
-    | inl null_made ↦ subst (λ x. Does turn.refused (New a class) m (places.next (set_register a n (asked x)))) (sym null_made.2) (subst (λ k. Does turn.refused
-        (New a class) m (places.next (set_register a k (asked m.cells)))) (sym null_made.1) (refused_does a class small (sym null_made.0 ∙ same)))
+    | inl null_made ↦ subst (λ x. Does lines.refused (New a class) m (places.next (set_register a n (asked x)))) (sym null_made.2) (subst (λ k. Does
+        lines.refused (New a class) m (places.next (set_register a k (asked m.cells)))) (sym null_made.1) (refused_does a class small (sym null_made.0 ∙ same)))
     | inr new_made ↦ made_does a class n heap small (sym new_made.0 ∙ same) new_made.1 new_made.2 new_made.3 new_made.4 new_made.5 new_made.6
   ]

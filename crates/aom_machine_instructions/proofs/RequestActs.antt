@@ -39,10 +39,10 @@ use Rattle.aom_machine_instructions.proofs.ActiveLemmas.{told_cancelling, told_e
 use Rattle.aom_semantics.specs.Effects.{applied, cancels_if, jumps_if, updates, Cancels, Requested, writes as writes_word, asking_with, heard}
 use Rattle.aom_machine_instructions.proofs.MachineStateLemmas.{cell_of, cells_asked, natives_rerequested, services_rerequested, services_rerequested_with}
 use Rattle.aom_machine_instructions.proofs.MachineStateLemmas.{stands_here, tokens_forgotten}
-use Rattle.aom_semantics.specs.Enlisted as enlisted
-use Rattle.aom_semantics.specs.Enlisted.{aborted, begun_cells, cancel_method, cancel_of, cancelling, due_after, first_request, home_kind}
-use Rattle.aom_semantics.specs.Enlisted.{in_phase, is_cancelling, is_idle, is_issued, issued_by, issued_of, next_order, next_timer, on_request}
-use Rattle.aom_semantics.specs.Enlisted.{own_request, rerequested, status_of, thing_kind, waits, Asking, completed_at_once}
+use Rattle.aom_semantics.specs.Requests as enlisted
+use Rattle.aom_semantics.specs.Requests.{aborted, begun_cells, cancel_method, cancel_of, cancelling, due_after, first_request, home_kind}
+use Rattle.aom_semantics.specs.Requests.{in_phase, is_cancelling, is_idle, is_issued, issued_by, issued_of, next_order, next_timer, on_request}
+use Rattle.aom_semantics.specs.Requests.{own_request, rerequested, status_of, thing_kind, waits, Asking, completed_at_once}
 use Rattle.aom_semantics.specs.Places.{Register, Service, service_of, Cell, Idle, Issued, Object, Phase}
 use Rattle.aom_semantics.specs.Places.{Place, Request, in_session, named, requested, set_request}
 use Rattle.aom_semantics.specs.State.{Choice, Frame, Home, Inside, Run, State, Task, frame_as}

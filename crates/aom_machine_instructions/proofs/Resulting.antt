@@ -1,6 +1,6 @@
 -- A method that a result comes to, or that loses one, still runs where it did.
 use Rattle.std.proofs.lemmas.Bool.Decides.{nat_tests}
-use Rattle.std.proofs.Common.{arith, ℕ, ◌+◌, ◌<◌, ◌^◌, ◌∷◌, List}
+use Rattle.std.proofs.Common.{arith, ℕ, ◌+◌, ◌<◌, ◌≡◌, ◌^◌, ◌∷◌, List, length}
 use Rattle.aom_frames.specs.Tasks.{Runs, on_top, place_here, with_register}
 use Rattle.aom_frames.specs.declared.frame.Frame.{Frame}
 use Rattle.aom_frames.specs.declared.task.Task.{Task}
@@ -13,6 +13,9 @@ use Rattle.aom_machine_instructions.specs.Cleanup.{lost}
 -- a method runs whatever becomes of its frame
 pub on_top_runs : (f : Frame → Frame) (ts : List Task) → Runs ts → Runs (on_top f ts)
 on_top_runs f x runs = grind arith
+
+pub on_top_long : (f : Frame → Frame) (ts : List Task) → length (on_top f ts) ≡ length ts
+on_top_long f x = grind arith
 
 pub resulted_runs : (g : Gives) (to n : ℕ) (m : Parts) → Runs m.stack.tasks → Runs (resulted g to n m).stack.tasks
 resulted_runs x to n m runs = grind (arith, nat_tests, on_top_runs)

@@ -35,7 +35,7 @@ use Rattle.aom_frames.specs.declared.task.Task.TheVariants.{Run as Runs_frame, T
 use Rattle.aom_frames.specs.declared.dispatch.Dispatch.{Dispatch as Machine_dispatch}
 use Rattle.aom_frames.specs.declared.dispatch.Dispatch.TheVariants.{Server as Of_one_served}
 use Rattle.aom_active.specs.Agrees.{Active}
-use Rattle.aom_semantics.specs.Enlisted.{ended_cells}
+use Rattle.aom_semantics.specs.Requests.{ended_cells}
 use Rattle.aom_machine_instructions.specs.Ends.{heard, told_by}
 use Rattle.aom_machine_instructions.specs.Going.{ending_here}
 use Rattle.aom_machine_instructions.proofs.CancelEnds.{ended_agrees, method_is}

@@ -60,7 +60,7 @@ use Rattle.aom_machine_state.specs.Room.{Destructs, IsUnder, NoClosing, below_he
 use Rattle.aom_machine_instructions.proofs.MachineStateLemmas.{AllLow, LowUnder, Roomy, SameBelow, Stands_here, begins, closing_begins, dropped, going_begins}
 use Rattle.aom_machine_instructions.proofs.MachineStateLemmas.{held_apart, item_pushed, lower, off_to_trap, own_entries, popped, popped_top, recelled}
 use Rattle.aom_machine_instructions.proofs.MachineStateLemmas.{top_under}
-use Rattle.aom_semantics.specs.Enlisted.{begun_cells, cancel_method, cancelling, ended_cells, on_request, own_request}
+use Rattle.aom_semantics.specs.Requests.{begun_cells, cancel_method, cancelling, ended_cells, on_request, own_request}
 use Rattle.aom_semantics.specs.Tokens.{redeemed_by, token_of}
 use Rattle.aom_machine_instructions.proofs.FamiliesLemmas.{body_runs}
 use Rattle.aom_semantics.specs.Servers.{is_server}

@@ -25,7 +25,7 @@ use Rattle.aom_rules.specs.Typing.{Typing}
 use Rattle.aom_machine_instructions.proofs.SemanticsLemmas.{held_without, named_name, requested_unnamed}
 use Rattle.aom_semantics.specs.Clients.{count_messages}
 use Rattle.aom_semantics.specs.Effects.{applied, hands_unless, sets}
-use Rattle.aom_semantics.specs.Enlisted.{completed_at_once, home_kind, is_idle, is_unanswered, on_request, own_request, rerequested}
+use Rattle.aom_semantics.specs.Requests.{completed_at_once, home_kind, is_idle, is_unanswered, on_request, own_request, rerequested}
 use Rattle.aom_safety.specs.Kept.{IsKept}
 use Rattle.aom_semantics.specs.Moves.{is_refused, needs}
 use Rattle.aom_semantics.specs.Places.{Cell, Elsewhere, Idle, Object, Place, Register, Request, Root, Token, changed}

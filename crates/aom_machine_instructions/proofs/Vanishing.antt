@@ -87,7 +87,7 @@ pub record Going (n : ℕ) (old now : Parts) (told line : LineBuffer) : Type 0 w
   pub drops : Drops done old.messages now.messages
   pub rest : now ≡ record old { clients = now.clients; messages = now.messages }
   pub lines : line.lines ++ gone_lines now.clients (queue_at now.clients n) ≡ told.lines ++ gone_lines old.clients (queue_at old.clients n)
-  pub turn : line ≡ record told { lines = line.lines }
+  pub buffer : line ≡ record told { lines = line.lines }
   pub room : length line.lines + answers (queue_at now.clients n) ≤ told.room
 
 -- one entry more
@@ -124,7 +124,7 @@ goes_on n old mid new told line line' t so first is drops written = go (queue_at
               ∙ ap (λ c. record old { clients = c; messages = new.messages }) (sym (ap (λ (m : Parts). m.clients) is));
           lines = ap (λ q. line'.lines ++ gone_lines new.clients q) queue ∙ ap (λ ls. line'.lines ++ ls) still ∙ ap (λ ls. ls ++ gone_lines s es) said
               ∙ append_assoc line.lines (gone_line (taken_entry s f)) (gone_lines s es) ∙ sym (ap (λ q. line.lines ++ gone_lines s q) e) ∙ so.lines;
-          turn = written ∙ ap (λ (x : LineBuffer). record x { lines = line.lines ++ gone_line t }) so.turn
+          buffer = written ∙ ap (λ (x : LineBuffer). record x { lines = line.lines ++ gone_line t }) so.buffer
               ∙ ap (λ ls. record told { lines = ls }) (sym (ap (λ (x : LineBuffer). x.lines) written));
           room =
               let many = ap length said ∙ length-append line.lines (gone_line (taken_entry s f)) in

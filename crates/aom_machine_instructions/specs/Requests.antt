@@ -13,7 +13,7 @@ use Rattle.aom_cells.specs.Heap.{Lives, class_at}
 use Rattle.aom_scheduler.specs.Requests.{is_pending, request_at}
 use Rattle.aom_active.specs.Agrees.{Active}
 use Rattle.aom_active.specs.Meanings.{Makes, Times, begun_with, is_being_cancelled}
-use Rattle.aom_semantics.specs.Enlisted.{cancelled, due_after, completed_at_once}
+use Rattle.aom_semantics.specs.Requests.{cancelled, due_after, completed_at_once}
 use Rattle.aom_semantics.specs.Natives.{started}
 use Rattle.aom_cells.specs.Sessions.{Standing, is_killed, is_open}
 use Rattle.aom_frames.specs.Tasks.{Runs, method_here}

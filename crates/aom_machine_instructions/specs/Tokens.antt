@@ -10,7 +10,7 @@ use Rattle.aom_machine_state.specs.declared.parts.Parts.{Parts}
 use Rattle.aom_machine_state.specs.Tokens as meant
 use Rattle.aom_machine_state.specs.Tokens.{LetsGo, no_words}
 use Rattle.aom_scheduler.specs.Requests.{is_pending, request_at}
-use Rattle.aom_semantics.specs.Enlisted.{completed_at_once}
+use Rattle.aom_semantics.specs.Requests.{completed_at_once}
 use Rattle.aom_semantics.specs.Tokens.{busy, promised}
 use Rattle.aom_cells.specs.Tokens.{Sets, class_at, redeemed}
 use Rattle.aom_machine_instructions.specs.Serving.{Completes}

@@ -18,12 +18,12 @@ use aom_machine_state::{LineBuffer, Parts};
 
 /// An object goes from a register to the cleanup stack. Where the request is refused, the method leaves then.
 #[inline(always)]
-pub fn push(parts: &mut Parts, from: Register, turn: &LineBuffer) -> bool
+pub fn push(parts: &mut Parts, from: Register, lines: &LineBuffer) -> bool
     requires { (p : Image) × IsNext p (Push from) parts.old }
-    ensures does { Does turn.now.refused (Push from) parts.old parts.new }
+    ensures does { Does lines.now.refused (Push from) parts.old parts.new }
     ensures runs { result ≡ true → Runs parts.new.stack.tasks }
 {
-    let refused = parts.request(turn);
+    let refused = parts.request(lines);
     let object = parts.register(from);
     parts.bring(from, NULL);
     parts.entries.push_object(object);
@@ -35,11 +35,11 @@ pub fn push(parts: &mut Parts, from: Register, turn: &LineBuffer) -> bool
 }
 
 /// A method to be called on a register's word goes to the cleanup stack, in the same way.
-pub fn push_operation(parts: &mut Parts, from: Register, method: MethodNumber, turn: &LineBuffer)
+pub fn push_operation(parts: &mut Parts, from: Register, method: MethodNumber, lines: &LineBuffer)
     requires { (p : Image) × IsNext p (PushOperation from method) parts.old }
-    ensures { Does turn.now.refused (PushOperation from method) parts.old parts.new }
+    ensures { Does lines.now.refused (PushOperation from method) parts.old parts.new }
 {
-    let refused = parts.request(turn);
+    let refused = parts.request(lines);
     let word = parts.register(from);
     parts.entries.push_operation(method, word);
     parts.next();
@@ -112,13 +112,13 @@ pub fn create_or_leave(
     parts: &mut Parts,
     to: Register,
     class: ClassNumber,
-    turn: &LineBuffer,
+    lines: &LineBuffer,
 ) -> bool
     requires { (p : Image) × IsNext p (NewOrLeave to class) parts.old }
-    ensures does { Does turn.now.refused (NewOrLeave to class) parts.old parts.new }
+    ensures does { Does lines.now.refused (NewOrLeave to class) parts.old parts.new }
     ensures runs { result ≡ true → Runs parts.new.stack.tasks }
 {
-    if parts.request_cell(turn) {
+    if parts.request_cell(lines) {
         leaving::leave(parts, NO_MEMORY);
         return false;
     }

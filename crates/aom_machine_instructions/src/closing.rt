@@ -67,12 +67,12 @@ fn ask(parts: &mut Parts, subject: Subject, code: i32, linked: &Linked)
 }
 
 /// The dispatch that is at hand ends, or asks for an answer. One of a server is one of an object from then on.
-pub fn close(parts: &mut Parts, dispatch: Dispatch, linked: &Linked, turn: &mut LineBuffer)
+pub fn close(parts: &mut Parts, dispatch: Dispatch, linked: &Linked, lines: &mut LineBuffer)
     requires ending { ending_here parts.old.stack.tasks ≡ Some dispatch }
     requires announced { parts.old.rest.announced ≡ true }
     requires stands { Stands (record { image = linked.now; parts = parts.old }) }
-    requires room { length turn.old.lines < turn.old.room }
-    ensures { Moves linked.now parts.old turn.old turn.new parts.new }
+    requires room { length lines.old.lines < lines.old.room }
+    ensures { Moves linked.now parts.old lines.old lines.new parts.new }
 {
     match dispatch {
         Dispatch::Main => end_dispatch(parts, linked),
@@ -88,7 +88,7 @@ pub fn close(parts: &mut Parts, dispatch: Dispatch, linked: &Linked, turn: &mut 
         Dispatch::ObjectLeft(subject, code) => ask(parts, subject, code, linked),
         Dispatch::Answered(_, answer) => end_answered(parts, answer, linked),
         Dispatch::Server(subject, client, stage) => {
-            servers::end_stage(parts, client, stage, turn);
+            servers::end_stage(parts, client, stage, lines);
             servers::redispatch(parts, Dispatch::Object(subject));
         }
     }

@@ -6,10 +6,10 @@ ghost use Rattle.aom_machine_instructions.specs.Acts.{Does};
 ghost use Rattle.aom_machine_instructions.specs.Next.{IsNext};
 
 use aom_cells::NULL;
-use aom_image::{FieldIndex, Place, Register};
+use aom_image::{FieldIndex, InstrPlace, Register};
 use aom_machine_state::Parts;
 
-pub fn jump_empty(parts: &mut Parts, field: FieldIndex, place: Place)
+pub fn jump_empty(parts: &mut Parts, field: FieldIndex, place: InstrPlace)
     requires { (p : Image) × IsNext p (JumpEmpty field place) parts.old }
     ensures { (refused : List ℕ) → Does refused (JumpEmpty field place) parts.old parts.new }
 {

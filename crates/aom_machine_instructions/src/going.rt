@@ -1,21 +1,25 @@
 //! Destruction: a cell is at hand, of a server the sessions with it go first, its destructor runs, and then it goes.
-ghost use Rattle.std.specs.Prelude.{◌≡◌, ◌<◌, ◌+◌, ◌^◌, ℕ, List, IfSome, IsSome, Some, length, true};
+ghost use Rattle.std.specs.Prelude.{◌≡◌, ◌<◌, ◌+◌, ◌∷◌, ◌^◌, ℕ, List, IfSome, IsSome, Some, length, true};
 ghost use Rattle.aom_image.specs.Views.{method_at};
 ghost use Rattle.aom_cells.specs.Heap.{Lives, class_at};
 ghost use Rattle.aom_instructions.specs.declared.instr.Instr.TheVariants.{Delete};
 ghost use Rattle.aom_clients.specs.Clients.{queue_at};
 ghost use Rattle.aom_frames.specs.Tasks.{Runs, place_here, below_first};
+ghost use Rattle.aom_frames.specs.declared.task.Task.{Task as TaskRecord};
+ghost use Rattle.aom_frames.specs.declared.task.Task.TheVariants.{Destroy};
 ghost use Rattle.aom_frames.specs.Views.{view_in};
 ghost use Rattle.aom_semantics.specs.Destruction.{next_destructor};
-ghost use Rattle.aom_machine_instructions.specs.Acts.{DoesIn, GoesAway};
+ghost use Rattle.aom_machine_instructions.specs.Acts.{CanGo, DoesIn, GoesAway, going_at, standing};
+ghost use Rattle.aom_machine_instructions.specs.declared.after.After.TheVariants.{CellGoes, RunsOn};
 ghost use Rattle.aom_machine_state.specs.Places.{next, with_tasks, IsClosing, IsDestroying, going_here};
-ghost use Rattle.aom_machine_instructions.specs.Going.{destructed, destructor_frame, destructor_in, dying, is_server_class, uprooted};
+ghost use Rattle.aom_machine_instructions.specs.Going.{begun, destructed, destructor_frame, destructor_in, dying, is_server_class, uprooted};
 ghost use Rattle.aom_machine_instructions.specs.Moves.{Moves};
 ghost use Rattle.aom_machine_instructions.specs.Next.{IsNext};
 ghost use Rattle.aom_machine_instructions.specs.Serving.{CanVanish, answers};
-ghost use Rattle.aom_machine_state.specs.LineBuffer.{LineBuffer as TurnRecord};
+ghost use Rattle.aom_machine_state.specs.LineBuffer.{LineBuffer as LineBufferRecord};
 ghost use Rattle.aom_machine_state.specs.Stands.{Stands};
 
+use crate::after::After;
 use crate::servers;
 use aom_cells::NULL;
 use aom_frames::{Dispatch, Frame, Task, TaskKind, View};
@@ -107,19 +111,35 @@ pub fn begin(parts: &mut Parts, number: u32, linked: &Linked)
     }
 }
 
+/// Whether an object of that class goes with nothing before it: it is no server, and has no destructor.
 #[inline(always)]
-pub fn delete(parts: &mut Parts, from: Register, linked: &Linked) -> bool
+fn goes_at_once(class: ClassNumber, linked: &Linked) -> bool
+    ensures { result ≡ true → (number : ℕ) (tasks : List TaskRecord) → begun linked.now (Some class) number tasks ≡ Destroy number ∷ tasks }
+{
+    match linked.role(class, Role::Destruct) {
+        None => !is_server(class, linked),
+        Some(_) => false,
+    }
+}
+
+/// The object in a register goes, if there is one. Where nothing runs before that, its task is left to who asks.
+#[inline(always)]
+pub fn delete(parts: &mut Parts, from: Register, linked: &Linked) -> After
     requires { IsNext linked.now (Delete from) parts.old }
-    ensures does { (refused : List ℕ) → DoesIn linked.now refused (Delete from) parts.old parts.new }
-    ensures runs { result ≡ true → Runs parts.new.stack.tasks }
+    ensures does { (refused : List ℕ) → DoesIn linked.now refused (Delete from) parts.old (standing result parts.new) }
+    ensures runs { result ≡ RunsOn → Runs parts.new.stack.tasks }
+    ensures goes { (number : ℕ) → result ≡ CellGoes number → CanGo parts.new }
 {
     let number = parts.take_register(from);
     if number == NULL {
         parts.next();
-        return true;
+        return After::RunsOn;
+    }
+    if goes_at_once(parts.class(number), linked) {
+        return After::CellGoes(number);
     }
     begin(parts, number, linked);
-    false
+    After::Other
 }
 
 /// The root is at hand to go, and nothing else is.
@@ -166,7 +186,7 @@ pub fn let_go(parts: &mut Parts, linked: &Linked)
     requires closing { IsClosing parts.old.stack.tasks }
     requires announced { parts.old.rest.announced ≡ true }
     requires stands { Stands (record { image = linked.now; parts = parts.old }) }
-    ensures { (told : TurnRecord) → Moves linked.now parts.old told told parts.new }
+    ensures { (told : LineBufferRecord) → Moves linked.now parts.old told told parts.new }
 {
     parts.drop_task();
     let number = going_number(parts);
@@ -182,22 +202,20 @@ pub fn let_go(parts: &mut Parts, linked: &Linked)
     }
 }
 
-/// The cell of that number goes, whose destruction is at hand, and with a server all that waits in its queue. The method below goes on, if
-/// there is one.
+/// The cell of that number goes, and with a server all that waits in its queue. The method that is at hand goes on, if there is one.
+/// The task of its going is not on the stack.
 #[inline(always)]
-pub fn go(parts: &mut Parts, number: u32, turn: &mut LineBuffer)
-    requires destroying { IsDestroying parts.old.stack.tasks }
-    requires going { number ≡ going_here parts.old.stack.tasks }
-    requires lives { Lives parts.old.cells (going_here parts.old.stack.tasks) }
-    requires small { IfSome (class_at parts.old.cells (going_here parts.old.stack.tasks)) (λ class. class < 256) }
-    requires vanishes { CanVanish (going_here parts.old.stack.tasks) parts.old }
-    requires within { place_here (below_first parts.old.stack.tasks) + 1 < 2 ^ 64 }
-    requires room { length turn.old.lines + answers (queue_at parts.old.clients (going_here parts.old.stack.tasks)) < turn.old.room }
-    ensures { GoesAway parts.old parts.new turn.old turn.new }
+pub fn vanish(parts: &mut Parts, number: u32, lines: &mut LineBuffer)
+    requires lives { Lives parts.old.cells number }
+    requires small { IfSome (class_at parts.old.cells number) (λ class. class < 256) }
+    requires vanishes { CanVanish number parts.old }
+    requires within { place_here parts.old.stack.tasks + 1 < 2 ^ 64 }
+    requires room { length lines.old.lines + answers (queue_at parts.old.clients number) < lines.old.room }
+    ensures gone { GoesAway (going_at number parts.old) parts.new lines.old lines.new }
+    ensures runs { Runs parts.old.stack.tasks → Runs parts.new.stack.tasks }
 {
-    parts.end_other();
-    servers::end_server(parts, number as u16, turn);
+    servers::end_server(parts, number as u16, lines);
     let class = parts.release(number);
-    turn.push(Line::Gone(class));
+    lines.push(Line::Gone(class));
     resume(parts);
 }

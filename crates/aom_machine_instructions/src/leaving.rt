@@ -64,23 +64,23 @@ pub fn leave_if(parts: &mut Parts, from: Register) -> bool
 
 /// One move of the leave that is at hand with that code: the last entry is dealt with, or the code arrives.
 #[inline(always)]
-pub fn unwind(parts: &mut Parts, code: i32, linked: &Linked, turn: &mut LineBuffer)
+pub fn unwind(parts: &mut Parts, code: i32, linked: &Linked, lines: &mut LineBuffer)
     requires unwinding { IsUnwinding parts.old.stack.tasks }
     requires coded { code ≡ code_here parts.old.stack.tasks }
     requires announced { parts.old.rest.announced ≡ true }
     requires stands { Stands (record { image = linked.now; parts = parts.old }) }
-    requires room { length turn.old.lines < turn.old.room }
-    ensures { Moves linked.now parts.old turn.old turn.new parts.new }
+    requires room { length lines.old.lines < lines.old.room }
+    ensures { Moves linked.now parts.old lines.old lines.new parts.new }
 {
     if parts.entries.above_mark() {
         cleanup::run_cleanup_entry(parts, linked);
     } else {
-        arrive(parts, code, linked, turn);
+        arrive(parts, code, linked, lines);
     }
 }
 
 /// The code arrives at its trap, with its line: at the method that set it, or at the dispatch.
-fn arrive(parts: &mut Parts, code: i32, linked: &Linked, turn: &mut LineBuffer)
+fn arrive(parts: &mut Parts, code: i32, linked: &Linked, lines: &mut LineBuffer)
     requires unwinding { IsUnwinding parts.old.stack.tasks }
     requires coded { code ≡ code_here parts.old.stack.tasks }
     requires marked { IsMarked parts.old.entries.items }
@@ -88,13 +88,13 @@ fn arrive(parts: &mut Parts, code: i32, linked: &Linked, turn: &mut LineBuffer)
     requires below { ReturnsTo linked.now (below_first parts.old.stack.tasks) }
     requires calls { CallsThere linked.now (below_first (below_first parts.old.stack.tasks)) }
     requires stack { length parts.old.stack.tasks < parts.old.stack.depth }
-    requires room { length turn.old.lines < turn.old.room }
-    ensures { Unwinds linked.now parts.old parts.new turn.old turn.new }
+    requires room { length lines.old.lines < lines.old.room }
+    ensures { Unwinds linked.now parts.old parts.new lines.old lines.new }
 {
     parts.end_other();
     parts.end_other();
     parts.entries.unmark();
-    turn.push(Line::Leave(code));
+    lines.push(Line::Leave(code));
     if parts.is_running() {
         receive_code(parts, code, linked);
     } else {

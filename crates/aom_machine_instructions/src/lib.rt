@@ -6,6 +6,7 @@
 //! for. This crate knows no step, no turn and no native.
 #![tactic(auto)]
 
+mod after;
 mod calls;
 mod cleanup;
 mod closing;
@@ -20,8 +21,9 @@ mod requests;
 mod servers;
 mod words;
 
+pub use after::After;
 pub use closing::close;
-pub use going::{begin, go, let_go};
+pub use going::{begin, let_go, vanish};
 pub use leaving::unwind;
 pub use natives::TERMINATED;
 pub use performing::perform;

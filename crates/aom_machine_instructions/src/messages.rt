@@ -42,29 +42,29 @@ pub fn take_message(parts: &mut Parts, to: Register)
 }
 
 /// A register's message is completed with the word of another register.
-pub fn reply(parts: &mut Parts, from: Register, code: Register, turn: &mut LineBuffer)
+pub fn reply(parts: &mut Parts, from: Register, code: Register, lines: &mut LineBuffer)
     requires next { (p : Image) × IsNext p (Reply from code) parts.old }
-    requires room { length turn.old.lines < turn.old.room }
+    requires room { length lines.old.lines < lines.old.room }
     ensures does { (refused : List ℕ) → Does refused (Reply from code) parts.old parts.new }
-    ensures tells { Tells (Reply from code) parts.old turn.old turn.new }
+    ensures tells { Tells (Reply from code) parts.old lines.old lines.new }
 {
     let code = parts.word(code);
     let message = parts.take_register(from);
-    answer(parts, message, code, turn);
+    answer(parts, message, code, lines);
     parts.next();
 }
 
 /// What waits for the message of that number is told of the code: the object whose token it is, or else the client that sent it.
-fn answer(parts: &mut Parts, number: u32, code: i32, turn: &mut LineBuffer)
+fn answer(parts: &mut Parts, number: u32, code: i32, lines: &mut LineBuffer)
     requires open { IsAnswerable number parts.old }
-    requires room { length turn.old.lines < turn.old.room }
-    ensures { Answers number code parts.old parts.new turn.old turn.new }
+    requires room { length lines.old.lines < lines.old.room }
+    ensures { Answers number code parts.old parts.new lines.old lines.new }
 {
     let id = MessageId::numbered(number);
     if parts.tokens.class(id).is_some() {
         redeem(parts, id, code);
     } else {
-        complete(parts, number, code, turn);
+        complete(parts, number, code, lines);
     }
 }
 
@@ -110,15 +110,15 @@ fn hand_out(parts: &mut Parts, id: CellId, class: ClassNumber) -> u32
 }
 
 /// The message of that number is completed with that code. It is kept no more, and its place and its slot are free.
-pub fn complete(parts: &mut Parts, number: u32, code: i32, turn: &mut LineBuffer)
+pub fn complete(parts: &mut Parts, number: u32, code: i32, lines: &mut LineBuffer)
     requires taken { IsTaken number parts.old }
-    requires room { length turn.old.lines < turn.old.room }
-    ensures { Completes number code parts.old parts.new turn.old turn.new }
+    requires room { length lines.old.lines < lines.old.room }
+    ensures { Completes number code parts.old parts.new lines.old lines.new }
 {
     let id = MessageId::numbered(number);
     let completion = parts.clients.complete(id.place());
     parts.messages.release(id);
-    turn.push(completion_line(completion, code));
+    lines.push(completion_line(completion, code));
 }
 
 /// How the client is told of a completion, or that nobody is.

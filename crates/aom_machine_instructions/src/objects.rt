@@ -6,10 +6,10 @@ ghost use Rattle.aom_machine_instructions.specs.Acts.{Does};
 ghost use Rattle.aom_machine_instructions.specs.Next.{IsNext};
 
 use aom_cells::NULL;
-use aom_image::{ClassNumber, Place, Register};
+use aom_image::{ClassNumber, InstrPlace, Register};
 use aom_machine_state::{LineBuffer, Parts};
 
-pub fn jump_null(parts: &mut Parts, from: Register, place: Place)
+pub fn jump_null(parts: &mut Parts, from: Register, place: InstrPlace)
     requires { (p : Image) × IsNext p (JumpNull from place) parts.old }
     ensures { (refused : List ℕ) → Does refused (JumpNull from place) parts.old parts.new }
 {
@@ -30,11 +30,11 @@ pub fn move_to(parts: &mut Parts, to: Register, from: Register)
 }
 
 #[inline(always)]
-pub fn create(parts: &mut Parts, to: Register, class: ClassNumber, turn: &LineBuffer)
+pub fn create(parts: &mut Parts, to: Register, class: ClassNumber, lines: &LineBuffer)
     requires { (p : Image) × IsNext p (New to class) parts.old }
-    ensures { Does turn.now.refused (New to class) parts.old parts.new }
+    ensures { Does lines.now.refused (New to class) parts.old parts.new }
 {
-    let refused = parts.request_cell(turn);
+    let refused = parts.request_cell(lines);
     let number = parts.new_cell(class, refused);
     parts.bring(to, number);
 }

@@ -1,5 +1,5 @@
 //! Instructions on the request of the active object whose method runs.
-ghost use Rattle.aom_semantics.specs.Enlisted.{due_after};
+ghost use Rattle.aom_semantics.specs.Requests.{due_after};
 ghost use Rattle.std.specs.Prelude.{◌≡◌, ◌<◌, ◌+◌, ◌^◌, ℕ, IfSome, List, Some, cond, true};
 ghost use Rattle.aom_cells.specs.Heap.{class_at};
 ghost use Rattle.aom_classes.specs.Roles.{or_else};
@@ -21,7 +21,7 @@ ghost use Rattle.aom_semantics.specs.Words.{word_or_zero};
 use crate::{going, natives};
 use aom_cells::CellId;
 use aom_frames::{Frame, Task, View};
-use aom_image::{ClassKind, ClassNumber, Place, Provider, Register, Role};
+use aom_image::{ClassKind, ClassNumber, InstrPlace, Provider, Register, Role};
 use aom_linked::Linked;
 use aom_machine_state::Parts;
 
@@ -33,7 +33,7 @@ fn due_after(clock: u64, interval: i32) -> u64
 }
 
 /// The method goes on at that place where a test holds, and else at its next one.
-fn jump_if(parts: &mut Parts, holds: bool, place: Place)
+fn jump_if(parts: &mut Parts, holds: bool, place: InstrPlace)
     requires runs { Runs parts.old.stack.tasks }
     requires within { place_here parts.old.stack.tasks + 1 < 2 ^ 64 }
     ensures { parts.new ≡ cond holds (to_place place parts.old) (next parts.old) }
@@ -45,7 +45,7 @@ fn jump_if(parts: &mut Parts, holds: bool, place: Place)
     }
 }
 
-pub fn jump_active(parts: &mut Parts, place: Place)
+pub fn jump_active(parts: &mut Parts, place: InstrPlace)
     requires { (p : Image) × IsNext p (JumpActive place) parts.old }
     ensures { (refused : List ℕ) → Does refused (JumpActive place) parts.old parts.new }
 {
@@ -53,7 +53,7 @@ pub fn jump_active(parts: &mut Parts, place: Place)
     jump_if(parts, busy, place);
 }
 
-pub fn jump_added(parts: &mut Parts, place: Place)
+pub fn jump_added(parts: &mut Parts, place: InstrPlace)
     requires { (p : Image) × IsNext p (JumpAdded place) parts.old }
     ensures { (refused : List ℕ) → Does refused (JumpAdded place) parts.old parts.new }
 {

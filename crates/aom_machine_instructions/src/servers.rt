@@ -45,21 +45,21 @@ pub fn redispatch(parts: &mut Parts, dispatch: Dispatch)
 }
 
 /// A stage of the dispatch of a server is over for that client.
-pub fn end_stage(parts: &mut Parts, client: u8, stage: Stage, turn: &mut LineBuffer)
+pub fn end_stage(parts: &mut Parts, client: u8, stage: Stage, lines: &mut LineBuffer)
     requires can { CanEndStage client stage parts.old }
-    requires room { length turn.old.lines < turn.old.room }
-    ensures { EndsStage client stage parts.old parts.new turn.old turn.new }
+    requires room { length lines.old.lines < lines.old.room }
+    ensures { EndsStage client stage parts.old parts.new lines.old lines.new }
 {
     match stage {
         Stage::Accepts | Stage::Serves(_) => {}
-        Stage::Accepted => turn.push(Line::Reply(client, 0)),
+        Stage::Accepted => lines.push(Line::Reply(client, 0)),
         Stage::AcceptLeft(code) => {
             parts.clients.connected(client, None);
-            turn.push(Line::Reply(client, code));
+            lines.push(Line::Reply(client, code));
         }
         Stage::ServiceLeft(code) => {
             let message = messages::take_served(parts);
-            messages::complete(parts, message, code, turn);
+            messages::complete(parts, message, code, lines);
         }
         Stage::Parts => parts.clients.closed(client),
     }
@@ -79,66 +79,66 @@ pub fn take_session(parts: &mut Parts, server: u16) -> Option<u32>
 
 /// All that waits in the queue of a server goes with it, and the sessions with it end. Of most cells there is none, which is seen at once.
 #[inline(always)]
-pub fn end_server(parts: &mut Parts, server: u16, turn: &mut LineBuffer)
+pub fn end_server(parts: &mut Parts, server: u16, lines: &mut LineBuffer)
     requires can { CanVanish server parts.old }
-    requires room { length turn.old.lines + answers (queue_at parts.old.clients server) ≤ turn.old.room }
+    requires room { length lines.old.lines + answers (queue_at parts.old.clients server) ≤ lines.old.room }
     ensures clients { parts.new.clients ≡ server_gone server parts.old.clients }
     ensures messages { Drops (queue_at parts.old.clients server) parts.old.messages parts.new.messages }
     ensures rest { parts.new ≡ record parts.old { clients = parts.new.clients; messages = parts.new.messages } }
-    ensures told { turn.new ≡ record turn.old { lines = turn.old.lines ++ gone_lines parts.old.clients (queue_at parts.old.clients server) } }
+    ensures told { lines.new ≡ record lines.old { lines = lines.old.lines ++ gone_lines parts.old.clients (queue_at parts.old.clients server) } }
 {
-    end_queue(parts, server, turn);
+    end_queue(parts, server, lines);
     end_sessions(&mut parts.clients, server);
 }
 
 /// What waits in the queue of a server goes with it, if anything does.
 #[inline(always)]
-fn end_queue(parts: &mut Parts, server: u16, turn: &mut LineBuffer)
+fn end_queue(parts: &mut Parts, server: u16, lines: &mut LineBuffer)
     requires can { CanVanish server parts.old }
-    requires room { length turn.old.lines + answers (queue_at parts.old.clients server) ≤ turn.old.room }
+    requires room { length lines.old.lines + answers (queue_at parts.old.clients server) ≤ lines.old.room }
     ensures clients { parts.new.clients ≡ queue_gone server (queue_at parts.old.clients server) parts.old.clients }
     ensures empty { queue_at parts.new.clients server ≡ [] }
     ensures within { server < length parts.new.clients.queues }
     ensures messages { Drops (queue_at parts.old.clients server) parts.old.messages parts.new.messages }
     ensures rest { parts.new ≡ record parts.old { clients = parts.new.clients; messages = parts.new.messages } }
-    ensures told { turn.new ≡ record turn.old { lines = turn.old.lines ++ gone_lines parts.old.clients (queue_at parts.old.clients server) } }
+    ensures told { lines.new ≡ record lines.old { lines = lines.old.lines ++ gone_lines parts.old.clients (queue_at parts.old.clients server) } }
 {
     if parts.clients.is_queued(server) {
-        end_entries(parts, server, turn);
+        end_entries(parts, server, lines);
     }
 }
 
 /// What waits in the queue of a server goes with it, the first first.
 #[inline(never)]
-fn end_entries(parts: &mut Parts, server: u16, turn: &mut LineBuffer)
+fn end_entries(parts: &mut Parts, server: u16, lines: &mut LineBuffer)
     requires can { CanVanish server parts.old }
-    requires room { length turn.old.lines + answers (queue_at parts.old.clients server) ≤ turn.old.room }
+    requires room { length lines.old.lines + answers (queue_at parts.old.clients server) ≤ lines.old.room }
     ensures clients { parts.new.clients ≡ queue_gone server (queue_at parts.old.clients server) parts.old.clients }
     ensures empty { queue_at parts.new.clients server ≡ [] }
     ensures within { server < length parts.new.clients.queues }
     ensures messages { Drops (queue_at parts.old.clients server) parts.old.messages parts.new.messages }
     ensures rest { parts.new ≡ record parts.old { clients = parts.new.clients; messages = parts.new.messages } }
-    ensures told { turn.new ≡ record turn.old { lines = turn.old.lines ++ gone_lines parts.old.clients (queue_at parts.old.clients server) } }
+    ensures told { lines.new ≡ record lines.old { lines = lines.old.lines ++ gone_lines parts.old.clients (queue_at parts.old.clients server) } }
 {
     while let Some(taken) = parts.clients.next_gone(server) {
-        end_entry(parts, taken, turn);
+        end_entry(parts, taken, lines);
     }
 }
 
 /// What waited in the queue of a server that goes is completed, but for a close.
-fn end_entry(parts: &mut Parts, taken: Taken, turn: &mut LineBuffer)
+fn end_entry(parts: &mut Parts, taken: Taken, lines: &mut LineBuffer)
     requires kept { EntryKept parts.old.messages taken.entry }
     requires below { IsNumbered taken }
-    requires room { length turn.old.lines + answers (taken.entry ∷ []) ≤ turn.old.room }
+    requires room { length lines.old.lines + answers (taken.entry ∷ []) ≤ lines.old.room }
     ensures messages { Drops (taken.entry ∷ []) parts.old.messages parts.new.messages }
     ensures rest { parts.new ≡ record parts.old { messages = parts.new.messages } }
-    ensures told { turn.new ≡ record turn.old { lines = turn.old.lines ++ gone_line taken } }
+    ensures told { lines.new ≡ record lines.old { lines = lines.old.lines ++ gone_line taken } }
 {
     match taken.entry {
-        QueueEntry::Connect { .. } => turn.push(Line::Reply(taken.client, TERMINATED)),
+        QueueEntry::Connect { .. } => lines.push(Line::Reply(taken.client, TERMINATED)),
         QueueEntry::Message { place } => {
             parts.messages.release(MessageId::new(place));
-            turn.push(Line::Reply(taken.client, TERMINATED));
+            lines.push(Line::Reply(taken.client, TERMINATED));
         }
         QueueEntry::Close { .. } => {}
     }

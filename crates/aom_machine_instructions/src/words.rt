@@ -26,13 +26,13 @@ pub fn store(parts: &mut Parts, word: WordIndex, from: Register)
     parts.next();
 }
 
-pub fn print(parts: &mut Parts, from: Register, turn: &mut LineBuffer)
+pub fn print(parts: &mut Parts, from: Register, lines: &mut LineBuffer)
     requires next { (p : Image) × IsNext p (Print from) parts.old }
-    requires room { length turn.old.lines < turn.old.room }
+    requires room { length lines.old.lines < lines.old.room }
     ensures does { (refused : List ℕ) → Does refused (Print from) parts.old parts.new }
-    ensures tells { Tells (Print from) parts.old turn.old turn.new }
+    ensures tells { Tells (Print from) parts.old lines.old lines.new }
 {
     let word = parts.word(from);
-    turn.push(Line::Out(word));
+    lines.push(Line::Out(word));
     parts.next();
 }

@@ -5,7 +5,7 @@ use Rattle.aom_active.specs.Agrees.{Tells, phase_of}
 use Rattle.aom_scheduler.specs.Requests.{is_pending}
 use Rattle.aom_scheduler.specs.declared.request.Request.{Request as Machine_request}
 use Rattle.aom_scheduler.specs.declared.request.Request.TheVariants.{Object as Machine_object}
-use Rattle.aom_semantics.specs.Enlisted.{is_aborted, is_idle, is_unanswered, pending}
+use Rattle.aom_semantics.specs.Requests.{is_aborted, is_idle, is_unanswered, pending}
 use Rattle.aom_semantics.specs.Natives.{is_owed}
 use Rattle.aom_semantics.specs.Places.{Request}
 

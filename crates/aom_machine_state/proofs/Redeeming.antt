@@ -23,7 +23,7 @@ use Rattle.aom_machine_state.proofs.SafetyLemmas.{living_waits, message_plain, r
 use Rattle.aom_machine_state.proofs.SafetyLemmas.{service_unnamed, service_without, void_waits_none}
 use Rattle.aom_machine_state.proofs.SemanticsLemmas.{count_kept, held_lives, read_kept, sessions, unnamed}
 use Rattle.aom_semantics.specs.Clients.{count_messages}
-use Rattle.aom_semantics.specs.Enlisted.{on_request}
+use Rattle.aom_semantics.specs.Requests.{on_request}
 use Rattle.aom_safety.specs.Kept.{IsKept}
 use Rattle.aom_semantics.specs.Places.{Cell, Object, Place, Request, Service, Token, held, named, requested, service_of, unserved, without, word_field}
 use Rattle.aom_semantics.specs.Servers.{is_queue}

@@ -18,7 +18,7 @@ use Rattle.aom_cells.specs.Sessions.{Standing}
 use Rattle.aom_machine_state.proofs.SemanticsLemmas.{held_lives, same_place-true, unnamed}
 use Rattle.aom_machine_state.proofs.SafetyLemmas.{cell_name, cell_of, cell_placed, has_sender, held_cell, message_plain, object_in, request_in, requested_cell}
 use Rattle.aom_machine_state.proofs.SafetyLemmas.{service_unnamed, service_without, without_so}
-use Rattle.aom_semantics.specs.Enlisted.{thing_kind}
+use Rattle.aom_semantics.specs.Requests.{thing_kind}
 use Rattle.aom_safety.specs.Kept.{HasSources, IsKept, sources_of}
 use Rattle.aom_safety.specs.Laws.{IsWired}
 use Rattle.aom_semantics.specs.Places.{Cell, Object, Place, Service, held, named, requested, same_place, service_of, without}

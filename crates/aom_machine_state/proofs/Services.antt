@@ -15,7 +15,7 @@ use Rattle.aom_clients.specs.Lists.{Table}
 use Rattle.aom_machine_state.proofs.SemanticsLemmas.{named_moved, requested_moved}
 use Rattle.aom_machine_state.proofs.SafetyLemmas.{named_set_word, requested_set_word, rerequested_alike, resessioned_alike, resessioned_requests}
 use Rattle.aom_semantics.specs.Calls.{passed_cells}
-use Rattle.aom_semantics.specs.Enlisted.{ended_cells, own_request, rerequested}
+use Rattle.aom_semantics.specs.Requests.{ended_cells, own_request, rerequested}
 use Rattle.aom_semantics.specs.Natives.{resessioned}
 use Rattle.aom_semantics.specs.Places.{Cell, Object, Place, Register, Request, Service, moved, named, requested, set_request, set_word_field, with_new}
 use Rattle.aom_semantics.specs.Servers.{is_queue}

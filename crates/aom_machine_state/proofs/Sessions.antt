@@ -10,7 +10,7 @@ use Rattle.aom_cells.specs.Sessions.{Sets, Standing, is_open}
 use Rattle.aom_machine_state.proofs.SafetyLemmas.{count_opened, resessioned_alike, session_asked, session_moved, session_new, session_set_word, session_unnamed}
 use Rattle.aom_machine_state.proofs.SafetyLemmas.{session_without}
 use Rattle.aom_semantics.specs.Calls.{passed_cells}
-use Rattle.aom_semantics.specs.Enlisted.{rerequested}
+use Rattle.aom_semantics.specs.Requests.{rerequested}
 use Rattle.aom_semantics.specs.Places.{Cell, Object, Place, Register, Request, Tidy, held, in_session, moved}
 use Rattle.aom_semantics.specs.Places.{named, set_request, set_session, with_new, without, word_field}
 use Rattle.aom_semantics.specs.State.{Frame, Home, Inside, State, Task}

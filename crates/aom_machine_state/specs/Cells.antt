@@ -12,10 +12,10 @@ use Rattle.aom_active.specs.Meanings.{Removes}
 
 -- a request is refused: the script names its number, or, where it is for a cell, the heap is full
 abbrev pub refuses_entry : LineBuffer → Parts → Bool
-refuses_entry turn m = list_any (λ n. n == raised m.rest.requests) turn.refused
+refuses_entry lines m = list_any (λ n. n == raised m.rest.requests) lines.refused
 
 abbrev pub refuses : LineBuffer → Parts → Bool
-refuses turn m = refuses_entry turn m || nat_le m.cells.limit (count m.cells)
+refuses lines m = refuses_entry lines m || nat_le m.cells.limit (count m.cells)
 
 -- a number for a new cell: null and the cells as they were, or a number below the limit that was free
 abbrev pub Made : ℕ → Bool → ℕ → Heap → Heap → Type 0

@@ -1,4 +1,4 @@
--- The lines of a turn, as contracts see them.
+-- A buffer of lines, as contracts see it.
 use Rattle.std.specs.Prelude.{ℕ, ◌+◌, List}
 use Rattle.aom_transcript.specs.declared.line.Line.{Line}
 

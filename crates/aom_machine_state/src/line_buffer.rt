@@ -1,4 +1,4 @@
-//! The lines of a turn, and the room for them.
+//! A buffer of lines, and the room for them.
 ghost use Rattle.std.specs.Prelude.{◌≡◌, ◌+◌, ◌<◌, ◌==◌, [], ◌∷◌, ◌++◌, length, IfOk};
 ghost use Rattle.std.specs.List.{list_any};
 ghost use Rattle.aom_machine_state.specs.LineBuffer.{step_lines};

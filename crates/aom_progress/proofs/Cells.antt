@@ -3,7 +3,7 @@ use Rattle.std.proofs.lemmas.Bool.Decides.{nat_tests}
 use Rattle.std.proofs.Common.{◌≡◌, ◌≤◌, ◌∙◌, ℕ, ℤ, suc, Bool, true, false, cond, List, [], ◌∷◌, Option, Some, refl, ap, arith}
 use Rattle.aom_image.specs.declared.method.Thing.{Thing}
 use Rattle.aom_roles.specs.Things.{is_object}
-use Rattle.aom_semantics.specs.Enlisted.{rerequested}
+use Rattle.aom_semantics.specs.Requests.{rerequested}
 use Rattle.aom_semantics.specs.Places.{Cell, Elsewhere, Going, Object, Place, Register, Request, Service, Session, held, moved}
 use Rattle.aom_semantics.specs.Places.{service_of, set_request, set_service, set_session, set_word_field, with_new, without}
 use Rattle.aom_semantics.specs.State.{Accepts, Dispatch, Home, Item, Of_server, field_place}

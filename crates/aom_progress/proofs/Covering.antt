@@ -32,7 +32,7 @@ use Rattle.aom_progress.proofs.SafetyLemmas.{not_full, some_left, unlisted_in}
 use Rattle.aom_safety.specs.Claims.{Layer, tasks_of}
 use Rattle.aom_semantics.specs.Effects.{Calls, Cancels, Destroys, Destroys_last, Effect, Goes_on, Jumps, Leaves, Operates, Pushed, Pushed_operation}
 use Rattle.aom_semantics.specs.Effects.{Returns, Sets_trap, Update, cancels_if, deals, deletes, effect, jumps_if, jumps_unless, round}
-use Rattle.aom_semantics.specs.Enlisted.{cancel_method, in_phase, is_active, is_busy, own_request}
+use Rattle.aom_semantics.specs.Requests.{cancel_method, in_phase, is_active, is_busy, own_request}
 use Rattle.aom_semantics.specs.Places.{Object, held, seen}
 use Rattle.aom_semantics.specs.State.{Choice, Frame, Item, State, Task, counter, field_place}
 use Rattle.aom_safety.specs.WellTyped.{Fits}

@@ -45,7 +45,7 @@ use Rattle.std.proofs.lemmas.Bool.{true≢false}
 use Rattle.aom_roles.specs.Things.{is_object}
 use Rattle.aom_roles.specs.Tests.{AllTrue, only_if}
 use Rattle.aom_semantics.specs.Tokens.{next_token, promised}
-use Rattle.aom_semantics.specs.Enlisted.{cancel_method, ended_cells, on_request, own_request}
+use Rattle.aom_semantics.specs.Requests.{cancel_method, ended_cells, on_request, own_request}
 
 -- ---- an instruction
 

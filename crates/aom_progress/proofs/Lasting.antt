@@ -16,7 +16,7 @@ use Rattle.aom_semantics.specs.Cleanup.{to_trap, top_place}
 use Rattle.aom_semantics.specs.Clients.{each_unslotted}
 use Rattle.aom_semantics.specs.Effects.{Carried, Made, Popped, Pushed, Replied, Handed}
 use Rattle.aom_semantics.specs.Effects.{Requested, Sessioned, Spot, Update, Written, cells_after, spot_place}
-use Rattle.aom_semantics.specs.Enlisted.{ended_cells, on_request, own_request, rerequested}
+use Rattle.aom_semantics.specs.Requests.{ended_cells, on_request, own_request, rerequested}
 use Rattle.aom_semantics.specs.Places.{Cell, Entry, Going, Object, Place, Request, held, moved, same_place, without}
 use Rattle.aom_semantics.specs.Servers.{all_unslotted, is_queue_of, without_queue}
 use Rattle.aom_semantics.specs.State.{Closing, Frame, Home, Run, State, Task, resumed}

@@ -47,7 +47,7 @@ use Rattle.aom_progress.proofs.Covering.{Affords, Covers, body_paid, pushes}
 use Rattle.aom_progress.proofs.Pushed.{enters_place, field_no_entry, leaves_place, moved_less, none_moves, operations_below, redeemed_same}
 use Rattle.aom_progress.proofs.Pushed.{rerequested_same, stored_same, resessioned_same, enters_place, served_same, without_less}
 use Rattle.aom_semantics.specs.Tokens.{next_token, promised}
-use Rattle.aom_semantics.specs.Enlisted.{cancelling, on_request, own_request, ended_cells}
+use Rattle.aom_semantics.specs.Requests.{cancelling, on_request, own_request, ended_cells}
 use Rattle.aom_semantics.specs.Servers.{is_server}
 use Rattle.aom_progress.proofs.Lasting.{IsApart, going_apart, lasting, lasts_ended, lasts_moved, lasts_passed, lasts_result, lasts_update, to_trap_closings}
 use Rattle.aom_progress.proofs.Sessions.{FewSeats, stands_at_going}

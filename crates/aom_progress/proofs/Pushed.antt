@@ -2,7 +2,7 @@
 use Rattle.std.proofs.lemmas.Bool.Decides.{nat_tests}
 use Rattle.std.proofs.Common.{◌≡◌, ◌≤◌, ◌+◌, ◌∙◌, ℕ, ℤ, Bool, true, false, List, [], ◌∷◌, Option, Some, None, refl, ap, arith}
 use Rattle.aom_semantics.specs.Tokens.{all_redeemed, redeemed_by}
-use Rattle.aom_semantics.specs.Enlisted.{rerequested}
+use Rattle.aom_semantics.specs.Requests.{rerequested}
 use Rattle.aom_semantics.specs.Clients.{each_unslotted}
 use Rattle.aom_semantics.specs.Places.{Cell, Object, Place, Request, Service, Tidy, held, moved, set_request, set_service, set_session, set_word_field, without}
 use Rattle.aom_semantics.specs.Servers.{all_unslotted, is_queue, withdrawn, without_queue}

@@ -43,7 +43,7 @@ use Rattle.aom_progress.proofs.Cells.{operations_below, standing_accepted, stand
 use Rattle.aom_progress.proofs.Cells.{standing_passes, standing_reserved, standing_without}
 use Rattle.aom_progress.proofs.Sums.{one_less, scaled_le}
 use Rattle.aom_progress.proofs.Worths.{resumed_alike, returned_less, told_alike}
-use Rattle.aom_semantics.specs.Enlisted.{cancel_method, ended_cells}
+use Rattle.aom_semantics.specs.Requests.{cancel_method, ended_cells}
 use Rattle.aom_roles.specs.Things.{holder_of, is_object}
 use Rattle.aom_roles.specs.Tests.{AllTrue}
 

@@ -18,7 +18,7 @@ use Rattle.aom_progress.proofs.SafetyLemmas.{among_others, claim_going_above, fi
 use Rattle.aom_progress.proofs.SemanticsLemmas.{held_lives, held_moved, same_place-true, same_place_refl}
 use Rattle.aom_safety.specs.Claims.{Dispatching, Dying, Ending, Layer, Mark, Method, Unwinding, claim, declared, tasks_of}
 use Rattle.aom_semantics.specs.Clients.{most_of}
-use Rattle.aom_semantics.specs.Enlisted.{thing_kind}
+use Rattle.aom_semantics.specs.Requests.{thing_kind}
 use Rattle.aom_semantics.specs.Places.{Cell, Elsewhere, Going, Object, Place, Session, Tidy, held, moved, named, same_place, seen, service_of}
 use Rattle.aom_semantics.specs.Servers.{has_session, is_among, is_other, is_server, seats_taken, session_class, session_thing}
 use Rattle.aom_safety.specs.WellTyped.{EndsSessions, Back, Caught, Fits, Gone, Good, Leaves, Now, Returns, Stack}

@@ -11,7 +11,7 @@ use Rattle.aom_progress.proofs.SafetyLemmas.{Picked, Polled, accepts, answers, a
 use Rattle.aom_progress.proofs.SafetyLemmas.{picked_so, polled_so, stands_session_of}
 use Rattle.aom_safety.specs.Laws.{IsFamily}
 use Rattle.aom_safety.specs.Counting.{starts}
-use Rattle.aom_semantics.specs.Enlisted.{completed_with, on_request, part_of, recorded, taken_up, timed_out}
+use Rattle.aom_semantics.specs.Requests.{completed_with, on_request, part_of, recorded, taken_up, timed_out}
 use Rattle.aom_semantics.specs.Natives.{bereaved}
 use Rattle.aom_semantics.specs.Places.{Message_of, service_of, Cell, Object, Request, requested, Elsewhere}
 use Rattle.aom_semantics.specs.Places.{Going, In_service, Place, Queued, Session, Tidy, held, moved, named}

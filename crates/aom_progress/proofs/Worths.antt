@@ -16,7 +16,7 @@ use Rattle.aom_semantics.specs.State.{Answered, Asks, Dispatch, Frame, Home, Ite
 use Rattle.aom_safety.specs.WellTyped.{Now, Stack}
 use Rattle.aom_progress.specs.Worths.{Worths, over_worth, tasks_worth, waiting_worth}
 use Rattle.aom_semantics.specs.Destruction.{next_destructor}
-use Rattle.aom_semantics.specs.Enlisted.{ended_cells, rerequested}
+use Rattle.aom_semantics.specs.Requests.{ended_cells, rerequested}
 
 -- ---- cells that are only passed on
 

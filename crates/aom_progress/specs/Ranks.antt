@@ -6,7 +6,7 @@ use Rattle.aom_image.specs.declared.method.Method.{Method}
 use Rattle.aom_image.specs.declared.method.Role.TheVariants.{Error}
 use Rattle.aom_roles.specs.Things.{is_object}
 use Rattle.aom_typings.specs.Most.{line_after}
-use Rattle.aom_semantics.specs.Enlisted.{part_of}
+use Rattle.aom_semantics.specs.Requests.{part_of}
 use Rattle.aom_semantics.specs.Places.{Place, Going, Cell}
 use Rattle.aom_semantics.specs.State.{Frame, Dispatch, Of_main, Main_left, Of_root, Of_object, Object_left, Asks, Answered, Of_server, Seat, Task, Run, Trapped, Destroy, Closing, Unwind, Dispatched, Item, An_object, An_operation, A_mark, State}
 use Rattle.aom_progress.specs.Within.{left}

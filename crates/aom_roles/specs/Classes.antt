@@ -67,6 +67,11 @@ EachOrdered p classes = (c : ℕ) → IfSome (slice_get classes c) (ClassOrdered
 abbrev pub RootOrdered : Image → Type 0
 RootOrdered p = IfSome p.header.root (λ c. is_session p c ≡ false)
 
+-- the root, where it is a session; none where it may be the root
+abbrev pub SessionRoot : Image → Option ℕ → Type 0
+SessionRoot p None = RootOrdered p
+SessionRoot p (Some c) = (p.header.root ≡ Some c) × (is_session p c ≡ true)
+
 -- each class names classes before it, and sessions only where they may be
 pub record ClassesOrdered (p : Image) : Type 0 where
   pub classes : EachOrdered p p.classes

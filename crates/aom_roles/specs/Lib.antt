@@ -1,5 +1,6 @@
 pub mod Families
 pub mod Classes
+pub mod Firsts
 pub mod Roles
 pub mod Shapes
 pub mod States

@@ -1,6 +1,7 @@
 //! What classes own, and whose sessions they are.
 ghost use Rattle.std.specs.Prelude.{◌≡◌, ◌<◌, ◌↔◌, IsTrue, All};
-ghost use Rattle.aom_roles.specs.Classes.{sessions_of, is_session_kind, kind_at, is_session_in, is_session, sessions_in, sessions_at, OwnsBefore, SessionsBefore, ParentBefore, ClassOrdered, EachOrdered, RootOrdered, ClassesOrdered};
+ghost use Rattle.aom_roles.specs.Classes.{sessions_of, is_session_kind, kind_at, is_session_in, is_session, sessions_in, sessions_at, OwnsBefore, SessionsBefore, ParentBefore, ClassOrdered, EachOrdered, RootOrdered, SessionRoot, ClassesOrdered};
+ghost use Rattle.aom_roles.specs.Firsts.{FirstOf};
 
 use aom_image::{ClassDecl, ClassKind, ClassNumber, Image, Thing};
 
@@ -106,24 +107,38 @@ fn is_class_ordered(image: &Image, class: usize, decl: &ClassDecl) -> bool
         && has_parent_before(class, decl)
 }
 
-fn is_root_ordered(image: &Image) -> bool
-    ensures { IsTrue result ↔ RootOrdered image.now }
+/// The root, where it is a session.
+pub fn session_root(image: &Image) -> Option<ClassNumber>
+    ensures { SessionRoot image.now result }
 {
     match image.header().root {
-        Some(root) => !is_session(image, root),
-        None => true,
+        Some(root) if is_session(image, root) => Some(root),
+        _ => None,
     }
+}
+
+/// The first class that names one that does not come before it.
+pub fn first_unordered(image: &Image, classes: &[ClassDecl]) -> Option<usize>
+    ensures { FirstOf (ClassOrdered image.now) classes.now result }
+{
+    for (class, decl) in classes.iter().enumerate() {
+        if !is_class_ordered(image, class, decl) {
+            return Some(class);
+        }
+    }
+    None
 }
 
 fn is_each_ordered(image: &Image, classes: &[ClassDecl]) -> bool
     ensures { IsTrue result ↔ EachOrdered image.now classes.now }
 {
-    for (class, decl) in classes.iter().enumerate() {
-        if !is_class_ordered(image, class, decl) {
-            return false;
-        }
-    }
-    true
+    first_unordered(image, classes).is_none()
+}
+
+fn is_root_ordered(image: &Image) -> bool
+    ensures { IsTrue result ↔ RootOrdered image.now }
+{
+    session_root(image).is_none()
 }
 
 pub fn classes_are_ordered(image: &Image) -> bool

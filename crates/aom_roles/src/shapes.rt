@@ -5,6 +5,7 @@ ghost use Rattle.aom_image.specs.Views.{gives_of, method_role};
 ghost use Rattle.aom_roles.specs.Roles.{role_number};
 ghost use Rattle.aom_roles.specs.States.{states_of};
 ghost use Rattle.aom_roles.specs.Shapes.{may_leave, is_quiet, is_word, TakesWords, gives_nothing, gives_word, gives_left, is_object, gives_object, is_active_in, kind_of, StandsStill, DoesActive, DoesServer, IsDo, IsMain, IsConstruct, IsDestruct, IsRun, IsCancel, IsError, IsAccept, IsService, IsUndo, HasShape, FlagsFit, is_role, has_role, IsTrapped, NamesRoles, IsShaped, AllShaped};
+ghost use Rattle.aom_roles.specs.Firsts.{FirstOf};
 
 use crate::class_order::{is_session_in, kind_at, sessions_in};
 use crate::roles::same_role;
@@ -304,10 +305,22 @@ fn names_roles(image: &Image, instr: &Instr) -> bool
     }
 }
 
+/// The first instruction that names a method of a role that it may not.
+pub fn first_misnaming(image: &Image, code: &[Instr]) -> Option<usize>
+    ensures { FirstOf (λ _. NamesRoles image.now) code.now result }
+{
+    for (place, instr) in code.iter().enumerate() {
+        if !names_roles(image, instr) {
+            return Some(place);
+        }
+    }
+    None
+}
+
 fn each_names_roles(image: &Image, code: &[Instr]) -> bool
     ensures { IsTrue result ↔ All (NamesRoles image.now) code.now }
 {
-    code.iter().all(|instr| names_roles(image, instr))
+    first_misnaming(image, code).is_none()
 }
 
 fn is_shaped(image: &Image, method: &Method) -> bool
@@ -318,13 +331,21 @@ fn is_shaped(image: &Image, method: &Method) -> bool
         && each_names_roles(image, method.code.as_slice())
 }
 
+/// The first method that has not the shape of its role, or that names one of a role that it may not.
+pub fn first_unshaped(image: &Image, methods: &[Method]) -> Option<usize>
+    ensures { FirstOf (λ _. IsShaped image.now) methods.now result }
+{
+    for (number, method) in methods.iter().enumerate() {
+        if !is_shaped(image, method) {
+            return Some(number);
+        }
+    }
+    None
+}
+
 /// Whether each method has the shape of its role, and each instruction names methods of the roles that it may.
 pub fn all_are_shaped(image: &Image) -> bool
     ensures { IsTrue result ↔ AllShaped image.now }
 {
-    image
-        .methods()
-        .as_slice()
-        .iter()
-        .all(|method| is_shaped(image, method))
+    first_unshaped(image, image.methods().as_slice()).is_none()
 }

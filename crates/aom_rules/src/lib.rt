@@ -6,15 +6,15 @@
 //! of the machine, of sweeps or of prices.
 #![tactic(auto)]
 
-mod active;
 mod cleanup;
 mod laws;
 mod messages;
 mod natives;
 mod objects;
+mod requests;
 mod rules;
 mod words;
 
-pub use active::{enlisted, inactive, outstanding};
 pub use laws::rules_are_monotone;
+pub use requests::{enlisted, inactive, outstanding};
 pub use rules::{Ruling, rule};

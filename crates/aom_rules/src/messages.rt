@@ -10,7 +10,7 @@ ghost use Rattle.aom_rules.specs.Requests.{own_kind};
 ghost use Rattle.aom_rules.specs.Rules.{Tells};
 ghost use Rattle.aom_shape.specs.declared.why.Why.TheVariants.{RegisterKind};
 
-use crate::active::{needs_added, needs_states};
+use crate::requests::{needs_added, needs_states};
 use crate::rules::Ruling;
 use aom_image::{ClassKind, ClassNumber, Provider, Register, States, Thing};
 use aom_linked::Linked;

@@ -8,7 +8,7 @@ ghost use Rattle.aom_rules.specs.Requests.{own_kind};
 ghost use Rattle.aom_rules.specs.Rules.{Tells};
 ghost use Rattle.aom_shape.specs.declared.why.Why.TheVariants.{RegisterKind};
 
-use crate::active::{needs_states, server_states};
+use crate::requests::{needs_states, server_states};
 use crate::rules::Ruling;
 use crate::words::with_word;
 use aom_image::{ClassKind, ClassNumber, Provider, Register};

@@ -7,7 +7,7 @@ ghost use Rattle.aom_shape.specs.Changes.{ways_from};
 ghost use Rattle.aom_shape.specs.Kinds.{register, field};
 
 use crate::rules::Ruling;
-use aom_image::{ClassNumber, FieldIndex, Place, Register, Role, Thing};
+use aom_image::{ClassNumber, FieldIndex, InstrPlace, Register, Role, Thing};
 use aom_shape::{Age, Filling, Flow, Kind, Why, judge};
 use aom_site::Site;
 
@@ -23,7 +23,7 @@ pub(crate) fn rule_move(site: &Site<'_>, a: Register, b: Register) -> Ruling
 }
 
 /// A flow that cannot be is left out.
-fn flow_jump_null(site: &Site<'_>, a: Register, to: Place) -> Flow
+fn flow_jump_null(site: &Site<'_>, a: Register, to: InstrPlace) -> Flow
     ensures { ways_from site.now.shape.entries result ≡ flow_jump_null site.now.image site.now.method site.now.place site.now.shape (register site.now.shape a) a to }
 {
     match site.shape.register(a) {
@@ -38,14 +38,14 @@ fn flow_jump_null(site: &Site<'_>, a: Register, to: Place) -> Flow
     }
 }
 
-pub(crate) fn rule_jump_null(site: &Site<'_>, a: Register, to: Place) -> Ruling
+pub(crate) fn rule_jump_null(site: &Site<'_>, a: Register, to: InstrPlace) -> Ruling
     ensures { Tells site.now (JumpNull a to) result }
 {
     judge(&[site.needs_object_or_null(a)], flow_jump_null(site, a, to))
 }
 
 /// A flow that cannot be is left out.
-fn flow_jump_empty(site: &Site<'_>, f: FieldIndex, to: Place) -> Flow
+fn flow_jump_empty(site: &Site<'_>, f: FieldIndex, to: InstrPlace) -> Flow
     ensures { ways_from site.now.shape.entries result ≡ flow_jump_empty site.now.image site.now.method site.now.place site.now.shape (field site.now.shape f) f to }
 {
     match site.shape.field(f) {
@@ -59,7 +59,7 @@ fn flow_jump_empty(site: &Site<'_>, f: FieldIndex, to: Place) -> Flow
     }
 }
 
-pub(crate) fn rule_jump_empty(site: &Site<'_>, f: FieldIndex, to: Place) -> Ruling
+pub(crate) fn rule_jump_empty(site: &Site<'_>, f: FieldIndex, to: InstrPlace) -> Ruling
     ensures { Tells site.now (JumpEmpty f to) result }
 {
     judge(&[site.needs_field(f)], flow_jump_empty(site, f, to))

@@ -5,10 +5,6 @@ ghost use Rattle.aom_site.specs.Calls.{HasCallee, HasCodeRegister};
 ghost use Rattle.aom_shape.specs.Changes.{told};
 ghost use Rattle.aom_rules.specs.Rules.{rule};
 
-use crate::active::{
-    rule_abort, rule_cancel, rule_enlist, rule_issue, rule_jump_active, rule_jump_added,
-    rule_set_active, rule_status,
-};
 use crate::cleanup::{
     rule_leave, rule_leave_if, rule_new_or_leave, rule_pop, rule_pop_delete, rule_pop_operation,
     rule_push, rule_push_operation,
@@ -17,6 +13,10 @@ use crate::messages::{rule_hand, rule_reply, rule_take_message};
 use crate::natives::{rule_ask, rule_close, rule_connect};
 use crate::objects::{
     rule_delete, rule_jump_empty, rule_jump_null, rule_move, rule_new, rule_put, rule_take,
+};
+use crate::requests::{
+    rule_abort, rule_cancel, rule_enlist, rule_issue, rule_jump_active, rule_jump_added,
+    rule_set_active, rule_status,
 };
 use crate::words::{
     rule_combine, rule_compare, rule_const, rule_copy, rule_jump, rule_load, rule_loop, rule_next,

@@ -6,7 +6,7 @@ ghost use Rattle.aom_rules.specs.Words.{flow_word};
 ghost use Rattle.aom_shape.specs.Changes.{ways_from};
 
 use crate::rules::Ruling;
-use aom_image::{Place, Register, WordIndex};
+use aom_image::{InstrPlace, Register, WordIndex};
 use aom_shape::{Flow, Kind, judge};
 use aom_site::Site;
 
@@ -42,14 +42,14 @@ pub(crate) fn rule_combine(site: &Site<'_>, a: Register, b: Register, c: Registe
     judge(&needs, with_word(site, a))
 }
 
-pub(crate) fn rule_jump(site: &Site<'_>, to: Place) -> Ruling
+pub(crate) fn rule_jump(site: &Site<'_>, to: InstrPlace) -> Ruling
     ensures { Tells site.now (Jump to) result }
 {
     judge(&[], Flow::to(to.number() as usize, site.shape))
 }
 
 /// The rule of the two jumps that compare words.
-pub(crate) fn rule_compare(site: &Site<'_>, a: Register, b: Register, to: Place) -> Ruling
+pub(crate) fn rule_compare(site: &Site<'_>, a: Register, b: Register, to: InstrPlace) -> Ruling
     ensures { Tells site.now (JumpEqual a b to) result }
 {
     let needs = [site.needs_word(a), site.needs_word(b)];
@@ -62,7 +62,7 @@ pub(crate) fn rule_loop(site: &Site<'_>) -> Ruling
     judge(&[], site.next(site.shape))
 }
 
-pub(crate) fn rule_next(site: &Site<'_>, to: Place) -> Ruling
+pub(crate) fn rule_next(site: &Site<'_>, to: InstrPlace) -> Ruling
     ensures { (depth : ℕ) → Tells site.now (Next depth to) result }
 {
     let to = to.number() as usize;

@@ -17,7 +17,7 @@ use Rattle.aom_semantics.specs.World.{Completes, IsBetween, Environment, Reaches
 use Rattle.aom_transcript.specs.declared.line.Line.{Line}
 use Rattle.aom_transcript.specs.declared.event.TimedEvent.{TimedEvent}
 use Rattle.aom_run.proofs.DeterminismLemmas.{event_there}
-use Rattle.aom_run.proofs.Parts.{completed_same, delivers_alike, delivers_by, delivers_well, no_turn, polled_same, polls_by, still_between}
+use Rattle.aom_run.proofs.Parts.{completed_same, delivers_alike, delivers_by, delivers_well, no_lines, polled_same, polls_by, still_between}
 use Rattle.aom_run.proofs.Parts.{turns_by}
 use Rattle.aom_run.proofs.Reaching.{reaches_both}
 use Rattle.aom_run.proofs.Turnings.{NoneCome, completes_so, delivers_so, polls_so}
@@ -37,7 +37,7 @@ module _ {X : Type 0} {B : X → Type 0} where
     pub one_completed : CompletesDue old new
     one_completed s stands =
         let w = so_far s stands in
-        let x = one no_turn w.0 w.3 in
+        let x = one no_lines w.0 w.3 in
         let t = x.3 in
         let on : (outside : Environment) → s.rest.dispatches < outside.limit → Reaches old.core.image outside s [] t.state = λ outside below.
         let still : w.0.rest.dispatches < outside.limit = subst (λ r. r < outside.limit) (sym (ap (λ r. r.dispatches) w.2)) below in
@@ -47,13 +47,13 @@ module _ {X : Type 0} {B : X → Type 0} where
 
     pub completed_far : Stands m → progress new.core ≡ Turned
     completed_far stands =
-        let x = one no_turn stands.0 stands.1 in
+        let x = one no_lines stands.0 stands.1 in
         let t = x.3 in
         let same = completed_same m.core.image stands.0 t.state x.0.object t.goes in
         turned_far new t.state t.stands (still_between stands.0 t.state same.0 (ap (λ r. r.ended) same.1) t.between)
 
     pub completed_stands : Stands m → Stands new
-    completed_stands stands = let t = (one no_turn stands.0 stands.1).3 in (t.state, t.stands)
+    completed_stands stands = let t = (one no_lines stands.0 stands.1).3 in (t.state, t.stands)
 
   pub fewer_then : (old m new : Machine X B) → (m ≡ old) ⊎ (timers m.core < timers old.core) → timers new.core < timers m.core → timers new.core < timers old.core
   fewer_then old m new x fewer = grind arith
@@ -92,12 +92,12 @@ module _ {X : Type 0} {B : X → Type 0} where
     pub polled_far : Stands m → progress new.core ≡ Turned
     polled_far stands =
         let x = polled stands.0 stands.1 in
-        let t = x.7 no_turn in
+        let t = x.7 no_lines in
         let same = polled_same m.core.image stands.0 t.state x.0 x.2 t.goes in
         turned_far new t.state t.stands (still_between stands.0 t.state same.0 (ap (λ r. r.ended) same.1) t.between)
 
     pub polled_stands : Stands m → Stands new
-    polled_stands stands = let t = (polled stands.0 stands.1).7 no_turn in (t.state, t.stands)
+    polled_stands stands = let t = (polled stands.0 stands.1).7 no_lines in (t.state, t.stands)
 
   -- ---- what has come
 
@@ -238,7 +238,7 @@ module _ {X : Type 0} {B : X → Type 0} where
       pub polled_settles : Settles events m new
       polled_settles s stands =
           let x = polled s stands in
-          let t = x.7 no_turn in
+          let t = x.7 no_lines in
           let same = polled_same m.core.image s t.state x.0 x.2 t.goes in
           let late = ap (λ r. r.delivered) same.1 in
           let still : (refused : List ℕ) (limit : ℕ) → s.rest.dispatches < limit →

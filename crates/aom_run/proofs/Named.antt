@@ -16,7 +16,7 @@ use Rattle.aom_image.specs.declared.method.Thing.{Thing}
 use Rattle.aom_run.proofs.ClassesLemmas.{all_there}
 use Rattle.aom_roles.specs.Classes.{kind_in}
 use Rattle.aom_roles.specs.Shapes.{kind_of}
-use Rattle.aom_semantics.specs.Enlisted.{thing_kind}
+use Rattle.aom_semantics.specs.Requests.{thing_kind}
 use Rattle.aom_semantics.specs.Natives.{native_of}
 use Rattle.aom_semantics.specs.Places.{Cell}
 use Rattle.aom_determinism.specs.Owed.{serves}

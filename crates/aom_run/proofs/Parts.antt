@@ -12,8 +12,8 @@ use Rattle.aom_semantics.specs.World.{turned, turning, turns, written_by}
 use Rattle.aom_transcript.specs.declared.event.Event.{Event}
 use Rattle.aom_transcript.specs.declared.line.Line.{Line}
 
-pub no_turn : LineBuffer
-no_turn = record { lines = []; refused = []; room = 0 }
+pub no_lines : LineBuffer
+no_lines = record { lines = []; refused = []; room = 0 }
 
 pub still_between : (s u : State) → u.tasks ≡ s.tasks → u.rest.ended ≡ s.rest.ended → IsBetween s → IsBetween u
 still_between s u tasks ended between = record { idle = tasks ∙ between.idle; going = ended ∙ between.going }

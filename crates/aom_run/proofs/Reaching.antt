@@ -1,4 +1,4 @@
--- A step of the machine is moves of a run, and steps one after another fill a turn.
+-- A step of the machine is moves of a run, and steps one after another fill a buffer.
 use Rattle.std.proofs.Common.{◌≡◌, ℕ, ℤ, List, [], ◌++◌, sym, ap, subst, ◌∙◌, append-nil, append_assoc}
 use Rattle.aom_run.proofs.ImageLemmas.{cons_given}
 use Rattle.aom_image.specs.Image.{Image}
@@ -70,7 +70,7 @@ module _ {X : Type 0} {B : X → Type 0} where
       ((s : State) → StandsFor old s → (heard : ℤ) × May s heard × SteppedOn old heard progress told now new s) → StepsOn old progress told now new
   steps_of old new progress told now steps s stands = let x = steps s stands in (x.0, x.2)
 
-  -- the turn is filled, however far the machine has come
+  -- the buffer is filled, however far the machine has come
   abbrev pub Went : Machine X B → LineBuffer → LineBuffer → Machine X B → Type 0
   Went old told now new = (s : State) → StandsFor old s → (lines : List Line) × (u : State) × Moving old.core.image told.refused s lines u
       × (now ≡ record told { lines = told.lines ++ lines }) × StandsFor new u
@@ -94,8 +94,8 @@ module _ {X : Type 0} {B : X → Type 0} where
       let ls = x.3.0 ++ x.0 in
       let moving = subst (λ l. Moving old.core.image told.refused s l x.2) (append_assoc w.0 x.3.0 x.0)
       (steps_on _ told.refused heard s (w.0 ++ x.3.0) x.1 x.0 x.2 (quietly_on old.core.image told.refused heard s w.0 w.1 x.3.0 x.1 w.2 quiet) steps) in
-      let turn = x.5 ∙ ap (λ (t : LineBuffer). record t { lines = t.lines ++ ls }) w.3 ∙ ap (λ l. record told { lines = l }) (append_assoc told.lines w.0 ls) in
-      (w.0 ++ ls, x.2, moving, turn, x.6, x.7)
+      let buffer = x.5 ∙ ap (λ (t : LineBuffer). record t { lines = t.lines ++ ls }) w.3 ∙ ap (λ l. record told { lines = l }) (append_assoc told.lines w.0 ls) in
+      (w.0 ++ ls, x.2, moving, buffer, x.6, x.7)
 
   pub stands_on : (m new : Machine X B) (told now : LineBuffer) (progress : Progress) → Stands m → StepsOn m progress told now new → Stands new
   stands_on m new told now progress stands stepped = let x = (stepped stands.0 stands.1).1 in (x.2, x.7)

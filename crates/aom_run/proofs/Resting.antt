@@ -22,7 +22,7 @@ use Rattle.aom_transcript.specs.declared.line.Ending.TheVariants.{Limit, Waiting
 use Rattle.aom_transcript.specs.declared.event.TimedEvent.{TimedEvent}
 use Rattle.aom_run.proofs.DeterminismLemmas.{picked_pays}
 use Rattle.aom_run.proofs.Between.{none_now, settles_both, stands_settled, tells_after, turned_far}
-use Rattle.aom_run.proofs.Parts.{no_turn, still_between, turns_by}
+use Rattle.aom_run.proofs.Parts.{no_lines, still_between, turns_by}
 use Rattle.aom_run.proofs.Turnings.{NoneCome, cuts_so, passes_so, picks_so, waits_so}
 use Rattle.aom_run.specs.Turns.{AllPolled, IsLate, NoneHasCome, Settles, TakesTurns, TellsEnd, hearing, to_come}
 
@@ -145,8 +145,8 @@ module _ {X : Type 0} {B : X → Type 0} where
 
       -- time passes
       module _ (time : ℕ) (e : next ≡ Some time) (passed : Machine X B) (again : passed.core.image ≡ m.core.image) (takes : TakesAll m (Passes time) passed) where
-        at_time : (s : State) (stands : StandsFor m s) → Takes m s (Passes time) no_turn no_turn passed
-        at_time s stands = takes no_turn s stands
+        at_time : (s : State) (stands : StandsFor m s) → Takes m s (Passes time) no_lines no_lines passed
+        at_time s stands = takes no_lines s stands
 
         pub passes_on : Settles events old passed
         passes_on s stands =
@@ -181,7 +181,7 @@ module _ {X : Type 0} {B : X → Type 0} where
             s : State
             s = rests.stands.0
 
-            t : Takes m s (Passes time) no_turn no_turn passed
+            t : Takes m s (Passes time) no_lines no_lines passed
             t = at_time s rests.stands.1
 
             same : t.state ≡ record s { rest = record s.rest { clock = time; polled = 0 } }

@@ -108,7 +108,7 @@ module _ {X : Type 0} {B : X → Type 0} where
   -- ---- a run goes on
 
   module _ {reads : Line → List ℕ} (p : Image) (outside : Environment) (before mid now : Option (List ℕ))
-      (m new : Machine X B) (told turn : LineBuffer) (far : SoFar reads p outside before mid told.lines m) (image : m.core.image ≡ p) where
+      (m new : Machine X B) (told buffer : LineBuffer) (far : SoFar reads p outside before mid told.lines m) (image : m.core.image ≡ p) where
     module _ (same : told.refused ≡ outside.refused) where
       more : (lines : List Line) (u : State) → Moving m.core.image told.refused far.state lines u →
           Reaches p outside (boot_state p) ((far.lines ++ told.lines) ++ lines) u
@@ -118,10 +118,10 @@ module _ {X : Type 0} {B : X → Type 0} where
       text lines = sym (text_by_both reads far.lines (told.lines ++ lines)) ∙ ap (text_by reads) (sym (append_assoc far.lines told.lines lines))
 
       -- all that was told is out, and more
-      pub sent_on : (progress : Progress) → Sent reads m progress told turn mid now new → SoFar reads p outside before now turn.lines new
+      pub sent_on : (progress : Progress) → Sent reads m progress told buffer mid now new → SoFar reads p outside before now buffer.lines new
       sent_on progress sent =
           let x = sent far.state far.stands in
-          let none : turn.lines ≡ [] = ap (λ (t : LineBuffer). t.lines) x.3 in
+          let none : buffer.lines ≡ [] = ap (λ (t : LineBuffer). t.lines) x.3 in
           let lines = (far.lines ++ told.lines) ++ x.0 in
           record {
             lines = lines;
@@ -149,13 +149,13 @@ module _ {X : Type 0} {B : X → Type 0} where
           (subst (λ ls. Reaches p outside (boot_state p) ls far.state) (append-nil far.lines) (grind arith))
           (subst (λ q. Reaches q outside far.state lines u) image turns)
 
-      pub turned_on : TakesTurns m outside None told turn new → SoFar reads p outside before mid turn.lines new
+      pub turned_on : TakesTurns m outside None told buffer new → SoFar reads p outside before mid buffer.lines new
       turned_on takes =
           let x = takes far.state far.stands in
-          let is : turn.lines ≡ x.0 = ap (λ (t : LineBuffer). t.lines) x.3 ∙ ap (λ ls. ls ++ x.0) none in
+          let is : buffer.lines ≡ x.0 = ap (λ (t : LineBuffer). t.lines) x.3 ∙ ap (λ ls. ls ++ x.0) none in
           record { lines = far.lines; state = x.1; reaches = grind (arith, nat_tests, bare x.0 x.1 x.2); stands = x.5; out = far.out }
 
-      pub turned_end : (ending : Ending) → TakesTurns m outside (Some ending) told turn new → Ended reads p outside ending before mid new
+      pub turned_end : (ending : Ending) → TakesTurns m outside (Some ending) told buffer new → Ended reads p outside ending before mid new
       turned_end ending takes =
           let x = takes far.state far.stands in
           let silent : far.lines ++ x.0 ≡ far.lines = ap (λ ls. far.lines ++ ls) x.4.0 ∙ append-nil far.lines in
@@ -177,8 +177,8 @@ module _ {X : Type 0} {B : X → Type 0} where
   -- what a dispatch leaves
   module _ (reads : Line → List ℕ) (m new : Machine X B) (told now : LineBuffer)
       (progress : Progress) (before out : Option (List ℕ)) (stands : Stands m) (sent : Sent reads m progress told now before out new) where
-    pub sent_turn : now ≡ record told { lines = [] }
-    sent_turn = (sent stands.0 stands.1).3
+    pub sent_buffer : now ≡ record told { lines = [] }
+    sent_buffer = (sent stands.0 stands.1).3
 
     pub sent_far : progress ≡ reached new.core
     sent_far = let x = sent stands.0 stands.1 in x.5 ∙ sym (is_as_far new.core x.1 x.7.stands)
@@ -232,26 +232,26 @@ module _ {X : Type 0} {B : X → Type 0} where
   fewer_to_come events limit m new s u v stands then_stands none between same going fewer =
       grind (arith, nat_tests, still_open m.core.parts.rest.ended m.core.parts.stack.tasks between)
 
-  pub fewer_left_by : (reads : Line → List ℕ) (outside : Environment) → outside.limit ≤ 2 ^ 64 - 1 → (m mid new : Machine X B) (told turn now : LineBuffer)
-      (progress : Progress) (before out : Option (List ℕ)) → Stands m → reached m.core ≡ progresses.Turned → TakesTurns m outside None told turn mid →
-      Sent reads mid progress turn now before out new → left outside.events outside.limit new < left outside.events outside.limit m
-  fewer_left_by reads outside few m mid new told turn now progress before out stands between takes sent =
+  pub fewer_left_by : (reads : Line → List ℕ) (outside : Environment) → outside.limit ≤ 2 ^ 64 - 1 → (m mid new : Machine X B) (told buffer now : LineBuffer)
+      (progress : Progress) (before out : Option (List ℕ)) → Stands m → reached m.core ≡ progresses.Turned → TakesTurns m outside None told buffer mid →
+      Sent reads mid progress buffer now before out new → left outside.events outside.limit new < left outside.events outside.limit m
+  fewer_left_by reads outside few m mid new told buffer now progress before out stands between takes sent =
       let x = takes stands.0 stands.1 in
       let y = sent x.1 x.5 in
       go x.1 x.4.2 x.4.1 x.4.3 y.0 y.1 y.2 y.5 y.6 y.7
     where
       go : (u : State) → u.rest.dispatches ≡ stands.0.rest.dispatches → stands.0.rest.dispatches < outside.limit →
           (is_some (payer u.tasks) ≡ true) ⊎ (IsBetween u × (length outside.events - u.rest.delivered < length outside.events - stands.0.rest.delivered))
-          → (lines : List Line) (v : State) → Moving mid.core.image turn.refused u lines v → progress ≡ progress_of v →
+          → (lines : List Line) (v : State) → Moving mid.core.image buffer.refused u lines v → progress ≡ progress_of v →
           progress ≢ progresses.Running → StandsFor new v → left outside.events outside.limit new < left outside.events outside.limit m
       go u same below (inl paid) lines v moving far rests then_stands =
           lower (rounds outside.limit new) (rounds outside.limit m) (to_come outside.events new) (to_come outside.events m) (length outside.events)
-          (fewer_by _ turn.refused _ few m new stands.0 u v lines progress stands.1 then_stands between below same paid moving far rests) (omega arith)
+          (fewer_by _ buffer.refused _ few m new stands.0 u v lines progress stands.1 then_stands between below same paid moving far rests) (omega arith)
       go u same below (inr told) lines v moving far rests then_stands = grind (arith, idle_stays)
 
-  pub fewer_left : (outside : Environment) → outside.limit ≤ 2 ^ 64 - 1 → (m mid new : Machine X B) (told turn now : LineBuffer)
-      (progress : Progress) (before out : Option (List ℕ)) → Stands m → reached m.core ≡ progresses.Turned → TakesTurns m outside None told turn mid →
-      Sent line_text mid progress turn now before out new → left outside.events outside.limit new < left outside.events outside.limit m
+  pub fewer_left : (outside : Environment) → outside.limit ≤ 2 ^ 64 - 1 → (m mid new : Machine X B) (told buffer now : LineBuffer)
+      (progress : Progress) (before out : Option (List ℕ)) → Stands m → reached m.core ≡ progresses.Turned → TakesTurns m outside None told buffer mid →
+      Sent line_text mid progress buffer now before out new → left outside.events outside.limit new < left outside.events outside.limit m
   fewer_left outside = fewer_left_by line_text outside
 
   -- what the machine in the run has of natives and refused requests is what it had at first
@@ -261,19 +261,19 @@ module _ {X : Type 0} {B : X → Type 0} where
   turns_as m new limit events result told now {refused} {natives} same count takes = subst (λ n. TakesTurns m (hearing refused limit n events)
       result told now new) count (subst (λ r. TakesTurns m (hearing r limit (natives_of m) events) result told now new) same takes)
 
-  -- once turns have dispatched: how far the run has come, with what turn, and that the machine stands for a state
+  -- once turns have dispatched: how far the run has come, with what buffer, and that the machine stands for a state
   pub after_turns : {reads : Line → List ℕ}
-      (p : Image) (events : List TimedEvent) (limit : ℕ) (before mid : Option (List ℕ)) (old m : Machine X B) (told turn first : LineBuffer) {natives : ℕ} →
+      (p : Image) (events : List TimedEvent) (limit : ℕ) (before mid : Option (List ℕ)) (old m : Machine X B) (told buffer first : LineBuffer) {natives : ℕ} →
       (far : SoFar reads p (hearing first.refused limit natives events) before mid told.lines old) → old.core.image ≡ p →
-      told ≡ record first { lines = [] } → natives_of old ≡ natives → TakesTurns old (hearing told.refused limit (natives_of old) events) None told turn m →
-      SoFar reads p (hearing first.refused limit natives events) before mid turn.lines m × (turn ≡ record first { lines = turn.lines }) × Stands m
-  after_turns {reads} p events limit before mid old m told turn first {natives} far image is count takes =
+      told ≡ record first { lines = [] } → natives_of old ≡ natives → TakesTurns old (hearing told.refused limit (natives_of old) events) None told buffer m →
+      SoFar reads p (hearing first.refused limit natives events) before mid buffer.lines m × (buffer ≡ record first { lines = buffer.lines }) × Stands m
+  after_turns {reads} p events limit before mid old m told buffer first {natives} far image is count takes =
       let outside = hearing first.refused limit natives events in
       let stands : Stands old = (far.state, far.stands) in
-      let turns = turns_as old m limit events None told turn (ap (λ (t : LineBuffer). t.refused) is) count takes in (
-        turned_on p outside before mid mid old m told turn far image (ap (λ (t : LineBuffer). t.lines) is) turns,
-        turned_same old m outside told turn stands turns ∙ ap (λ (t : LineBuffer). record t { lines = turn.lines }) is,
-        turned_stands old m outside told turn stands turns,
+      let turns = turns_as old m limit events None told buffer (ap (λ (t : LineBuffer). t.refused) is) count takes in (
+        turned_on p outside before mid mid old m told buffer far image (ap (λ (t : LineBuffer). t.lines) is) turns,
+        turned_same old m outside told buffer stands turns ∙ ap (λ (t : LineBuffer). record t { lines = buffer.lines }) is,
+        turned_stands old m outside told buffer stands turns,
       )
 
   -- the last line after the others

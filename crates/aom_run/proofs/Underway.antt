@@ -14,40 +14,40 @@ use Rattle.aom_run.specs.Runs.{after, begins, CutOff, Filled, Moving, Sent}
 use Rattle.aom_run.proofs.Reaching.{moving_both}
 use Rattle.aom_run.proofs.Sending.{after_both, after_none, cut_next, text_by_both}
 
--- of the lines so far, those that were told before among them, some are out, and the others are in the turn
+-- of the lines so far, those that were told before among them, some are out, and the others are in the buffer
 abbrev pub Part : (Line → List ℕ) → LineBuffer → LineBuffer → Option (List ℕ) → Option (List ℕ) → List Line → Type 0
-Part reads told turn before out lines = (sent : List Line) × (sent ++ turn.lines ≡ told.lines ++ lines) × (out ≡ after before (text_by reads sent))
+Part reads told buffer before out lines = (sent : List Line) × (sent ++ buffer.lines ≡ told.lines ++ lines) × (out ≡ after before (text_by reads sent))
 
 module _ {X : Type 0} {B : X → Type 0} where
   abbrev pub Underway : (Line → List ℕ) → Machine X B → LineBuffer → Option (List ℕ) → Option (List ℕ) → LineBuffer → Machine X B → Type 0
-  Underway reads old told before out turn m = (s : State) → StandsFor old s
-      → (lines : List Line) × (u : State) × Moving old.core.image told.refused s lines u × Part reads told turn before out lines × StandsFor m u
+  Underway reads old told before out buffer m = (s : State) → StandsFor old s
+      → (lines : List Line) × (u : State) × Moving old.core.image told.refused s lines u × Part reads told buffer before out lines × StandsFor m u
 
   pub underway : (reads : Line → List ℕ) (m : Machine X B) (told : LineBuffer) (out : Option (List ℕ)) → Underway reads m told out out told m
   underway reads m told out s stands = ([], s, begins, ([], sym (append-nil told.lines), after_none out), stands)
 
-  pub still_stands : (m new : Machine X B) (turn full : LineBuffer) (progress : Progress) → Stands m → Filled m progress turn full new → Stands new
-  still_stands m new turn full progress stands f = let y = f stands.0 stands.1 in (y.1, y.5)
+  pub still_stands : (m new : Machine X B) (buffer full : LineBuffer) (progress : Progress) → Stands m → Filled m progress buffer full new → Stands new
+  still_stands m new buffer full progress stands f = let y = f stands.0 stands.1 in (y.1, y.5)
 
-  -- nothing of a turn changes but its lines
-  pub cleared_same : (m new : Machine X B) (told turn full clear : LineBuffer) (progress : Progress) → turn ≡ record told { lines = turn.lines } →
-      Stands m → Filled m progress turn full new → clear ≡ record full { lines = [] } → clear ≡ record told { lines = clear.lines }
-  cleared_same m new told turn full clear progress same stands f is = grind (arith, nat_tests)
+  -- nothing of a buffer changes but its lines
+  pub cleared_same : (m new : Machine X B) (told buffer full clear : LineBuffer) (progress : Progress) → buffer ≡ record told { lines = buffer.lines } →
+      Stands m → Filled m progress buffer full new → clear ≡ record full { lines = [] } → clear ≡ record told { lines = clear.lines }
+  cleared_same m new told buffer full clear progress same stands f is = grind (arith, nat_tests)
 
-  module _ (reads : Line → List ℕ) (old m new : Machine X B) (told turn full : LineBuffer) (before out : Option (List ℕ)) (progress : Progress)
-      (w : Underway reads old told before out turn m) (image : m.core.image ≡ old.core.image) (same : turn ≡ record told { lines = turn.lines })
-      (f : Filled m progress turn full new) where
+  module _ (reads : Line → List ℕ) (old m new : Machine X B) (told buffer full : LineBuffer) (before out : Option (List ℕ)) (progress : Progress)
+      (w : Underway reads old told before out buffer m) (image : m.core.image ≡ old.core.image) (same : buffer ≡ record told { lines = buffer.lines })
+      (f : Filled m progress buffer full new) where
     module _ (s : State) (stands : StandsFor old s) where
-      -- steps that fill the turn
+      -- steps that fill the buffer
       further : (lines : List Line) × (u : State) × Moving old.core.image told.refused s lines u ×
           Part reads told full before out lines × (full ≡ record told { lines = full.lines }) × (progress ≡ progress_of u) × StandsFor new u
       further =
           let x = w s stands in
           let y = f x.1 x.4 in
-          let refused : turn.refused ≡ told.refused = ap (λ (t : LineBuffer). t.refused) same in
+          let refused : buffer.refused ≡ told.refused = ap (λ (t : LineBuffer). t.refused) same in
           let moving = subst (λ q. Moving q told.refused x.1 y.0 y.1) image (subst (λ r. Moving m.core.image r x.1 y.0 y.1) refused y.2) in
-          let lines : full.lines ≡ turn.lines ++ y.0 = ap (λ (t : LineBuffer). t.lines) y.3 in
-          let all = ap (λ ls. x.3.0 ++ ls) lines ∙ sym (append_assoc x.3.0 turn.lines y.0) ∙ ap (λ ls. ls ++ y.0) x.3.1 ∙ append_assoc told.lines x.0 y.0 in
+          let lines : full.lines ≡ buffer.lines ++ y.0 = ap (λ (t : LineBuffer). t.lines) y.3 in
+          let all = ap (λ ls. x.3.0 ++ ls) lines ∙ sym (append_assoc x.3.0 buffer.lines y.0) ∙ ap (λ ls. ls ++ y.0) x.3.1 ∙ append_assoc told.lines x.0 y.0 in
           let frame : full ≡ record told { lines = full.lines } = grind (arith, nat_tests) in
           (x.0 ++ y.0, y.1, moving_both old.core.image told.refused s x.0 x.1 y.0 y.1 x.2 moving, (x.3.0, all, x.3.2), frame, y.4, y.5)
 
@@ -60,7 +60,7 @@ module _ {X : Type 0} {B : X → Type 0} where
         let all = sym (text_by_both reads x.3.0 full.lines) ∙ ap (text_by reads) x.3.1 in
         (x.0, x.1, x.2, grind (arith, nat_tests, cut_next before a b n), x.6)
 
-    -- all that the turn has is out, and it is cleared
+    -- all that the buffer has is out, and it is cleared
     module _ (now : Option (List ℕ)) (clear : LineBuffer) (is : clear ≡ record full { lines = [] }) (e : now ≡ after out (text_by reads full.lines)) where
       all_out : (sent lines : List Line) → sent ++ full.lines ≡ told.lines ++ lines → out ≡ after before (text_by reads sent) →
           now ≡ after before (text_by reads (told.lines ++ lines))

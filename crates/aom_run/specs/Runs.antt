@@ -48,7 +48,7 @@ module _ {X : Type 0} {B : X → Type 0} where
 
   -- the buffer has few lines, and room for many and for those of one step more
   abbrev pub HasRoom : Machine X B → LineBuffer → Type 0
-  HasRoom m turn = (length turn.lines < 64) × (64 + step_lines m.core.image.header.messages ≤ turn.room)
+  HasRoom m lines = (length lines.lines < 64) × (64 + step_lines m.core.image.header.messages ≤ lines.room)
 
   -- from each state that the machine stands for moves lead to one that it then stands for, and their lines are added to the buffer
   abbrev pub Filled : Machine X B → Progress → LineBuffer → LineBuffer → Machine X B → Type 0

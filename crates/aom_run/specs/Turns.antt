@@ -27,7 +27,7 @@ LeadTo outside (Some ending) s lines u = (lines ≡ []) × (u.rest.ended ≡ Som
 
 -- events are as a script has them, and the buffer has room for a line
 abbrev pub CanHear : List TimedEvent → LineBuffer → Type 0
-CanHear events turn = All (λ e. EventInRange e.event) events × (length turn.lines < turn.room)
+CanHear events lines = All (λ e. EventInRange e.event) events × (length lines.lines < lines.room)
 
 module _ {X : Type 0} {B : X → Type 0} where
   -- ---- timers

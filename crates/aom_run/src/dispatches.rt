@@ -22,27 +22,27 @@ const MANY_LINES: usize = 64;
 /// gives up where the sink fails.
 pub fn run_dispatch<W: Sink>(
     machine: &mut Machine,
-    turn: &mut LineBuffer,
+    lines: &mut LineBuffer,
     page: &mut Page,
     names: Option<&[&[u8]]>,
     out: &mut W,
 ) -> Option<Progress>
     requires agree { AllAgree (λ l. l.ids) (λ l. (⟦<dyn Native as Native>⟧ l.native.vtable).owed l.native.value) machine.old.natives.slots.items }
     requires stands { Stands machine.old }
-    requires room { HasRoom machine.old turn.old }
+    requires room { HasRoom machine.old lines.old }
     ensures agree { AllAgree (λ l. l.ids) (λ l. (⟦<dyn Native as Native>⟧ l.native.vtable).owed l.native.value) machine.new.natives.slots.items }
     ensures kept { KeepsImage machine.old machine.new }
     ensures unnamed { KeepsUnnamed machine.old.core.image machine.old.natives.slots.items machine.new.natives.slots.items }
-    ensures none { IfNone result ((W.failed out.new ≡ true) × CutOff (named_by names.entry) machine.old turn.old (W.out out.old) (W.out out.new) machine.new) }
-    ensures some { IfSome result (λ progress. Sent (named_by names.entry) machine.old progress turn.old turn.new (W.out out.old) (W.out out.new) machine.new) }
+    ensures none { IfNone result ((W.failed out.new ≡ true) × CutOff (named_by names.entry) machine.old lines.old (W.out out.old) (W.out out.new) machine.new) }
+    ensures some { IfSome result (λ progress. Sent (named_by names.entry) machine.old progress lines.old lines.new (W.out out.old) (W.out out.new) machine.new) }
 {
     loop {
-        let progress = fill(machine, turn);
-        put_lines(out, page, names, turn.lines());
+        let progress = fill(machine, lines);
+        put_lines(out, page, names, lines.lines());
         if out.has_failed() {
             return None;
         }
-        turn.clear();
+        lines.clear();
         match progress {
             Progress::Running => {}
             other => return Some(other),
@@ -51,19 +51,19 @@ pub fn run_dispatch<W: Sink>(
 }
 
 /// Steps on until the buffer has many lines or nothing is at hand.
-fn fill(machine: &mut Machine, turn: &mut LineBuffer) -> Progress
+fn fill(machine: &mut Machine, lines: &mut LineBuffer) -> Progress
     requires agree { AllAgree (λ l. l.ids) (λ l. (⟦<dyn Native as Native>⟧ l.native.vtable).owed l.native.value) machine.old.natives.slots.items }
     requires stands { Stands machine.old }
-    requires room { HasRoom machine.old turn.old }
+    requires room { HasRoom machine.old lines.old }
     ensures agree { AllAgree (λ l. l.ids) (λ l. (⟦<dyn Native as Native>⟧ l.native.vtable).owed l.native.value) machine.new.natives.slots.items }
     ensures kept { KeepsImage machine.old machine.new }
     ensures unnamed { KeepsUnnamed machine.old.core.image machine.old.natives.slots.items machine.new.natives.slots.items }
-    ensures steps { Filled machine.old result turn.old turn.new machine.new }
+    ensures steps { Filled machine.old result lines.old lines.new machine.new }
     ensures falls { result ≡ Progress.Running → rank machine.new.core < rank machine.old.core }
 {
     loop {
-        let progress = machine.step_on(turn);
-        if turn.lines().len() >= MANY_LINES {
+        let progress = machine.step_on(lines);
+        if lines.lines().len() >= MANY_LINES {
             return progress;
         }
         match progress {

@@ -78,37 +78,37 @@ impl<'a> Machine<'a> {
 
     /// Steps until the buffer has many lines, nothing is at hand, or the next step asks something of a native. What the first step asks is
     /// asked of its native before.
-    pub fn step_on(&mut self, turn: &mut LineBuffer) -> Progress
+    pub fn step_on(&mut self, lines: &mut LineBuffer) -> Progress
         requires agree { AllAgree (λ l. l.ids) (λ l. (⟦<dyn Native as Native>⟧ l.native.vtable).owed l.native.value) self.old.natives.slots.items }
         requires stands { Stands self.old }
-        requires room { length turn.old.lines + step_lines self.old.core.image.header.messages < turn.old.room }
-        requires many { 64 + step_lines self.old.core.image.header.messages ≤ turn.old.room }
+        requires room { length lines.old.lines + step_lines self.old.core.image.header.messages < lines.old.room }
+        requires many { 64 + step_lines self.old.core.image.header.messages ≤ lines.old.room }
         ensures agree { AllAgree (λ l. l.ids) (λ l. (⟦<dyn Native as Native>⟧ l.native.vtable).owed l.native.value) self.new.natives.slots.items }
         ensures image { self.new.core.image ≡ self.old.core.image }
         ensures natives { natives_of self.new ≡ natives_of self.old }
         ensures unasked { (s : State) → StandsFor self.old s → KeepsUnasked self.old.natives.slots.items (asked_of self.old.core.image s) self.new.natives.slots.items }
-        ensures idle { StaysIdle self.old turn.old turn.new self.new }
-        ensures steps { (s : State) → StandsFor self.old s → (heard : ℤ) × MayHear (λ l. (⟦<dyn Native as Native>⟧ l.native.vtable).open_may l.native.value) (λ l. (⟦<dyn Native as Native>⟧ l.native.vtable).start_may l.native.value) (λ l. (⟦<dyn Native as Native>⟧ l.native.vtable).call_may l.native.value) self.old.natives.slots.items (asked_of self.old.core.image s) heard × SteppedOn self.old heard result turn.old turn.new self.new s }
+        ensures idle { StaysIdle self.old lines.old lines.new self.new }
+        ensures steps { (s : State) → StandsFor self.old s → (heard : ℤ) × MayHear (λ l. (⟦<dyn Native as Native>⟧ l.native.vtable).open_may l.native.value) (λ l. (⟦<dyn Native as Native>⟧ l.native.vtable).start_may l.native.value) (λ l. (⟦<dyn Native as Native>⟧ l.native.vtable).call_may l.native.value) self.old.natives.slots.items (asked_of self.old.core.image s) heard × SteppedOn self.old heard result lines.old lines.new self.new s }
         ensures falls { result ≡ Running → rank self.new.core < rank self.old.core }
     {
         self.ask();
-        self.core.step_on(turn)
+        self.core.step_on(lines)
     }
 
     /// One step: an instruction, or the going of one cell, with what counts as no step after it. What it asks of a native is asked before.
-    pub fn step(&mut self, turn: &mut LineBuffer) -> Progress
+    pub fn step(&mut self, lines: &mut LineBuffer) -> Progress
         requires agree { AllAgree (λ l. l.ids) (λ l. (⟦<dyn Native as Native>⟧ l.native.vtable).owed l.native.value) self.old.natives.slots.items }
         requires stands { Stands self.old }
-        requires room { length turn.old.lines + step_lines self.old.core.image.header.messages < turn.old.room }
+        requires room { length lines.old.lines + step_lines self.old.core.image.header.messages < lines.old.room }
         ensures agree { AllAgree (λ l. l.ids) (λ l. (⟦<dyn Native as Native>⟧ l.native.vtable).owed l.native.value) self.new.natives.slots.items }
         ensures image { self.new.core.image ≡ self.old.core.image }
         ensures natives { natives_of self.new ≡ natives_of self.old }
         ensures unasked { (s : State) → StandsFor self.old s → KeepsUnasked self.old.natives.slots.items (asked_of self.old.core.image s) self.new.natives.slots.items }
-        ensures idle { StaysIdle self.old turn.old turn.new self.new }
-        ensures steps { (s : State) → StandsFor self.old s → (heard : ℤ) × MayHear (λ l. (⟦<dyn Native as Native>⟧ l.native.vtable).open_may l.native.value) (λ l. (⟦<dyn Native as Native>⟧ l.native.vtable).start_may l.native.value) (λ l. (⟦<dyn Native as Native>⟧ l.native.vtable).call_may l.native.value) self.old.natives.slots.items (asked_of self.old.core.image s) heard × SteppedOnce self.old heard result turn.old turn.new self.new s }
+        ensures idle { StaysIdle self.old lines.old lines.new self.new }
+        ensures steps { (s : State) → StandsFor self.old s → (heard : ℤ) × MayHear (λ l. (⟦<dyn Native as Native>⟧ l.native.vtable).open_may l.native.value) (λ l. (⟦<dyn Native as Native>⟧ l.native.vtable).start_may l.native.value) (λ l. (⟦<dyn Native as Native>⟧ l.native.vtable).call_may l.native.value) self.old.natives.slots.items (asked_of self.old.core.image s) heard × SteppedOnce self.old heard result lines.old lines.new self.new s }
         ensures falls { result ≡ Running → rank self.new.core < rank self.old.core }
     {
         self.ask();
-        self.core.step(turn)
+        self.core.step(lines)
     }
 }

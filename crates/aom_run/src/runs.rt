@@ -30,21 +30,21 @@ use aom_transcript::{Ending, Page, TimedEvent};
 pub fn run<W: Sink>(
     machine: &mut Machine,
     script: &Script,
-    turn: &mut LineBuffer,
+    lines: &mut LineBuffer,
     limit: u32,
     out: &mut W,
 ) -> Outcome
     requires agree { AllAgree (λ l. l.ids) (λ l. (⟦<dyn Native as Native>⟧ l.native.vtable).owed l.native.value) machine.old.natives.slots.items }
     requires fresh { IsFresh machine.old }
-    requires room { 64 + step_lines machine.old.core.image.header.messages ≤ turn.old.room }
+    requires room { 64 + step_lines machine.old.core.image.header.messages ≤ lines.old.room }
     requires limit { (1 ≤ limit) × (limit ≤ 1000000000) }
     requires timely { IsTimely script.now.timed }
     ensures agree { AllAgree (λ l. l.ids) (λ l. (⟦<dyn Native as Native>⟧ l.native.vtable).owed l.native.value) machine.new.natives.slots.items }
     ensures image { machine.new.core.image ≡ machine.old.core.image }
-    ensures ran { Ran line_text machine.old (hearing turn.old.refused limit (natives_of machine.old) script.now.timed) result (W.failed out.new) (W.out out.old) (W.out out.new) machine.new }
-    ensures determined { IsDetermined machine.old.core.image (hearing turn.old.refused limit (natives_of machine.old) script.now.timed) }
+    ensures ran { Ran line_text machine.old (hearing lines.old.refused limit (natives_of machine.old) script.now.timed) result (W.failed out.new) (W.out out.old) (W.out out.new) machine.new }
+    ensures determined { IsDetermined machine.old.core.image (hearing lines.old.refused limit (natives_of machine.old) script.now.timed) }
 {
-    run_named(machine, script, turn, limit, None, out)
+    run_named(machine, script, lines, limit, None, out)
 }
 
 /// Runs a machine as `run` does, and writes its classes by these names, of which the first is that of class 0. A class without a name, or
@@ -52,23 +52,23 @@ pub fn run<W: Sink>(
 pub fn run_named<W: Sink>(
     machine: &mut Machine,
     script: &Script,
-    turn: &mut LineBuffer,
+    lines: &mut LineBuffer,
     limit: u32,
     names: Option<&[&[u8]]>,
     out: &mut W,
 ) -> Outcome
     requires agree { AllAgree (λ l. l.ids) (λ l. (⟦<dyn Native as Native>⟧ l.native.vtable).owed l.native.value) machine.old.natives.slots.items }
     requires fresh { IsFresh machine.old }
-    requires room { 64 + step_lines machine.old.core.image.header.messages ≤ turn.old.room }
+    requires room { 64 + step_lines machine.old.core.image.header.messages ≤ lines.old.room }
     requires limit { (1 ≤ limit) × (limit ≤ 1000000000) }
     requires timely { IsTimely script.now.timed }
     ensures agree { AllAgree (λ l. l.ids) (λ l. (⟦<dyn Native as Native>⟧ l.native.vtable).owed l.native.value) machine.new.natives.slots.items }
     ensures image { machine.new.core.image ≡ machine.old.core.image }
-    ensures ran { Ran (named_by names.entry) machine.old (hearing turn.old.refused limit (natives_of machine.old) script.now.timed) result (W.failed out.new) (W.out out.old) (W.out out.new) machine.new }
-    ensures determined { IsDetermined machine.old.core.image (hearing turn.old.refused limit (natives_of machine.old) script.now.timed) }
+    ensures ran { Ran (named_by names.entry) machine.old (hearing lines.old.refused limit (natives_of machine.old) script.now.timed) result (W.failed out.new) (W.out out.old) (W.out out.new) machine.new }
+    ensures determined { IsDetermined machine.old.core.image (hearing lines.old.refused limit (natives_of machine.old) script.now.timed) }
 {
     aom_determinism::text_is_determined();
-    match run_lines(machine, script.events(), turn, limit, names, out) {
+    match run_lines(machine, script.events(), lines, limit, names, out) {
         None => Outcome::WriteFault,
         Some(ending) => finish(machine, ending, out),
     }
@@ -78,31 +78,31 @@ pub fn run_named<W: Sink>(
 fn run_lines<W: Sink>(
     machine: &mut Machine,
     events: &[TimedEvent],
-    turn: &mut LineBuffer,
+    lines: &mut LineBuffer,
     limit: u32,
     names: Option<&[&[u8]]>,
     out: &mut W,
 ) -> Option<Ending>
     requires agree { AllAgree (λ l. l.ids) (λ l. (⟦<dyn Native as Native>⟧ l.native.vtable).owed l.native.value) machine.old.natives.slots.items }
     requires fresh { IsFresh machine.old }
-    requires room { 64 + step_lines machine.old.core.image.header.messages ≤ turn.old.room }
+    requires room { 64 + step_lines machine.old.core.image.header.messages ≤ lines.old.room }
     requires ranged { All (λ e. EventInRange e.event) events.now }
     ensures agree { AllAgree (λ l. l.ids) (λ l. (⟦<dyn Native as Native>⟧ l.native.vtable).owed l.native.value) machine.new.natives.slots.items }
     ensures image { machine.new.core.image ≡ machine.old.core.image }
-    ensures none { IfNone result ((W.failed out.new ≡ true) × CutShort (named_by names.entry) machine.old.core.image (hearing turn.old.refused limit (natives_of machine.old) events.now) (W.out out.old) (W.out out.new)) }
-    ensures some { IfSome result (λ ending. Ended (named_by names.entry) machine.old.core.image (hearing turn.old.refused limit (natives_of machine.old) events.now) ending (W.out out.old) (W.out out.new) machine.new) }
+    ensures none { IfNone result ((W.failed out.new ≡ true) × CutShort (named_by names.entry) machine.old.core.image (hearing lines.old.refused limit (natives_of machine.old) events.now) (W.out out.old) (W.out out.new)) }
+    ensures some { IfSome result (λ ending. Ended (named_by names.entry) machine.old.core.image (hearing lines.old.refused limit (natives_of machine.old) events.now) ending (W.out out.old) (W.out out.new) machine.new) }
 {
-    turn.clear();
+    lines.clear();
     let mut page = Page::new();
-    let mut progress = run_dispatch(machine, turn, &mut page, names, out)?;
+    let mut progress = run_dispatch(machine, lines, &mut page, names, out)?;
     loop {
         if let Progress::Ended(ending) = progress {
             return Some(ending);
         }
-        if let Some(ending) = take_turns(machine, events, turn, limit) {
+        if let Some(ending) = take_turns(machine, events, lines, limit) {
             return Some(ending);
         }
-        progress = run_dispatch(machine, turn, &mut page, names, out)?;
+        progress = run_dispatch(machine, lines, &mut page, names, out)?;
     }
 }
 

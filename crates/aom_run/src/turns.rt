@@ -20,28 +20,28 @@ use aom_transcript::{Ending, Event, TimedEvent};
 pub fn take_turns(
     machine: &mut Machine,
     events: &[TimedEvent],
-    turn: &mut LineBuffer,
+    lines: &mut LineBuffer,
     limit: u32,
 ) -> Option<Ending>
     requires agree { AllAgree (λ l. l.ids) (λ l. (⟦<dyn Native as Native>⟧ l.native.vtable).owed l.native.value) machine.old.natives.slots.items }
     requires stands { Stands machine.old }
     requires between { progress machine.old.core ≡ Turned }
     requires ranged { All (λ e. EventInRange e.event) events.now }
-    requires room { length turn.old.lines < turn.old.room }
+    requires room { length lines.old.lines < lines.old.room }
     ensures agree { AllAgree (λ l. l.ids) (λ l. (⟦<dyn Native as Native>⟧ l.native.vtable).owed l.native.value) machine.new.natives.slots.items }
     ensures image { machine.new.core.image ≡ machine.old.core.image }
     ensures natives { natives_of machine.new ≡ natives_of machine.old }
-    ensures turns { TakesTurns machine.old (hearing turn.old.refused limit (natives_of machine.old) events.now) result turn.old turn.new machine.new }
+    ensures turns { TakesTurns machine.old (hearing lines.old.refused limit (natives_of machine.old) events.now) result lines.old lines.new machine.new }
 {
     if machine.core.rest().dispatches() >= u64::from(limit) {
         machine.core.cut();
         return Some(Ending::Limit);
     }
-    if settle(machine, events, turn) {
+    if settle(machine, events, lines) {
         return None;
     }
     loop {
-        if machine.pick(turn) {
+        if machine.pick(lines) {
             return None;
         }
         let Some(time) = next_time(machine, events) else {
@@ -49,7 +49,7 @@ pub fn take_turns(
             return Some(Ending::Waiting);
         };
         machine.set_clock(time);
-        if settle(machine, events, turn) {
+        if settle(machine, events, lines) {
             return None;
         }
     }
@@ -69,18 +69,18 @@ fn next_time(machine: &Machine, events: &[TimedEvent]) -> Option<u64>
 
 /// All that is due by now: each timer completes the request of its object, each event is heard, and then each native is polled. Answers
 /// whether an event was told by a line; then the rest waits until that is out.
-fn settle(machine: &mut Machine, events: &[TimedEvent], turn: &mut LineBuffer) -> bool
+fn settle(machine: &mut Machine, events: &[TimedEvent], lines: &mut LineBuffer) -> bool
     requires agree { AllAgree (λ l. l.ids) (λ l. (⟦<dyn Native as Native>⟧ l.native.vtable).owed l.native.value) machine.old.natives.slots.items }
     requires rests { StandsBetween machine.old }
-    requires can { CanHear events.now turn.old }
+    requires can { CanHear events.now lines.old }
     ensures agree { AllAgree (λ l. l.ids) (λ l. (⟦<dyn Native as Native>⟧ l.native.vtable).owed l.native.value) machine.new.natives.slots.items }
     ensures kept { Keeps machine.old machine.new }
-    ensures heard { HearsAll result events.now machine.old turn.old turn.new machine.new }
+    ensures heard { HearsAll result events.now machine.old lines.old lines.new machine.new }
     ensures polled { result ≡ false → AllPolled machine.new }
     ensures falls { result ≡ false → IsLate events.now machine.old → waiting events.now machine.new < waiting events.now machine.old }
 {
     complete_due(machine);
-    if hear_due(machine, events, turn) {
+    if hear_due(machine, events, lines) {
         return true;
     }
     poll_all(machine);
@@ -124,21 +124,21 @@ fn come_event(machine: &Machine, events: &[TimedEvent]) -> Option<Event>
 }
 
 /// Each event that has come is heard, where no timer is due, up to one that is told by a line. Answers whether one was.
-fn hear_due(machine: &mut Machine, events: &[TimedEvent], turn: &mut LineBuffer) -> bool
+fn hear_due(machine: &mut Machine, events: &[TimedEvent], lines: &mut LineBuffer) -> bool
     requires agree { AllAgree (λ l. l.ids) (λ l. (⟦<dyn Native as Native>⟧ l.native.vtable).owed l.native.value) machine.old.natives.slots.items }
     requires rests { StandsBetween machine.old }
     requires none_due { NoneIsDue machine.old }
-    requires can { CanHear events.now turn.old }
+    requires can { CanHear events.now lines.old }
     ensures agree { AllAgree (λ l. l.ids) (λ l. (⟦<dyn Native as Native>⟧ l.native.vtable).owed l.native.value) machine.new.natives.slots.items }
     ensures kept { Keeps machine.old machine.new }
     ensures untold { (k : ℕ) → All (λ e. is_for_native e.event k ≡ false) events.now → living_at machine.new.natives.slots.items k ≡ living_at machine.old.natives.slots.items k }
-    ensures heard { HearsAll result events.now machine.old turn.old turn.new machine.new }
+    ensures heard { HearsAll result events.now machine.old lines.old lines.new machine.new }
     ensures timers { timers machine.new.core ≡ timers machine.old.core }
     ensures no_more { to_come events.now machine.new ≤ to_come events.now machine.old }
     ensures falls { result ≡ false → HasCome events.now machine.old → to_come events.now machine.new < to_come events.now machine.old }
 {
     while let Some(event) = come_event(machine, events) {
-        if machine.deliver(event, turn) {
+        if machine.deliver(event, lines) {
             return true;
         }
     }

@@ -47,23 +47,23 @@ impl<'a> Machine<'a> {
     /// Between dispatches an event comes from outside: a word for a native, or its end, whose line is written, or a command of a client, with
     /// a line where that is refused. One for a native that is killed, or that is none, or of a number that is no client's, changes nothing.
     /// Answers whether a line was written.
-    pub fn deliver(&mut self, event: Event, turn: &mut LineBuffer) -> bool
+    pub fn deliver(&mut self, event: Event, lines: &mut LineBuffer) -> bool
         requires agree { AllAgree (λ l. l.ids) (λ l. (⟦<dyn Native as Native>⟧ l.native.vtable).owed l.native.value) self.old.natives.slots.items }
         requires stands { Stands self.old }
         requires between { progress self.old.core ≡ Turned }
         requires few { self.old.core.parts.rest.delivered + 1 < 2 ^ 64 }
         requires ranged { EventInRange event }
-        requires room { length turn.old.lines < turn.old.room }
+        requires room { length lines.old.lines < lines.old.room }
         ensures agree { AllAgree (λ l. l.ids) (λ l. (⟦<dyn Native as Native>⟧ l.native.vtable).owed l.native.value) self.new.natives.slots.items }
-        ensures delivered { IsDelivered self.old event result turn.old turn.new self.new }
+        ensures delivered { IsDelivered self.old event result lines.old lines.new self.new }
     {
         match event {
             Event::Tell(native, word) => {
                 self.tell(native as usize, word);
                 false
             }
-            Event::Kill(native) => self.kill(native, turn),
-            Event::Client(client, command) => self.obey(client, command, turn),
+            Event::Kill(native) => self.kill(native, lines),
+            Event::Client(client, command) => self.obey(client, command, lines),
         }
     }
 
@@ -92,16 +92,16 @@ impl<'a> Machine<'a> {
 
     /// Between dispatches: the ready object that goes before all others is dispatched, with its line (CActiveScheduler::Start's
     /// RunL). Answers false where nothing signals.
-    pub fn pick(&mut self, turn: &mut LineBuffer) -> bool
+    pub fn pick(&mut self, lines: &mut LineBuffer) -> bool
         requires agree { AllAgree (λ l. l.ids) (λ l. (⟦<dyn Native as Native>⟧ l.native.vtable).owed l.native.value) self.old.natives.slots.items }
         requires between { progress self.old.core ≡ Turned }
-        requires room { length turn.old.lines < turn.old.room }
+        requires room { length lines.old.lines < lines.old.room }
         ensures agree { AllAgree (λ l. l.ids) (λ l. (⟦<dyn Native as Native>⟧ l.native.vtable).owed l.native.value) self.new.natives.slots.items }
         ensures image { self.new.core.image ≡ self.old.core.image }
         ensures natives { self.new.natives ≡ self.old.natives }
-        ensures picked { Picked self.old result turn.old turn.new self.new }
+        ensures picked { Picked self.old result lines.old lines.new self.new }
     {
-        self.core.pick(turn)
+        self.core.pick(lines)
     }
 
     /// Between dispatches time passes. It does not go back.
@@ -136,38 +136,38 @@ impl<'a> Machine<'a> {
     }
 
     /// A native is to end. Answers whether it lived.
-    fn kill(&mut self, native: u8, turn: &mut LineBuffer) -> bool
+    fn kill(&mut self, native: u8, lines: &mut LineBuffer) -> bool
         requires agree { AllAgree (λ l. l.ids) (λ l. (⟦<dyn Native as Native>⟧ l.native.vtable).owed l.native.value) self.old.natives.slots.items }
         requires rests { StandsBetween self.old }
         requires few { self.old.core.parts.rest.delivered + 1 < 2 ^ 64 }
-        requires room { length turn.old.lines < turn.old.room }
+        requires room { length lines.old.lines < lines.old.room }
         ensures agree { AllAgree (λ l. l.ids) (λ l. (⟦<dyn Native as Native>⟧ l.native.vtable).owed l.native.value) self.new.natives.slots.items }
-        ensures delivered { IsDelivered self.old (Kill native) result turn.old turn.new self.new }
+        ensures delivered { IsDelivered self.old (Kill native) result lines.old lines.new self.new }
     {
         if !self.natives.is_alive(native as usize) {
             self.core.hear_event();
             return false;
         }
         self.natives.kill(native as usize);
-        self.core.kill(native, turn);
+        self.core.kill(native, lines);
         true
     }
 
     /// The client of that number does what it is told, if there is one. Answers whether that is refused.
-    fn obey(&mut self, client: u8, command: ClientCommand, turn: &mut LineBuffer) -> bool
+    fn obey(&mut self, client: u8, command: ClientCommand, lines: &mut LineBuffer) -> bool
         requires agree { AllAgree (λ l. l.ids) (λ l. (⟦<dyn Native as Native>⟧ l.native.vtable).owed l.native.value) self.old.natives.slots.items }
         requires rests { StandsBetween self.old }
         requires few { self.old.core.parts.rest.delivered + 1 < 2 ^ 64 }
         requires ranged { IsInRange command }
-        requires room { length turn.old.lines < turn.old.room }
+        requires room { length lines.old.lines < lines.old.room }
         ensures agree { AllAgree (λ l. l.ids) (λ l. (⟦<dyn Native as Native>⟧ l.native.vtable).owed l.native.value) self.new.natives.slots.items }
-        ensures delivered { IsDelivered self.old (Client client command) result turn.old turn.new self.new }
+        ensures delivered { IsDelivered self.old (Client client command) result lines.old lines.new self.new }
     {
         if client >= CLIENTS {
             self.core.hear_event();
             return false;
         }
-        self.core.obey(client, command, turn)
+        self.core.obey(client, command, lines)
     }
 
     /// The living native that comes next in the turn at hand.

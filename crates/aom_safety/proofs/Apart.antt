@@ -9,7 +9,7 @@ use Rattle.aom_safety.proofs.SemanticsLemmas.{requested_unnamed}
 use Rattle.aom_safety.proofs.Redeeming.{requested_redeemed}
 use Rattle.aom_safety.proofs.Services.{service_asked}
 use Rattle.aom_safety.proofs.Storing.{requested_here, requested_there, rerequested_alike}
-use Rattle.aom_semantics.specs.Enlisted.{on_request}
+use Rattle.aom_semantics.specs.Requests.{on_request}
 use Rattle.aom_semantics.specs.Places.{Cell, Elsewhere, Object, Place, Request, Root, Service, requested, service_of, set_request}
 use Rattle.aom_semantics.specs.State.{Home, Inside}
 use Rattle.aom_semantics.specs.Tokens.{TokensApart, all_redeemed, awaited, handed_cells, handed_out, home_class, is_order, next_token}

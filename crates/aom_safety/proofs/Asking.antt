@@ -20,7 +20,7 @@ use Rattle.aom_safety.proofs.Destroying.{at_alike}
 use Rattle.aom_safety.proofs.Entering.{Entering, enters}
 use Rattle.aom_safety.proofs.Housing.{houses_role}
 use Rattle.aom_safety.specs.Claims.{Dispatching, Layer, claim, declared, forms}
-use Rattle.aom_semantics.specs.Enlisted.{part_of}
+use Rattle.aom_semantics.specs.Requests.{part_of}
 use Rattle.aom_safety.specs.Laws.{IsAnswerer, IsWired}
 use Rattle.aom_semantics.specs.Moves.{asking}
 use Rattle.aom_semantics.specs.Places.{Elsewhere, Place, Request, Root, held, requested, seen}

@@ -32,7 +32,7 @@ use Rattle.aom_safety.specs.WellTyped.{CountsAs, Fits, IsBelow}
 use Rattle.aom_safety.specs.Requests.{thing_kind}
 use Rattle.aom_roles.specs.Families.{descends}
 use Rattle.aom_roles.specs.Shapes.{kind_of}
-use Rattle.aom_semantics.specs.Enlisted.{cancel_method, cancel_of}
+use Rattle.aom_semantics.specs.Requests.{cancel_method, cancel_of}
 use Rattle.aom_safety.specs.Laws.{IsWired}
 use Rattle.aom_image.specs.Views.{is_quiet, method_class}
 use Rattle.aom_roles.specs.Tests.{only_if}

@@ -21,7 +21,7 @@ use Rattle.aom_safety.proofs.Storing.{Alike, fits_alike, housed_alike, listed_st
 use Rattle.aom_safety.proofs.Straight.{At, Fitted}
 use Rattle.aom_safety.proofs.Suiting.{all_returned, cancel_ends, rejoins_caller}
 use Rattle.aom_safety.specs.Claims.{Layer, Method, claim, declared}
-use Rattle.aom_semantics.specs.Enlisted.{cancelled, on_request, own_request, rerequested}
+use Rattle.aom_semantics.specs.Requests.{cancelled, on_request, own_request, rerequested}
 use Rattle.aom_semantics.specs.Places.{Cell, Object, Place, Request, held, named, requested, seen}
 use Rattle.aom_safety.specs.Requests.{AllSuit, known_at, states_claim, thing_kind, works_at}
 use Rattle.aom_semantics.specs.State.{AtRoot, Choice, Frame, Home, Inside, State, Static}

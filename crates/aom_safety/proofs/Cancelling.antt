@@ -36,7 +36,7 @@ use Rattle.aom_safety.proofs.Claimed.{claim_in_view, OwnsNoMore, claim_from, cla
 use Rattle.aom_safety.proofs.Destroying.{at_alike, entry_registers, perhaps_only, unset_only}
 use Rattle.aom_safety.proofs.Items.{length_forms}
 use Rattle.aom_safety.proofs.SemanticsLemmas.{one_place}
-use Rattle.aom_safety.proofs.Requesting.{OfObject, active_home, active_listed, has_common, in_state, its, learned, main_of_none, of_object, suits_in}
+use Rattle.aom_safety.proofs.Requests.{OfObject, active_home, active_listed, has_common, in_state, its, learned, main_of_none, of_object, suits_in}
 use Rattle.aom_safety.proofs.Storing.{Alike, fits_alike, housed_alike, listed_still, on_some, requested_here, requested_there, rerequested_alike, stack_alike}
 use Rattle.aom_safety.proofs.Straight.{frames_reworded, At, Law, fits_unowning, settle, stepped, well}
 use Rattle.aom_safety.proofs.Suiting.{same_object}
@@ -45,8 +45,8 @@ use Rattle.aom_safety.proofs.Waiting.{waits_in_view}
 use Rattle.aom_safety.specs.Claims.{declared_field, own_field, serves, Layer, Method, claim, declared, home_claim, items_of, objects, tasks_of}
 use Rattle.aom_semantics.specs.Calls.{result_register}
 use Rattle.aom_semantics.specs.Effects.{applied, cancels_if}
-use Rattle.aom_semantics.specs.Enlisted.{begun_cells, cancel_method, cancel_of, cancelling, in_phase, is_active}
-use Rattle.aom_semantics.specs.Enlisted.{is_unsettled, on_request, own_request, rerequested}
+use Rattle.aom_semantics.specs.Requests.{begun_cells, cancel_method, cancel_of, cancelling, in_phase, is_active}
+use Rattle.aom_semantics.specs.Requests.{is_unsettled, on_request, own_request, rerequested}
 use Rattle.aom_safety.specs.Laws.{IsWired}
 use Rattle.aom_semantics.specs.Places.{In_service, Cell, Elsewhere, Entry, Field, Going, Object, Place, Register, Request, Root, held, requested, seen}
 use Rattle.aom_safety.specs.Requests.{AllSuit, Known, Suits, known_at, state_of, states_claim, thing_kind, works_at}

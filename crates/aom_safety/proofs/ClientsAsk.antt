@@ -20,7 +20,7 @@ use Rattle.aom_safety.proofs.ClientsFit.{Changes, IsFree, by_server, fit_reserve
 use Rattle.aom_safety.proofs.Queues.{client_here, none_passes, queue_last, queue_other}
 use Rattle.aom_safety.proofs.Seated.{seats_asked}
 use Rattle.aom_semantics.specs.Clients.{Listed, among_listed, asked_of, asked_server, client_at, earlier, first_listed, is_of_class, most_of, with_client}
-use Rattle.aom_semantics.specs.Enlisted.{thing_kind}
+use Rattle.aom_semantics.specs.Requests.{thing_kind}
 use Rattle.aom_safety.specs.Kept.{ClientsFit, EntryFits, QueueFits, is_connect_of, is_message_of, asked_again}
 use Rattle.aom_semantics.specs.Places.{Asked, Cell, Connect_of, Message_of, Object, Request, Service, Tidy, named, service_of, requested}
 use Rattle.aom_semantics.specs.Servers.{asked_last, has_session, is_from, is_message, is_server, reserved, seats_taken}

@@ -14,7 +14,7 @@ use Rattle.aom_safety.proofs.ClientsTurn.{tasks_begun, on_none}
 use Rattle.aom_semantics.specs.Cleanup.{to_trap, top_place}
 use Rattle.aom_semantics.specs.Effects.{Calls, Cancels, Destroys, Destroys_last, Effect, Goes_on, Leaves, Requested, Returns, Same as Unchanged, Sets_trap}
 use Rattle.aom_semantics.specs.Effects.{applied, asking_with, cancels_if, deals, deletes, effect, hands_unless, jumps_unless, makes_unless, round}
-use Rattle.aom_semantics.specs.Enlisted.{Asking, aborted, cancelling, completed_at_once, first_request, home_kind, issued_of, on_request, own_request, waits}
+use Rattle.aom_semantics.specs.Requests.{Asking, aborted, cancelling, completed_at_once, first_request, home_kind, issued_of, on_request, own_request, waits}
 use Rattle.aom_semantics.specs.Tokens.{busy, is_crowded}
 use Rattle.aom_safety.specs.Kept.{ClientsFit, TasksKept}
 use Rattle.aom_semantics.specs.Places.{Cell, Going, Object, Request, named}

@@ -16,7 +16,7 @@ use Rattle.aom_safety.proofs.Seated.{seats_opened, seats_parted}
 use Rattle.aom_safety.proofs.Services.{held_served, named_served, service_here, service_there, requested_served}
 use Rattle.aom_safety.proofs.Sources.{has_sender, served_as, sources_as, sources_at}
 use Rattle.aom_semantics.specs.Clients.{at_opening, at_parting, client_at, most_of, with_client}
-use Rattle.aom_semantics.specs.Enlisted.{thing_kind}
+use Rattle.aom_semantics.specs.Requests.{thing_kind}
 use Rattle.aom_safety.specs.Kept.{ClientsFit, EntryFits, HasSources, QueueFits, ServesSent, TasksKept, is_close_of, is_connect_of, is_message_of, sources_of}
 use Rattle.aom_semantics.specs.Places.{Asked, Cell, Elsewhere, Object, Queued, Service, held, named, service_of, requested}
 use Rattle.aom_semantics.specs.Servers.{has_session, is_from, is_other, is_server, opened, parted, reserved, seats_taken}

@@ -24,7 +24,7 @@ use Rattle.aom_semantics.specs.Places.{Asked, Cell, Close_of, Connect_of, Elsewh
 use Rattle.aom_semantics.specs.Places.{Sender, Tidy, held, named, same_place, service_of, unserved, without, requested}
 use Rattle.aom_semantics.specs.State.{Accept_left, Accepts, Parts, Stage}
 use Rattle.aom_semantics.specs.Servers.{all_unslotted, has_session, is_from, is_queue_of, is_server, unslotted, without_queue, seats_taken}
-use Rattle.aom_semantics.specs.Enlisted.{thing_kind}
+use Rattle.aom_semantics.specs.Requests.{thing_kind}
 use Rattle.aom_safety.proofs.Seated.{seats_same}
 
 -- ---- what the clients are at

@@ -35,7 +35,7 @@ use Rattle.aom_safety.proofs.Guarded.{acts_at}
 use Rattle.aom_semantics.specs.Cleanup.{ended_by}
 use Rattle.aom_semantics.specs.Destruction.{begun, parting, vanished, first_session}
 use Rattle.aom_semantics.specs.Effects.{applied, effect, needs}
-use Rattle.aom_semantics.specs.Enlisted.{ended_cells, part_of}
+use Rattle.aom_semantics.specs.Requests.{ended_cells, part_of}
 use Rattle.aom_safety.specs.Kept.{ClientsFit, IsKept, StageKept, TasksKept, is_message_of}
 use Rattle.aom_safety.specs.Laws.{ClientsKeep, IsWired}
 use Rattle.aom_semantics.specs.Moves.{answered, asking, counted, dispatch_ends, handled, main_ends, object_ends, stage_ends, step}

@@ -32,7 +32,7 @@ use Rattle.aom_safety.proofs.Storing.{rerequested_alike}
 use Rattle.aom_semantics.specs.Tokens.{all_redeemed, awaited, handed_cells, home_class, next_token, promised, redeemed_by, redeemed_request, with_token}
 use Rattle.aom_semantics.specs.Effects.{Carried, Handed, In_field, In_register, Made, Popped, Pushed, Replied, Requested}
 use Rattle.aom_semantics.specs.Effects.{Sessioned, The_message, Update, Written, cells_after, spot_place}
-use Rattle.aom_semantics.specs.Enlisted.{ended_cells, on_request, own_request, rerequested}
+use Rattle.aom_semantics.specs.Requests.{ended_cells, on_request, own_request, rerequested}
 use Rattle.aom_safety.specs.Kept.{ClientsFit, ConnectKept, StageKept, TasksKept, is_close_of, is_connect_of}
 use Rattle.aom_semantics.specs.Natives.{resessioned}
 use Rattle.aom_semantics.specs.Places.{Cell, Elsewhere, Entry, In_service, Object, Place, Queued, Request, Token, held}

@@ -20,7 +20,7 @@ use Rattle.aom_semantics.specs.Servers.{is_server}
 use Rattle.aom_semantics.specs.State.{Home, Accept_left, Accepts, Destroy, Dispatch, Dispatched, Frame}
 use Rattle.aom_semantics.specs.State.{Of_server, Parts, Run, Seat, State, Task, Trapped, Unwind}
 use Rattle.aom_semantics.specs.Words.{here}
-use Rattle.aom_semantics.specs.Enlisted.{thing_kind}
+use Rattle.aom_semantics.specs.Requests.{thing_kind}
 use Rattle.aom_safety.proofs.Seated.{seats_same}
 use Rattle.std.specs.Prelude.{is_some}
 

@@ -15,7 +15,7 @@ use Rattle.aom_safety.proofs.Sources.{served_as, served_sifted, sources_as, sour
 use Rattle.aom_safety.specs.Kept.{ClientsFit, HasSources, QueueFits, ServesSent, is_message_of, sources_of}
 use Rattle.aom_safety.proofs.SemanticsLemmas.{requested_unnamed, same_place-true}
 use Rattle.aom_semantics.specs.Clients.{client_at, most_of}
-use Rattle.aom_semantics.specs.Enlisted.{thing_kind}
+use Rattle.aom_semantics.specs.Requests.{thing_kind}
 use Rattle.aom_semantics.specs.Places.{Cell, Elsewhere, In_service, Object, Place, Queued, Service, Tidy}
 use Rattle.aom_semantics.specs.Places.{held, named, requested, same_place, service_of, unserved}
 use Rattle.aom_semantics.specs.Servers.{has_session, is_among, is_from, is_server, seats_taken}

@@ -25,7 +25,7 @@ use Rattle.aom_safety.proofs.Turning.{found}
 use Rattle.aom_safety.specs.Claims.{declared}
 use Rattle.aom_semantics.specs.Clients.{client_at, most_of}
 use Rattle.aom_semantics.specs.Destruction.{begun}
-use Rattle.aom_semantics.specs.Enlisted.{completed_with, on_request, part_of, recorded, timed_out, thing_kind, taken_up}
+use Rattle.aom_semantics.specs.Requests.{completed_with, on_request, part_of, recorded, timed_out, thing_kind, taken_up}
 use Rattle.aom_semantics.specs.Natives.{all_bereaved, is_served_by, terminated_request, is_owed, terminated}
 use Rattle.aom_safety.specs.Kept.{ClientsFit, QueueFits, ServesSent, TasksKept, is_connect_of, is_message_of}
 use Rattle.aom_safety.specs.Laws.{IsWired}

@@ -40,7 +40,7 @@ use Rattle.aom_semantics.specs.State.{home_holder, An_object, AtRoot, Choice, Fr
 use Rattle.aom_safety.specs.WellTyped.{InView, CountsAs, Fits, Houses, IsApart, IsHoused, RootUnclaimed, WellTyped, past_going}
 use Rattle.aom_rules.specs.Requests.{unissued}
 use Rattle.aom_shape.specs.Arguments.{after_of}
-use Rattle.aom_semantics.specs.Enlisted.{hangs, own_request, pending, status_of}
+use Rattle.aom_semantics.specs.Requests.{hangs, own_request, pending, status_of}
 use Rattle.aom_roles.specs.States.{cancel_done}
 use Rattle.std.specs.Ordering.{int_eq}
 use Rattle.aom_roles.specs.Roles.{is_cancel}

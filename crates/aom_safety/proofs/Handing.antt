@@ -19,12 +19,12 @@ use Rattle.aom_shape.specs.declared.kind.Age.TheVariants.{Ready}
 use Rattle.aom_shape.specs.declared.kind.Kind.{Kind}
 use Rattle.aom_shape.specs.declared.kind.Kind.TheVariants.{Maybe}
 use Rattle.aom_safety.proofs.Creation.{create}
-use Rattle.aom_safety.proofs.Requesting.{OfObject, active_listed, asked, home_is_own, in_state, its, of_object, only_idle}
+use Rattle.aom_safety.proofs.Requests.{OfObject, active_listed, asked, home_is_own, in_state, its, of_object, only_idle}
 use Rattle.aom_safety.proofs.Storing.{Alike, alike_fitted, on_some, rerequested_alike}
 use Rattle.aom_safety.proofs.Straight.{At, Fitted, Law, free_register, settle, stepped, top, well, write}
 use Rattle.aom_safety.specs.Claims.{Layer, tasks_of}
 use Rattle.aom_semantics.specs.Effects.{applied, hands_unless, sets}
-use Rattle.aom_semantics.specs.Enlisted.{completed_at_once, in_phase, is_idle, on_request, own_request, rerequested}
+use Rattle.aom_semantics.specs.Requests.{completed_at_once, in_phase, is_idle, on_request, own_request, rerequested}
 use Rattle.aom_semantics.specs.Places.{Cell, Place, Request, Token, held, named, with_new}
 use Rattle.aom_safety.specs.Requests.{Known, Suits}
 use Rattle.aom_semantics.specs.State.{Choice, Frame, State, next, set_word}

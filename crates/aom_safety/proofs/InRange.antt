@@ -14,7 +14,7 @@ use Rattle.aom_safety.proofs.Guarded.{acts_at}
 use Rattle.aom_semantics.specs.Calls.{passed_cells, returned}
 use Rattle.aom_semantics.specs.Tokens.{all_redeemed}
 use Rattle.aom_semantics.specs.Effects.{Effect, Update, applied, cells_after}
-use Rattle.aom_semantics.specs.Enlisted.{rerequested}
+use Rattle.aom_semantics.specs.Requests.{rerequested}
 use Rattle.aom_safety.specs.Laws.{IsWired, RegistersKeep}
 use Rattle.aom_semantics.specs.Moves.{counted, dispatch_ends, step}
 use Rattle.aom_semantics.specs.Places.{Service, set_service, Session, In_service, Queued, Cell, Elsewhere, Entry, Going, Place}

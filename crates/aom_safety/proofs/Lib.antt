@@ -39,7 +39,7 @@ mod Jumps
 mod Storing
 mod Sessions
 mod Words
-mod Requesting
+mod Requests
 mod Serving
 mod Cancelling
 mod Moves
@@ -56,7 +56,7 @@ mod Overriders
 mod Cancelled
 mod Raising
 mod Calling
-mod CallLaws
+mod Calls
 mod Leaving
 mod Dealing
 mod Entries

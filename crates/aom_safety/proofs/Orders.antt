@@ -13,7 +13,7 @@ use Rattle.aom_safety.proofs.Sifted.{cell_of, cell_of_sifted, request_in, reques
 use Rattle.aom_safety.proofs.Storing.{requested_here, requested_there}
 use Rattle.aom_safety.proofs.Unslotting.{service_unslotted}
 use Rattle.aom_semantics.specs.Clients.{each_unslotted}
-use Rattle.aom_semantics.specs.Enlisted.{own_request, rerequested}
+use Rattle.aom_semantics.specs.Requests.{own_request, rerequested}
 use Rattle.aom_semantics.specs.Natives.{all_bereaved, is_served_by, resessioned, terminated_request}
 use Rattle.aom_semantics.specs.Places.{Cell, Object, Place, Request, Service, Tidy, moved, named, requested, service_of, set_request, set_service, without}
 use Rattle.aom_semantics.specs.Servers.{all_unslotted, withdrawn, without_queue}

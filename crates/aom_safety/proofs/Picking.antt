@@ -42,7 +42,7 @@ use Rattle.aom_safety.proofs.Straight.{fits_unowning}
 use Rattle.aom_safety.proofs.Things.{serving_class}
 use Rattle.aom_safety.specs.Claims.{Dispatching, Layer, Mark, claim, declared, declared_field, forms, serves}
 use Rattle.aom_semantics.specs.Clients.{client_at}
-use Rattle.aom_semantics.specs.Enlisted.{part_of}
+use Rattle.aom_semantics.specs.Requests.{part_of}
 use Rattle.aom_safety.specs.Kept.{ClientsFit, QueueFits}
 use Rattle.aom_safety.specs.Laws.{IsAcceptor, IsAttendant, IsWired}
 use Rattle.aom_semantics.specs.Places.{Asked, Cell, Connect_of, Elsewhere, Field, In_service, Message_of, Object, Place, Queued}

@@ -27,7 +27,7 @@ use Rattle.aom_safety.specs.Steps.{Empties, Acts, Arrives, Clears, Comes_out, En
 use Rattle.aom_safety.specs.Tasks.{Below, Holds, TaskLaw}
 use Rattle.aom_semantics.specs.World.{heard_one, Heard, Environment, turn}
 use Rattle.aom_safety.proofs.Turned.{obeys, handles, accepts, attends, parts, commanded_kept, completes, keeps_all, kills, picks, turns_so}
-use Rattle.aom_semantics.specs.Enlisted.{cancel_method, part_of}
+use Rattle.aom_semantics.specs.Requests.{cancel_method, part_of}
 
 -- an instruction is at hand, with its needs met
 pub record Acting (p : Image) (c : Choice) (l : TaskLaw) (s : State) (fr : Frame) (ts : List Task) (i : Instr) : Type 0 where

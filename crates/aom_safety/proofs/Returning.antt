@@ -46,7 +46,7 @@ use Rattle.aom_safety.proofs.Leaving.{known_loud, none_cancels}
 use Rattle.aom_roles.specs.States.{idle}
 use Rattle.aom_semantics.specs.Moves.{does, needs}
 use Rattle.aom_safety.specs.Laws.{IsWired}
-use Rattle.aom_semantics.specs.Enlisted.{ended_cells}
+use Rattle.aom_semantics.specs.Requests.{ended_cells}
 use Rattle.aom_shape.specs.declared.kind.Delivery.TheVariants.{Here}
 use Rattle.aom_roles.specs.Roles.{is_cancel}
 use Rattle.aom_roles.specs.Tests.{AllTrue}

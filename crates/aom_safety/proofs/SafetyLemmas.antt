@@ -39,7 +39,7 @@ pub use Rattle.aom_safety.proofs.Jumps.{not_empty, not_full}
 pub use Rattle.aom_safety.proofs.Storing.{Alike, bereaved_alike, ended_alike, held_set_word, named_set_word, requested_here, requested_set_word}
 pub use Rattle.aom_safety.proofs.Storing.{requested_there, rerequested_alike, resessioned_alike, resessioned_requests, reset}
 pub use Rattle.aom_safety.proofs.Sessions.{session_asked, session_moved, session_new, session_set_word, session_unnamed, session_without}
-pub use Rattle.aom_safety.proofs.Requesting.{active_listed, busy_in, free_in, issuing_active, listed_in, main_of_none, of_object, some_left, unlisted_in}
+pub use Rattle.aom_safety.proofs.Requests.{active_listed, busy_in, free_in, issuing_active, listed_in, main_of_none, of_object, some_left, unlisted_in}
 pub use Rattle.aom_safety.proofs.Destroying.{Untouched, destroys, destroys_by, eqb_comm, untouched}
 pub use Rattle.aom_safety.proofs.Finishing.{all_parts, none_left, returnable}
 pub use Rattle.aom_safety.proofs.Callees.{cancel_family, cancel_quiet, only_then}

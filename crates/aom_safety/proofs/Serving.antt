@@ -12,13 +12,13 @@ use Rattle.aom_rules.specs.Typing.{Typing}
 use Rattle.aom_shape.specs.Kinds.{set_register}
 use Rattle.aom_shape.specs.Shape.{Shape}
 use Rattle.aom_shape.specs.declared.kind.Kind.TheVariants.{Word}
-use Rattle.aom_safety.proofs.Requesting.{home_is_own, in_state}
+use Rattle.aom_safety.proofs.Requests.{home_is_own, in_state}
 use Rattle.aom_safety.proofs.Storing.{sessioned_fitted}
 use Rattle.aom_safety.proofs.Straight.{At, Law, fitted, settle, stepped, well, write}
 use Rattle.aom_safety.proofs.Words.{has_word, unowned, writes_word}
 use Rattle.aom_safety.specs.Claims.{Layer, tasks_of}
 use Rattle.aom_semantics.specs.Effects.{heard}
-use Rattle.aom_semantics.specs.Enlisted.{home_kind, own_request}
+use Rattle.aom_semantics.specs.Requests.{home_kind, own_request}
 use Rattle.aom_semantics.specs.Moves.{does}
 use Rattle.aom_semantics.specs.Natives.{connected, is_owed, opens, replied, resessioned}
 use Rattle.aom_semantics.specs.Places.{Request}

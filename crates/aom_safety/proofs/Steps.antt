@@ -6,7 +6,7 @@ use Rattle.aom_instructions.specs.declared.instr.Instr.{Instr}
 use Rattle.aom_instructions.specs.declared.instr.Instr.TheVariants.{Return, Stop}
 use Rattle.aom_shape.specs.Shape.{Shape}
 use Rattle.aom_rules.specs.Typing.{IsTyped, Typing}
-use Rattle.aom_safety.proofs.CallLaws.{of_calls}
+use Rattle.aom_safety.proofs.Calls.{of_calls}
 use Rattle.aom_safety.proofs.Creation.{of_creation}
 use Rattle.aom_safety.proofs.Destroying.{of_destruction}
 use Rattle.aom_safety.proofs.Destructors.{law_destructor}
@@ -19,7 +19,7 @@ use Rattle.aom_safety.proofs.Words.{of_words}
 use Rattle.aom_safety.proofs.Leaving.{of_leaves}
 use Rattle.aom_safety.proofs.Messages.{of_messages}
 use Rattle.aom_safety.proofs.Moves.{of_moves}
-use Rattle.aom_safety.proofs.Requesting.{main_of_none, of_requests}
+use Rattle.aom_safety.proofs.Requests.{main_of_none, of_requests}
 use Rattle.aom_safety.proofs.Returning.{law_answer, law_return, law_return_caught, law_return_main, law_return_object, law_return_served, law_return_unwound}
 use Rattle.aom_safety.proofs.Straight.{At, Law, fitted, settle, stepped, well}
 use Rattle.aom_safety.proofs.Unwinding.{unwinds}

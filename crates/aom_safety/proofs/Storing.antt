@@ -19,7 +19,7 @@ use Rattle.aom_semantics.specs.State.{Frame, Home, Inside, Seat}
 use Rattle.aom_safety.specs.WellTyped.{AllSit, Back, Fits, IsHoused, Stack}
 use Rattle.aom_semantics.specs.Words.{stored}
 use Rattle.std.proofs.lemmas.Bool.{eqb-true}
-use Rattle.aom_semantics.specs.Enlisted.{ended_cells, on_request, own_request, rerequested}
+use Rattle.aom_semantics.specs.Requests.{ended_cells, on_request, own_request, rerequested}
 use Rattle.aom_semantics.specs.Natives.{all_bereaved, is_served_by, resessioned, terminated_request}
 
 -- the same cells in the same places

@@ -14,7 +14,7 @@ use Rattle.aom_shape.specs.Shape.{Shape}
 use Rattle.aom_safety.proofs.SemanticsLemmas.{named_moved, requested_moved}
 use Rattle.aom_safety.specs.Claims.{Dying, Layer, Mark, Method}
 use Rattle.aom_semantics.specs.Places.{Cell, Object, Place, Request, moved, named, requested}
-use Rattle.aom_semantics.specs.Enlisted.{cancelled, is_unanswered, on_request, pending, status_of}
+use Rattle.aom_semantics.specs.Requests.{cancelled, is_unanswered, on_request, pending, status_of}
 use Rattle.std.specs.Ordering.{int_eq}
 use Rattle.aom_safety.specs.Requests.{AllSuit, Joins, Known, Suits, Unworked, is_free, is_pledged, is_timed, known_at}
 use Rattle.aom_safety.specs.Requests.{resting_in, rests_in, state_of, states_claim, thing_kind, works_at}

@@ -27,7 +27,7 @@ use Rattle.aom_semantics.specs.Clients.{Listed, client_at, commanded, connecting
 use Rattle.aom_semantics.specs.Destruction.{first_session, parting}
 use Rattle.aom_semantics.specs.Effects.{Calls, Cancels, Carried, Destroys, Destroys_last, Effect, Goes_on, Handed, Leaves, Made, Popped, Pushed, Replied}
 use Rattle.aom_semantics.specs.Effects.{Requested, Returns, Sessioned, Sets_trap, Update, Written, applied, cells_after, effect, spot_place}
-use Rattle.aom_semantics.specs.Enlisted.{completed_with, ended_cells, on_request}
+use Rattle.aom_semantics.specs.Requests.{completed_with, ended_cells, on_request}
 use Rattle.aom_semantics.specs.Moves.{answered, counted, dispatch_ends, handled, main_ends, object_ends, step}
 use Rattle.aom_semantics.specs.Places.{Cell, Elsewhere, Entry, Going, In_service, Object, Place, Queued, Request}
 use Rattle.aom_semantics.specs.Places.{Root, Session, Tidy, held, moved, named, requested, service_of, without}

@@ -40,7 +40,7 @@ use Rattle.aom_safety.specs.Traps.{ComesOff, GoesOnAfter, IsPast, IsTrapping, Tr
 use Rattle.aom_safety.specs.WellTyped.{WellTyped}
 use Rattle.aom_semantics.specs.World.{Heard, HearsWell, IsBetween, IsBusy, Environment, Reaches, begins, boot_state, moves, turn, turns}
 use Rattle.aom_transcript.specs.declared.line.Line.{Line}
-use Rattle.aom_semantics.specs.Enlisted.{ended_cells}
+use Rattle.aom_semantics.specs.Requests.{ended_cells}
 use Rattle.aom_semantics.specs.Servers.{is_server}
 
 -- ---- as many marks as traps

@@ -7,7 +7,7 @@ use Rattle.aom_safety.proofs.ImageLemmas.{some_given}
 use Rattle.aom_image.specs.Image.{Image}
 use Rattle.aom_image.specs.declared.method.Role.TheVariants.{Accept as Accepts_role, Service as Attends, Run as Handles}
 use Rattle.aom_safety.proofs.Guarded.{goes_same, guarded_goes}
-use Rattle.aom_semantics.specs.Enlisted.{completed_with, part_of, pending, recorded, taken_up}
+use Rattle.aom_semantics.specs.Requests.{completed_with, part_of, pending, recorded, taken_up}
 use Rattle.aom_semantics.specs.Natives.{all_bereaved, is_outstanding_at}
 use Rattle.aom_semantics.specs.Places.{Asked, Connect_of, Message_of, Close_of, Elsewhere, Session, In_service, Queued, Going, held, moved, Object}
 use Rattle.aom_semantics.specs.State.{Dispatched, Of_server, Accepts, Serves, Parts, frame_of, Inside, A_mark, CompletedTwice, Goes, Counters, Seat, State}

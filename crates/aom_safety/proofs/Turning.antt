@@ -36,7 +36,7 @@ use Rattle.aom_safety.proofs.Signals.{at_rest, signals_are_ready, items_at_rest}
 use Rattle.aom_safety.proofs.Storing.{Alike, fits_alike, requested_here, requested_there, rerequested_alike, sits_alike, bereaved_alike, requested_bereaved}
 use Rattle.aom_safety.proofs.Turned.{picked, recorded_so}
 use Rattle.aom_safety.specs.Claims.{Dispatching, Layer, Mark, claim, declared, forms}
-use Rattle.aom_semantics.specs.Enlisted.{on_request, part_of, pending, taken_up, completed_with}
+use Rattle.aom_semantics.specs.Requests.{on_request, part_of, pending, taken_up, completed_with}
 use Rattle.aom_safety.specs.Kept.{ClientsFit}
 use Rattle.aom_safety.specs.Laws.{IsHandler, IsWired, TurnGoesOn}
 use Rattle.aom_semantics.specs.Places.{Asked, Cell, Close_of, Connect_of, Elsewhere, Message_of, Object, Place}

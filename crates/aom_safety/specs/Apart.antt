@@ -7,7 +7,7 @@ use Rattle.aom_image.specs.declared.method.Thing.TheVariants.{Message}
 use Rattle.aom_safety.specs.Kept.{ClientsFit, TasksKept}
 use Rattle.aom_semantics.specs.Places.{Asked, Cell, Close_of, Connect_of, Elsewhere, In_service, Issued, Message_of, Place, Queued, Root, Sender, unserved}
 use Rattle.aom_semantics.specs.Tokens.{TokensApart}
-use Rattle.aom_semantics.specs.Enlisted.{pending}
+use Rattle.aom_semantics.specs.Requests.{pending}
 use Rattle.aom_semantics.specs.State.{Accept_left, Accepts, Dispatched, Of_server, Parts, Stage}
 use Rattle.aom_semantics.specs.Cases.Building.{a_cell, pair}
 use Rattle.aom_semantics.specs.Cases.Moves.{an_image}

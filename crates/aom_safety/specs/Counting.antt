@@ -3,7 +3,7 @@ use Rattle.std.specs.Prelude.{ℕ, Bool, true, false, cond, is_none, ◌+◌, �
 use Rattle.aom_image.specs.Image.{Image}
 use Rattle.aom_semantics.specs.State.{Dispatch, Of_main, Main_left, Of_root, Of_object, Object_left, Asks, Answered, Task, Run, Destroy, Dispatched, State, Choice, Goes, raised, Of_server}
 use Rattle.aom_image.specs.declared.method.Role.TheVariants.{Error}
-use Rattle.aom_semantics.specs.Enlisted.{part_of}
+use Rattle.aom_semantics.specs.Requests.{part_of}
 use Rattle.aom_semantics.specs.Moves.{step}
 use Rattle.aom_semantics.specs.World.{boot_state, begins, moves, turns, Heard, Reaches, Environment, Turning, Picks, turning, turn}
 use Rattle.aom_transcript.specs.declared.line.Line.{Line}

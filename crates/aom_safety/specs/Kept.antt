@@ -7,7 +7,7 @@ use Rattle.aom_clients.specs.declared.client.Client.{Client}
 use Rattle.aom_clients.specs.Nodes.{is_connecting_at, is_leaving, is_open_at}
 use Rattle.aom_clients.specs.Table.{server_of}
 use Rattle.aom_semantics.specs.Clients.{client_at, most_of}
-use Rattle.aom_semantics.specs.Enlisted.{thing_kind}
+use Rattle.aom_semantics.specs.Requests.{thing_kind}
 use Rattle.aom_semantics.specs.Places.{Asked, Cell, Close_of, Connect_of, Elsewhere, In_service, Message_of, Object, Queued, Service, held, named, service_of, requested}
 use Rattle.aom_semantics.specs.Servers.{has_session, is_from, is_message, is_server, seats_taken}
 use Rattle.aom_semantics.specs.State.{Accept_left, Accepted, Accepts, Dispatched, Of_server, Parts, Run, Service_left, Serves, Stage, State, Task, Trapped, Destroy, Closing, Unwind}

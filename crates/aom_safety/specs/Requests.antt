@@ -10,8 +10,8 @@ use Rattle.aom_image.specs.declared.class.Provider.TheVariants.{Timer as A_timer
 use Rattle.aom_roles.specs.Roles.{is_cancel}
 use Rattle.aom_roles.specs.States.{unlisted, idle, issued, active, cancel_open, cancel_done, server_states, states_of, last_of}
 use Rattle.aom_safety.specs.Claims.{Layer, Method, Mark, Dying, Unwinding, Dispatching, Ending}
-pub use Rattle.aom_semantics.specs.Enlisted.{thing_kind}
-use Rattle.aom_semantics.specs.Enlisted.{in_phase, is_cancelling, is_idle, is_unanswered, pending}
+pub use Rattle.aom_semantics.specs.Requests.{thing_kind}
+use Rattle.aom_semantics.specs.Requests.{in_phase, is_cancelling, is_idle, is_unanswered, pending}
 use Rattle.aom_semantics.specs.Places.{Object, Cell, Phase, Idle, Issued, Active, Cancelling, Aborted, Request, named, requested}
 use Rattle.aom_semantics.specs.State.{Frame, Home, Static, AtRoot, Inside}
 

@@ -16,7 +16,7 @@ use Rattle.aom_semantics.specs.Cleanup.{code_told, ended_by, has_trap, operation
 use Rattle.aom_semantics.specs.Moves.{counted, dispatch_ends, makes, needs, step}
 use Rattle.aom_safety.specs.Leaves.{LeavesWith}
 use Rattle.aom_semantics.specs.Effects.{Update, Same, Carried, Made, Written, Requested, Sessioned, Pushed, Pushed_operation, Popped, Popped_operation, Effect, Goes_on, Jumps, Counts, Repeats, Calls, Cancels, Sets_trap, Returns, Leaves, Destroys, Destroys_last, Operates, applied, Replied, Handed}
-use Rattle.aom_semantics.specs.Enlisted.{cancel_method}
+use Rattle.aom_semantics.specs.Requests.{cancel_method}
 use Rattle.aom_semantics.specs.Servers.{without_queue}
 
 -- ---- which instruction may have an effect

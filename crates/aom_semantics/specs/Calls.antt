@@ -24,7 +24,7 @@ use Rattle.aom_semantics.specs.Servers.{without_queue, opened, reserved}
 use Rattle.aom_semantics.specs.Places.{Object, Place, Register, Entry, Field, Going, Elsewhere, Cell, held, moved, Session, In_service}
 use Rattle.aom_semantics.specs.State.{Home, Static, AtRoot, Inside, Frame, Dispatch, Asks, Answered, Task, Run, Trapped, Destroy, Unwind, Dispatched, Item, An_object, An_operation, A_mark, State, Need, Unbalanced, PopUnder, Orphan, NullOrDead, WrongKind, word, set_word, next, field_place, home_view, frame_as, Of_server, Of_object, Accepts, Accepted, Serves, MessageLost, CompletedTwice}
 use Rattle.aom_semantics.specs.Destruction.{line_on, needs_past}
-use Rattle.aom_semantics.specs.Enlisted.{needs_cancelled}
+use Rattle.aom_semantics.specs.Requests.{needs_cancelled}
 use Rattle.aom_semantics.specs.Tokens.{is_redeemable, token_of}
 use Rattle.aom_semantics.specs.Words.{here, needs_word, word_or_zero}
 use Rattle.aom_semantics.specs.Objects.{is_thing}

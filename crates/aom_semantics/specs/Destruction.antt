@@ -9,7 +9,7 @@ use Rattle.aom_roles.specs.Families.{parent_above}
 use Rattle.aom_classes.specs.Roles.{destructor_of, role_of}
 use Rattle.aom_semantics.specs.Clients.{each_unslotted, queue_ended, sessions_ended}
 use Rattle.aom_semantics.specs.Servers.{is_server, without_queue}
-use Rattle.aom_semantics.specs.Enlisted.{is_idle}
+use Rattle.aom_semantics.specs.Requests.{is_idle}
 use Rattle.aom_semantics.specs.Places.{Place, Register, Entry, Field, Going, Elsewhere, Object, Cell, Request, requested, without, Session, other_cell, service_of, held, moved}
 use Rattle.aom_semantics.specs.State.{AtRoot, Home, Inside, Static, Task, Frame, Run, Destroy, frame_as, State, Outcome, Need, IsStuck, MessageLost, Orphan, NullOrDead, ActiveDestroyed, guarded, resumed, Closing, Seat, Goes, Unbalanced}
 

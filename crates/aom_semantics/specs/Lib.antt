@@ -5,7 +5,7 @@ pub mod Words
 pub mod Objects
 pub mod Calls
 pub mod Cleanup
-pub mod Enlisted
+pub mod Requests
 pub mod Natives
 pub mod Servers
 pub mod Clients

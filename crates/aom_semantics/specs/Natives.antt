@@ -8,7 +8,7 @@ use Rattle.aom_image.specs.declared.class.ClassKind.TheVariants.{Active as An_ac
 use Rattle.aom_image.specs.declared.class.Provider.TheVariants.{Native}
 use Rattle.aom_image.specs.declared.method.Thing.{Thing}
 use Rattle.aom_roles.specs.Kinds.{is_native_kind}
-use Rattle.aom_semantics.specs.Enlisted.{completed_with, home_kind, is_idle, on_request, own_request, pending, recorded, thing_kind}
+use Rattle.aom_semantics.specs.Requests.{completed_with, home_kind, is_idle, on_request, own_request, pending, recorded, thing_kind}
 use Rattle.aom_semantics.specs.Places.{Cell, Request, in_session, set_session}
 use Rattle.aom_semantics.specs.State.{Frame, Home, Static, AtRoot, Inside, Need, State, Task, ClosedWhileOutstanding, WrongKind}
 use Rattle.aom_semantics.specs.Words.{needs_word, needs_written}

@@ -5,7 +5,7 @@ use Rattle.aom_image.specs.declared.method.Thing.{Thing}
 use Rattle.aom_image.specs.declared.method.Thing.TheVariants.{Object as An_object_of, Message}
 use Rattle.aom_roles.specs.Kinds.{is_token_kind}
 use Rattle.aom_semantics.specs.Clients.{count_messages}
-use Rattle.aom_semantics.specs.Enlisted.{completed_with, home_kind, in_phase, is_idle, needs_added, on_request, own_request, pending, recorded, rerequested}
+use Rattle.aom_semantics.specs.Requests.{completed_with, home_kind, in_phase, is_idle, needs_added, on_request, own_request, pending, recorded, rerequested}
 use Rattle.aom_semantics.specs.Natives.{is_owed}
 use Rattle.aom_semantics.specs.Places.{Cell, Issued, Object, Place, Request, Service, Token, held, requested, service_of, unserved}
 use Rattle.aom_semantics.specs.State.{AtRoot, Frame, Home, Inside, Need, Orphan, RequestOverlap, State, Static, Task, WrongKind}

@@ -4,7 +4,7 @@ use Rattle.aom_image.specs.Image.{Image}
 use Rattle.aom_image.specs.Views.{instr_at}
 use Rattle.aom_instructions.specs.declared.instr.Instr.{Instr}
 use Rattle.aom_instructions.specs.declared.instr.Instr.TheVariants.{Abort, Ask, Close, Connect, Issue}
-use Rattle.aom_semantics.specs.Enlisted.{thing_kind}
+use Rattle.aom_semantics.specs.Requests.{thing_kind}
 use Rattle.aom_semantics.specs.Natives.{is_dead, is_owed, native_of}
 use Rattle.aom_semantics.specs.Places.{Going, Object, held, in_session, requested}
 use Rattle.aom_semantics.specs.State.{AtRoot, Destroy, Frame, Home, Inside, Run, State, Static, Task}

@@ -10,7 +10,7 @@ use Rattle.aom_semantics.specs.Clients.{client_count, commanded, refusal}
 use Rattle.aom_semantics.specs.Lines.{refusal_line, serve_line}
 use Rattle.aom_semantics.specs.Servers.{is_asked_for, is_server, reserved, taken_first}
 use Rattle.aom_semantics.specs.Destruction.{begun}
-use Rattle.aom_semantics.specs.Enlisted.{completed_with, is_active, is_idle, is_unsettled, on_request, part_of, pending, recorded, status_of, taken_up, timed_out}
+use Rattle.aom_semantics.specs.Requests.{completed_with, is_active, is_idle, is_unsettled, on_request, part_of, pending, recorded, status_of, taken_up, timed_out}
 use Rattle.aom_semantics.specs.Natives.{all_bereaved, is_dead, is_outstanding_at}
 use Rattle.aom_semantics.specs.Places.{Cell, Object, Request, Timer, named, requested, set_request, Asked, Connect_of, Message_of, Close_of, Elsewhere, Session, In_service, Queued, Going, held, moved, service_of, word_field}
 use Rattle.aom_semantics.specs.State.{AtRoot, Inside, frame_of, Seat, Task, Run, Trapped, Dispatched, Of_main, Of_object, A_mark, State, Choice, Outcome, Goes, IsStuck, CompletedTwice, NullOrDead, Stray, WrongKind, guarded, Frame, Stage, Accepts, Serves, Parts, Of_server, FitsWord}

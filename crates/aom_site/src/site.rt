@@ -13,7 +13,9 @@ ghost use Rattle.aom_shape.specs.declared.why.Why.TheVariants.{PopEmpty, QuietBr
 
 use crate::requests::{is_service, unissued};
 use crate::things::{field_thing, is_own_for, may_be_declared, word_count};
-use aom_image::{FieldIndex, Gives, MethodFlags, MethodNumber, Place, Register, Thing, WordIndex};
+use aom_image::{
+    FieldIndex, Gives, InstrPlace, MethodFlags, MethodNumber, Register, Thing, WordIndex,
+};
 use aom_linked::Linked;
 use aom_shape::{Flow, Next, Shape, Why};
 use bitflags::Flags;
@@ -100,7 +102,7 @@ impl<'a> Site<'a> {
     }
 
     /// On to the next place in one state, or to that place in the other.
-    pub fn fork(&self, after: &Shape<'_>, to: Place, there: &Shape<'_>) -> Flow
+    pub fn fork(&self, after: &Shape<'_>, to: InstrPlace, there: &Shape<'_>) -> Flow
         requires { there.now.entries ≡ after.now.entries }
         ensures { ways_from after.now.entries result ≡ (suc self.now.place, after.now) ∷ (to, there.now) ∷ [] }
     {

@@ -6,7 +6,7 @@ ghost use Rattle.aom_syntax.specs.Operands.{indexed, index_of, register, last_re
 
 use crate::{NameList, Scope, WordReader};
 use aom_image::{
-    ClassNumber, EntryDepth, FieldIndex, LoopDepth, MethodNumber, Place, Register, Target,
+    ClassNumber, EntryDepth, FieldIndex, InstrPlace, LoopDepth, MethodNumber, Register, Target,
     WordIndex,
 };
 use aom_text::{AsmFaultKind, Number};
@@ -155,9 +155,9 @@ impl<'a> WordReader<'a> {
         )
     }
 
-    pub fn label(&mut self, scope: &Scope, labels: &NameList) -> Result<Place, AsmFaultKind>
+    pub fn label(&mut self, scope: &Scope, labels: &NameList) -> Result<InstrPlace, AsmFaultKind>
         ensures { Reads (λ x. (x, self.new)) result (label scope.now labels.now self.old) }
     {
-        Place::new(self.used(scope.is_strict, labels, 1024)?).ok_or(AsmFaultKind::LimitPassed)
+        InstrPlace::new(self.used(scope.is_strict, labels, 1024)?).ok_or(AsmFaultKind::LimitPassed)
     }
 }

@@ -6,7 +6,7 @@ use std::alloc::Global;
 
 /// A sink that takes so many bytes in all, and at most so many at a time.
 #[derive(Drop)]
-pub struct Page {
+pub struct BoundedPage {
     pub text: Vec<u8>,
     /// How many bytes it still takes.
     pub room: usize,
@@ -16,24 +16,24 @@ pub struct Page {
     pub is_full: bool,
 }
 
-impl Page {
+impl BoundedPage {
     /// An empty page.
-    pub fn new(alloc: Global, room: usize) -> Page
+    pub fn new(alloc: Global, room: usize) -> BoundedPage
         ensures empty { result.text.items ≡ [] }
         ensures well { result.is_full ≡ false }
         ensures room { result.room ≡ room }
     {
-        Page::narrow(alloc, room, usize::MAX)
+        BoundedPage::narrow(alloc, room, usize::MAX)
     }
 
     /// An empty page that takes at most so many bytes at a time.
-    pub fn narrow(alloc: Global, room: usize, most: usize) -> Page
+    pub fn narrow(alloc: Global, room: usize, most: usize) -> BoundedPage
         ensures empty { result.text.items ≡ [] }
         ensures well { result.is_full ≡ false }
         ensures room { result.room ≡ room }
         ensures most { result.most ≡ most }
     {
-        Page {
+        BoundedPage {
             text: Vec::new(alloc),
             room,
             most,
@@ -42,7 +42,7 @@ impl Page {
     }
 }
 
-impl Sink for Page {
+impl Sink for BoundedPage {
     ghost use Rattle.std.specs.Prelude.{Some};
 
     ghost out = { λ s. Some s.text.items };

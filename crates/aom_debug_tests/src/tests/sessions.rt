@@ -4,13 +4,13 @@ use super::readers::{Stuck, Typed};
 use aom_commands::{ExitStatus, asm_bytes};
 use aom_debug::{Reader, debug_bytes};
 use aom_natives::Native;
-use aom_test_sinks::{Answer, Page};
+use aom_test_sinks::{BoundedPage, CallAnswer};
 use std::alloc::Global;
 
 /// The bytes of the image of a program.
 fn image_of(alloc: Global, program: &str) -> Vec<u8> {
-    let mut image = Page::new(alloc, 4096);
-    let mut errors = Page::new(alloc, 100);
+    let mut image = BoundedPage::new(alloc, 4096);
+    let mut errors = BoundedPage::new(alloc, 100);
     asm_bytes(alloc, program.as_bytes(), &mut image, &mut errors);
     image.text
 }
@@ -22,9 +22,9 @@ fn debugs<R: Reader>(
     script: &[u8],
     reader: &mut R,
     room: usize,
-) -> Answer<ExitStatus> {
-    let mut out = Page::new(alloc, room);
-    let mut errors = Page::new(alloc, 100);
+) -> CallAnswer<ExitStatus> {
+    let mut out = BoundedPage::new(alloc, room);
+    let mut errors = BoundedPage::new(alloc, 100);
     let boxes: Vec<Box<dyn Native>> = Vec::new(alloc);
     let status = debug_bytes(
         alloc,
@@ -37,11 +37,11 @@ fn debugs<R: Reader>(
         &mut out,
         &mut errors,
     );
-    Answer::of(status, out, errors)
+    CallAnswer::of(status, out, errors)
 }
 
 /// Whether an answer is that, to the output and of what is wrong.
-fn is(answer: &Answer<ExitStatus>, status: ExitStatus, out: &str, errors: &str) -> bool {
+fn is(answer: &CallAnswer<ExitStatus>, status: ExitStatus, out: &str, errors: &str) -> bool {
     answer.status == status
         && answer.out.as_slice() == out.as_bytes()
         && answer.errors.as_slice() == errors.as_bytes()
@@ -61,7 +61,7 @@ fn cancels(
     most: usize,
     is_torn: bool,
     room: usize,
-) -> Answer<ExitStatus> {
+) -> CallAnswer<ExitStatus> {
     let mut reader = Typed {
         rest: asked.as_bytes(),
         most,

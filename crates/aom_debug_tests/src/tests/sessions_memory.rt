@@ -4,11 +4,11 @@ use super::readers::Typed;
 use aom_commands::{ExitStatus, asm_bytes};
 use aom_debug::debug_bytes;
 use aom_natives::Native;
-use aom_test_sinks::{Page, Slip};
+use aom_test_sinks::{BoundedPage, Slip};
 use std::alloc::Global;
 
 /// How the cancel is assembled.
-fn assembles(alloc: Global, image: &mut Page, errors: &mut Slip) -> ExitStatus {
+fn assembles(alloc: Global, image: &mut BoundedPage, errors: &mut Slip) -> ExitStatus {
     asm_bytes(alloc, CANCELS.as_bytes(), image, errors)
 }
 
@@ -35,7 +35,7 @@ fn debugs(alloc: Global, image: &[u8], out: &mut Slip, errors: &mut Slip) -> Exi
 
 #[test]
 fn a_session_is_told_whole_or_not_at_all(rt: HostRuntime) {
-    let mut image = Page::new(rt.alloc(), 4096);
+    let mut image = BoundedPage::new(rt.alloc(), 4096);
     let mut out = Slip::blank();
     let mut errors = Slip::blank();
     if assembles(rt.alloc(), &mut image, &mut errors) != ExitStatus::Done {

@@ -1,18 +1,18 @@
 //! Outputs that fail: what is out then is a beginning of what would have been written, and the fault is told.
-use super::pages::{Call, Case, FIRST, SHORT, all_tell, assembled, is_told, tells};
+use super::pages::{Case, CommandCall, FIRST, SHORT, all_tell, assembled, is_told, tells};
 use aom_commands::{ExitStatus, run_bytes};
-use aom_test_sinks::Page;
+use aom_test_sinks::BoundedPage;
 use std::alloc::Global;
 use std::process::Abort;
 use std::test::Fail;
 
 const CUT: [Case<'static>; 6] = [
-    (Call::Asm(SHORT), 4, b"AOIM"),
-    (Call::Dis(&FIRST), 5, b"image"),
-    (Call::Run(&FIRST, b""), 0, b""),
-    (Call::Run(&FIRST, b""), 10, b"@0 main\nou"),
-    (Call::Run(&FIRST, b""), 20, b"@0 main\nout 7\nend st"),
-    (Call::Check(&FIRST), 5, b"accep"),
+    (CommandCall::Asm(SHORT), 4, b"AOIM"),
+    (CommandCall::Dis(&FIRST), 5, b"image"),
+    (CommandCall::Run(&FIRST, b""), 0, b""),
+    (CommandCall::Run(&FIRST, b""), 10, b"@0 main\nou"),
+    (CommandCall::Run(&FIRST, b""), 20, b"@0 main\nout 7\nend st"),
+    (CommandCall::Check(&FIRST), 5, b"accep"),
 ];
 
 #[test]
@@ -24,8 +24,8 @@ fn the_output_may_fail(rt: HostRuntime) {
 #[test]
 fn a_refusal_may_be_cut(rt: HostRuntime) {
     let alloc = rt.alloc();
-    let mut out = Page::new(alloc, 100);
-    let mut errors = Page::new(alloc, 3);
+    let mut out = BoundedPage::new(alloc, 100);
+    let mut errors = BoundedPage::new(alloc, 3);
     let status = run_bytes(alloc, b"", b"", 1, Vec::new(alloc), &mut out, &mut errors);
     assert!(rt; is_told(status, &out, &errors, ExitStatus::ImageRefused, b"loa"));
 }
@@ -52,7 +52,7 @@ const FIGURES_OF_REFUSED: [(usize, &[u8]); 2] = [(0, b""), (13, b"main price 15"
 const GRAPH: [(usize, &[u8]); 3] = [(0, b""), (7, b"digraph"), (18, b"digraph aom {\nc0 [")];
 
 /// A call is cut so at each of these rooms for its output, and the fault is told.
-fn all_cut(rt: &impl Abort, alloc: Global, call: &Call<'_>, cuts: &[(usize, &[u8])]) {
+fn all_cut(rt: &impl Abort, alloc: Global, call: &CommandCall<'_>, cuts: &[(usize, &[u8])]) {
     for cut in cuts {
         assert!(rt;
             tells(alloc, call, cut.0, ExitStatus::Fault, cut.1),
@@ -67,15 +67,15 @@ fn all_cut(rt: &impl Abort, alloc: Global, call: &Call<'_>, cuts: &[(usize, &[u8
 fn figures_and_graphs_may_be_cut(rt: HostRuntime) -> Result<(), Fail> {
     let alloc = rt.alloc();
     let paid = assembled(&rt, alloc, &["image cells 3 budget 15;", THREE])?;
-    all_cut(&rt, alloc, &Call::Prices(paid.as_slice()), &FIGURES);
+    all_cut(&rt, alloc, &CommandCall::Prices(paid.as_slice()), &FIGURES);
     let unpaid = assembled(&rt, alloc, &["image cells 3 budget 14;", THREE])?;
     all_cut(
         &rt,
         alloc,
-        &Call::Prices(unpaid.as_slice()),
+        &CommandCall::Prices(unpaid.as_slice()),
         &FIGURES_OF_REFUSED,
     );
-    all_cut(&rt, alloc, &Call::Dot(unpaid.as_slice()), &GRAPH);
+    all_cut(&rt, alloc, &CommandCall::Dot(unpaid.as_slice()), &GRAPH);
     Ok(())
 }
 
@@ -117,13 +117,13 @@ end waiting cells 1
 ";
 
 /// The output takes so many bytes of the run and then fails: just these are out.
-fn is_cut_at(alloc: Global, call: &Call<'_>, room: usize) -> bool {
+fn is_cut_at(alloc: Global, call: &CommandCall<'_>, room: usize) -> bool {
     room <= DISCARDED.len() && tells(alloc, call, room, ExitStatus::Fault, &DISCARDED[..room])
 }
 
 /// It is so wherever the output ends.
 fn is_cut_everywhere(rt: &impl Abort, alloc: Global, image: &[u8]) {
-    let call = Call::Run(image, DIES.as_bytes());
+    let call = CommandCall::Run(image, DIES.as_bytes());
     for room in 0..DISCARDED.len() {
         assert!(rt; is_cut_at(alloc, &call, room), "{room}");
     }

@@ -2,7 +2,7 @@
 use super::pages::FIRST;
 use aom_commands::{ExitStatus, Fault};
 use aom_explaining::{check_explained, explanation};
-use aom_test_sinks::{Page, Slip};
+use aom_test_sinks::{BoundedPage, Slip};
 use std::test::Fail;
 
 /// Any request for memory may be refused: then the command says so behind the fault's line. Nothing here but the command asks
@@ -21,7 +21,7 @@ fn explaining_may_want_memory(rt: HostRuntime) {
     }
     assert!(rt; ended == ExitStatus::ImageRefused);
     let said =
-        b"load 1\nwrong magic: The first four bytes are not AOIM. An assembly text is refused so.\nTo mend it: Assemble the text first, and name the image.\n";
+        b"load 1\nwrong magic: The first four bytes are not AOIM. An assembly text is refused so.\nTo mend it: Put --asm before a text, or assemble it first and name the image.\n";
     assert!(rt; told.has(b"load 1\nmemory\n") || told.has(said));
 }
 
@@ -34,14 +34,20 @@ fn want_of_memory_is_explained(rt: HostRuntime) -> Result<(), Fail> {
 }
 
 /// Whether a call ended and wrote so.
-fn is(ended: ExitStatus, out: &Page, errors: &Page, text: &[u8], line: &[u8]) -> bool {
+fn is(
+    ended: ExitStatus,
+    out: &BoundedPage,
+    errors: &BoundedPage,
+    text: &[u8],
+    line: &[u8],
+) -> bool {
     ended == ExitStatus::Fault && out.text.as_slice() == text && errors.text.as_slice() == line
 }
 
 #[test]
 fn an_output_that_fails_is_explained(rt: HostRuntime) {
-    let mut out = Page::new(rt.alloc(), 6);
-    let mut errors = Page::new(rt.alloc(), 4096);
+    let mut out = BoundedPage::new(rt.alloc(), 6);
+    let mut errors = BoundedPage::new(rt.alloc(), 4096);
     let ended = check_explained(rt.alloc(), &FIRST, false, &mut out, &mut errors);
     let line =
         b"write\nwrite: The standard output took nothing more. What is out is a beginning.\nTo mend it: Look for a full disk, or a reader that has ended.\n";

@@ -1,5 +1,5 @@
 //! A child in its parent's place, from the bytes of an image to the transcript.
-use super::pages::{Call, Case, all_tell};
+use super::pages::{Case, CommandCall, all_tell};
 use aom_commands::ExitStatus;
 
 /// The image of `examples/shapes.aom`: a square, which is a shape, answers its area in its own way.
@@ -27,9 +27,9 @@ const SHAPES: [u8; 548] = [
 ];
 
 const FAMILY: [Case<'static>; 2] = [
-    (Call::Check(&SHAPES), 100, b"accepted\n"),
+    (CommandCall::Check(&SHAPES), 100, b"accepted\n"),
     (
-        Call::Run(&SHAPES, b""),
+        CommandCall::Run(&SHAPES, b""),
         100,
         b"@0 main\nout 16\nout 2\nout 1\ngone 0\ngone 2\nend stopped cells 0\n",
     ),
@@ -51,6 +51,6 @@ fn a_stranger_overrides_nothing(rt: HostRuntime) {
         &rt,
         rt.alloc(),
         ExitStatus::ImageRefused,
-        &[(Call::Check(&image), 100, b"link 11\n")],
+        &[(CommandCall::Check(&image), 100, b"link 11\n")],
     );
 }

@@ -1,13 +1,19 @@
 //! Any request for memory may be refused: then a command says so, and writes nothing else. Nothing here but the
 //! command asks for memory.
-use super::pages::{Call, FIRST, FULL_HEAP, LISTING, SHORT, answer, sides};
+use super::pages::{CommandCall, FIRST, FULL_HEAP, LISTING, SHORT, answer, sides};
 use aom_commands::{ExitStatus, Fault, tell};
 use aom_test_sinks::Slip;
 use std::alloc::Global;
 use std::process::Abort;
 
 /// A call ends so and tells that, or wants memory.
-fn may_tell(rt: &impl Abort, alloc: Global, call: &Call<'_>, status: ExitStatus, told: &[u8]) {
+fn may_tell(
+    rt: &impl Abort,
+    alloc: Global,
+    call: &CommandCall<'_>,
+    status: ExitStatus,
+    told: &[u8],
+) {
     let mut out = Slip::blank();
     let mut errors = Slip::blank();
     let ended = answer(alloc, call, &mut out, &mut errors);
@@ -20,40 +26,44 @@ fn may_tell(rt: &impl Abort, alloc: Global, call: &Call<'_>, status: ExitStatus,
 }
 
 /// The calls, how they end, and what they tell.
-const CASES: [(Call<'static>, ExitStatus, &[u8]); 8] = [
-    (Call::Check(&FULL_HEAP), ExitStatus::Done, b"accepted\n"),
+const CASES: [(CommandCall<'static>, ExitStatus, &[u8]); 8] = [
     (
-        Call::Run(&FULL_HEAP, b"\n"),
+        CommandCall::Check(&FULL_HEAP),
+        ExitStatus::Done,
+        b"accepted\n",
+    ),
+    (
+        CommandCall::Run(&FULL_HEAP, b"\n"),
         ExitStatus::Done,
         b"@0 main\nout 1\ngone 0\nend stopped cells 0\n",
     ),
     (
-        Call::Prices(&FIRST),
+        CommandCall::Prices(&FIRST),
         ExitStatus::Done,
         b"accepted\nmain price 4 declared 4\nframes 1 of 256\nentries 0 of 1024\nmethod 0 price 4 frames 1 entries 0\n",
     ),
     (
-        Call::Dot(&FIRST),
+        CommandCall::Dot(&FIRST),
         ExitStatus::Done,
         b"digraph aom {\nm0 [label=\"m0 main\\nprice 4 frames 1 entries 0\"]\n}\n",
     ),
-    (Call::Asm(SHORT), ExitStatus::Done, &FIRST),
-    (Call::Dis(&FIRST), ExitStatus::Done, LISTING),
+    (CommandCall::Asm(SHORT), ExitStatus::Done, &FIRST),
+    (CommandCall::Dis(&FIRST), ExitStatus::Done, LISTING),
     // a refusal may want memory too
     (
-        Call::Asm(b"image budget 4\nfoo"),
+        CommandCall::Asm(b"image budget 4\nfoo"),
         ExitStatus::ImageRefused,
         b"asm 2 2\n",
     ),
     (
-        Call::Run(&FIRST, b"x"),
+        CommandCall::Run(&FIRST, b"x"),
         ExitStatus::CallRefused,
         b"script 1 2\n",
     ),
 ];
 
 /// Each of these ends and tells so, or wants memory.
-fn all_may_tell(rt: &impl Abort, alloc: Global, cases: &[(Call<'_>, ExitStatus, &[u8])]) {
+fn all_may_tell(rt: &impl Abort, alloc: Global, cases: &[(CommandCall<'_>, ExitStatus, &[u8])]) {
     for case in cases {
         may_tell(rt, alloc, &case.0, case.1, case.2);
     }
@@ -62,7 +72,7 @@ fn all_may_tell(rt: &impl Abort, alloc: Global, cases: &[(Call<'_>, ExitStatus, 
 #[test]
 fn each_call_may_want_memory(rt: HostRuntime) {
     all_may_tell(&rt, rt.alloc(), &CASES);
-    let short = Call::Check(&FIRST[..79]);
+    let short = CommandCall::Check(&FIRST[..79]);
     may_tell(
         &rt,
         rt.alloc(),
@@ -85,7 +95,12 @@ const UNPAID: [u8; 80] = [
 fn refusing_with_figures_may_want_memory(rt: HostRuntime) {
     let mut out = Slip::blank();
     let mut errors = Slip::blank();
-    let ended = answer(rt.alloc(), &Call::Prices(&UNPAID), &mut out, &mut errors);
+    let ended = answer(
+        rt.alloc(),
+        &CommandCall::Prices(&UNPAID),
+        &mut out,
+        &mut errors,
+    );
     if ended == ExitStatus::Fault {
         assert!(rt; out.has(b"") && errors.has(b"memory\n"));
         return;

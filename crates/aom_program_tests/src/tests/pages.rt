@@ -6,7 +6,7 @@ use aom_commands::{
 };
 use aom_natives::Native;
 use aom_run::Sink;
-use aom_test_sinks::Page;
+use aom_test_sinks::BoundedPage;
 use std::alloc::Global;
 use std::process::Abort;
 use std::test::Fail;
@@ -31,7 +31,7 @@ pub const FULL_HEAP: [u8; 156] = [
 
 /// A command, and what it is given.
 #[derive(Clone, Copy)]
-pub enum Call<'a> {
+pub enum CommandCall<'a> {
     Asm(&'a [u8]),
     Check(&'a [u8]),
     /// `check --prices`.
@@ -59,17 +59,24 @@ pub fn run_beside<W: Sink, E: Sink>(
 /// Makes a call. What the command promises is left behind here.
 pub fn answer<W: Sink, E: Sink>(
     alloc: Global,
-    call: &Call<'_>,
+    call: &CommandCall<'_>,
     out: &mut W,
     errors: &mut E,
 ) -> ExitStatus {
     match *call {
-        Call::Asm(text) => asm_bytes(alloc, text, out, errors),
-        Call::Check(image) => check_bytes(alloc, image, out, errors),
-        Call::Prices(image) => prices_bytes(alloc, image, out, errors),
-        Call::Dis(image) => dis_bytes(alloc, image, out, errors),
-        Call::Dot(image) => dot_bytes(alloc, image, out, errors),
-        Call::Run(image, script) => run_beside(alloc, image, script, Vec::new(alloc), out, errors),
+        CommandCall::Asm(text) => asm_bytes(alloc, text, out, errors),
+        CommandCall::Check(image) => check_bytes(alloc, image, out, errors),
+        CommandCall::Prices(image) => prices_bytes(alloc, image, out, errors),
+        CommandCall::Dis(image) => dis_bytes(alloc, image, out, errors),
+        CommandCall::Dot(image) => dot_bytes(alloc, image, out, errors),
+        CommandCall::Run(image, script) => run_beside(
+            alloc,
+            image,
+            script,
+            Vec::new(alloc),
+            out,
+            errors,
+        ),
     }
 }
 
@@ -84,9 +91,15 @@ pub fn sides(status: ExitStatus, told: &[u8]) -> (&[u8], &[u8]) {
 }
 
 /// Whether a call with so much room for the output, which takes three bytes at a time, ends so and tells that.
-pub fn tells(alloc: Global, call: &Call<'_>, room: usize, status: ExitStatus, told: &[u8]) -> bool {
-    let mut out = Page::narrow(alloc, room, 3);
-    let mut errors = Page::new(alloc, 100);
+pub fn tells(
+    alloc: Global,
+    call: &CommandCall<'_>,
+    room: usize,
+    status: ExitStatus,
+    told: &[u8],
+) -> bool {
+    let mut out = BoundedPage::narrow(alloc, room, 3);
+    let mut errors = BoundedPage::new(alloc, 100);
     let ended = answer(alloc, call, &mut out, &mut errors);
     is_told(ended, &out, &errors, status, told)
 }
@@ -94,8 +107,8 @@ pub fn tells(alloc: Global, call: &Call<'_>, room: usize, status: ExitStatus, to
 /// Whether a call that has ended and written so has told that.
 pub fn is_told(
     ended: ExitStatus,
-    out: &Page,
-    errors: &Page,
+    out: &BoundedPage,
+    errors: &BoundedPage,
     status: ExitStatus,
     told: &[u8],
 ) -> bool {
@@ -104,7 +117,7 @@ pub fn is_told(
 }
 
 /// A call, the room for its output, and what it tells.
-pub type Case<'a> = (Call<'a>, usize, &'a [u8]);
+pub type Case<'a> = (CommandCall<'a>, usize, &'a [u8]);
 
 /// Each call ends so, and tells as its case says.
 pub fn all_tell(rt: &impl Abort, alloc: Global, status: ExitStatus, cases: &[Case<'_>]) {
@@ -128,9 +141,14 @@ pub fn joined(alloc: Global, parts: &[&str]) -> Result<String, Fail> {
 /// The bytes of the image that a text in parts denotes.
 pub fn assembled(rt: &impl Abort, alloc: Global, parts: &[&str]) -> Result<Vec<u8>, Fail> {
     let text = joined(alloc, parts)?;
-    let mut image = Page::new(alloc, 1 << 12);
-    let mut errors = Page::new(alloc, 100);
-    let status = answer(alloc, &Call::Asm(text.as_bytes()), &mut image, &mut errors);
+    let mut image = BoundedPage::new(alloc, 1 << 12);
+    let mut errors = BoundedPage::new(alloc, 100);
+    let status = answer(
+        alloc,
+        &CommandCall::Asm(text.as_bytes()),
+        &mut image,
+        &mut errors,
+    );
     assert!(rt; status == ExitStatus::Done, "a text that denotes no image");
     Ok(image.text)
 }

@@ -5,7 +5,7 @@ ghost use Rattle.aom_natives.specs.Owed.{OweNothing};
 use super::pages::{assembled, is_told, run_beside};
 use aom_commands::ExitStatus;
 use aom_natives::Native;
-use aom_test_sinks::Page;
+use aom_test_sinks::BoundedPage;
 use std::alloc::Global;
 use std::process::Abort;
 use std::test::Fail;
@@ -23,8 +23,8 @@ fn serves(
     requires { OweNothing (λ b. (⟦<dyn Native as Native>⟧ b.vtable).owed b.value) boxes.items }
 {
     let image = assembled(rt, alloc, text)?;
-    let mut out = Page::new(alloc, 1 << 10);
-    let mut errors = Page::new(alloc, 100);
+    let mut out = BoundedPage::new(alloc, 1 << 10);
+    let mut errors = BoundedPage::new(alloc, 100);
     let ended = run_beside(
         alloc,
         image.as_slice(),

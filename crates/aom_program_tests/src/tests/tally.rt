@@ -25,32 +25,32 @@ enum Ask {
 
 /// How often a native was asked for what, in that order, and the sum of its events' words.
 #[derive(Clone, Copy)]
-struct Asked {
+struct AskCounts {
     times: [u32; 8],
     words: i32,
 }
 
 /// A native, and how often it was asked for what, which is counted outside, where it can be read once the native is gone.
-struct Tally<N: Native> {
+struct CountedNative<N: Native> {
     native: N,
-    asked: Rc<Cell<Asked>>,
+    asked: Rc<Cell<AskCounts>>,
 }
 
-impl<N: Native> Drop for Tally<N> {
+impl<N: Native> Drop for CountedNative<N> {
     fn drop(self) {
         self.note(Ask::Dropped, 0);
-        let Tally {
+        let CountedNative {
             native: _,
             asked: _,
         } = self;
     }
 }
 
-impl<N: Native> Tally<N> {
-    fn new(native: N, asked: Rc<Cell<Asked>>) -> Tally<N>
-        ensures { ⟦<Tally<N> as Native>⟧.owed result ≡ N.owed native }
+impl<N: Native> CountedNative<N> {
+    fn new(native: N, asked: Rc<Cell<AskCounts>>) -> CountedNative<N>
+        ensures { ⟦<CountedNative<N> as Native>⟧.owed result ≡ N.owed native }
     {
-        Tally { native, asked }
+        CountedNative { native, asked }
     }
 
     /// Once more, with the word of an event.
@@ -64,7 +64,7 @@ impl<N: Native> Tally<N> {
     }
 }
 
-impl<N: Native> Native for Tally<N> {
+impl<N: Native> Native for CountedNative<N> {
     ghost owed = { λ t. N.owed t.native };
 
     ghost open_may = { λ t. N.open_may t.native };
@@ -115,12 +115,12 @@ impl<N: Native> Native for Tally<N> {
 fn tallied<N: Native>(
     alloc: Global,
     native: N,
-    asked: &Rc<Cell<Asked>>,
-) -> Result<Box<Tally<N>>, AllocError>
+    asked: &Rc<Cell<AskCounts>>,
+) -> Result<Box<CountedNative<N>>, AllocError>
     requires { N.owed native ≡ [] }
-    ensures { IfOk result (λ b. ⟦<Tally<N> as Native>⟧.owed b.value ≡ []) }
+    ensures { IfOk result (λ b. ⟦<CountedNative<N> as Native>⟧.owed b.value ≡ []) }
 {
-    Ok(Box::new(alloc, Tally::new(native, asked.clone()?))?)
+    Ok(Box::new(alloc, CountedNative::new(native, asked.clone()?))?)
 }
 
 /// A run of the image that asks, whose main ends as a text says, under a script: how it ends, what it tells, and how often the
@@ -190,7 +190,7 @@ const CASES: [Case<'static>; 6] = [
 ];
 
 /// What a native that nobody has asked yet was asked.
-const NEVER: Asked = Asked {
+const NEVER: AskCounts = AskCounts {
     times: [0; 8],
     words: 0,
 };

@@ -1,6 +1,6 @@
 -- What a turn does of events and natives: in which order they come, and what a kill or a completion leaves.
 use Rattle.std.specs.Prelude.{ℕ, ℤ, pos, negsuc, Bool, true, false, ◌≡◌, List, [], ◌∷◌, map, Option, None, Some}
-use Rattle.aom_semantics.specs.Enlisted.{pending}
+use Rattle.aom_semantics.specs.Requests.{pending}
 use Rattle.aom_semantics.specs.Places.{Active, Cell, Elsewhere, Idle, Issued, Phase, Request, Root}
 use Rattle.aom_semantics.specs.State.{CompletedTwice, Goes, IsStuck, NullOrDead, Outcome, State, Stuck}
 use Rattle.aom_semantics.specs.World.{Completes, Hears, Kills, Environment, Passes, Picks, Polls, Turning, Waits, nothing_heard, refusing, turning, turned}

@@ -2,7 +2,7 @@
 use Rattle.std.specs.Prelude.{ℕ, ℤ, pos, negsuc, Bool, true, false, ◌≡◌, List, [], ◌∷◌, Option, None, Some}
 use Rattle.aom_instructions.specs.declared.instr.Instr.{Instr}
 use Rattle.aom_instructions.specs.declared.instr.Instr.TheVariants.{Ask, Close, Connect, Issue}
-use Rattle.aom_semantics.specs.Enlisted.{pending, status_of}
+use Rattle.aom_semantics.specs.Requests.{pending, status_of}
 use Rattle.aom_image.specs.Image.{Image}
 use Rattle.aom_semantics.specs.Moves.{IsOpen, step}
 use Rattle.aom_semantics.specs.Places.{Cell, Phase, Idle, Issued, Active, Cancelling, Aborted, Elsewhere, Root, in_session, requested}

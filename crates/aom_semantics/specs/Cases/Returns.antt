@@ -6,7 +6,7 @@ use Rattle.aom_image.specs.declared.method.Gives.TheVariants.{Nothing, Word as A
 use Rattle.aom_image.specs.declared.method.Thing.TheVariants.{Message}
 use Rattle.aom_image.specs.declared.method.Role.{Role}
 use Rattle.aom_image.specs.declared.method.Role.TheVariants.{Cancel, Do}
-use Rattle.aom_semantics.specs.Enlisted.{cancelled_code, pending}
+use Rattle.aom_semantics.specs.Requests.{cancelled_code, pending}
 use Rattle.aom_semantics.specs.Places.{Aborted, Active, Cancelling, Elsewhere, Entry, Field, Phase, Place, Register, Root}
 use Rattle.aom_semantics.specs.State.{Static, frame_of, Task, Run, Trapped, Destroy, Unwind, Dispatched, Of_main, An_object, An_operation, A_mark, Stuck, CancelHang, Unbalanced, MessageLost, Orphan, NullOrDead, WrongKind}
 use Rattle.aom_semantics.specs.Cases.Building.{child, leaf, pair, waiter, seven, a_cell, at_bottom, mine, inside, Case, fails, AllComeOut}

@@ -20,7 +20,7 @@ use Rattle.aom_semantics.specs.Cases.Families.{a_family}
 use Rattle.aom_semantics.specs.Cases.Programs.{a_method, main_of}
 use Rattle.aom_semantics.specs.Cases.Requests.{elsewhere_cases}
 use Rattle.aom_semantics.specs.Cases.Running.{Ends, Runs, Sticks, Told, Unended, run_of}
-use Rattle.aom_semantics.specs.Enlisted.{pending}
+use Rattle.aom_semantics.specs.Requests.{pending}
 use Rattle.aom_semantics.specs.Places.{Aborted, Active as Waits, Cancelling, Cell, Elsewhere, Idle, Issued, Phase, Root, Token, unserved}
 use Rattle.aom_semantics.specs.State.{AddedWrong, CompletedTwice, Orphan, RequestOverlap, Stuck, WrongKind}
 

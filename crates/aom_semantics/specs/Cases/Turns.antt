@@ -1,6 +1,6 @@
 -- What a turn does, by what signals, what is due and what waits; and where it is stuck.
 use Rattle.std.specs.Prelude.{ℕ, ℤ, pos, negsuc, List, [], ◌∷◌, ◌≡◌, Some, None}
-use Rattle.aom_semantics.specs.Enlisted.{pending}
+use Rattle.aom_semantics.specs.Requests.{pending}
 use Rattle.aom_semantics.specs.Places.{Aborted, Active, Cancelling, Cell, Elsewhere, Idle, Issued, Object, Phase, Root, Timer}
 use Rattle.aom_semantics.specs.State.{IsStuck, Seat, State, Stray}
 use Rattle.aom_semantics.specs.World.{Completes, Cuts, Environment, Passes, Picks, Strays, Turning, Waits, nothing_heard, ready_count, refusing, signal_count, turn, turning}

@@ -17,8 +17,8 @@ new-requires-clause-stands g c = (boot_state c.args.accepted.now, c.requires.sta
 pub new-requires-clause-timely : goal.new-requires-clause-timely
 new-requires-clause-timely g c = c.requires.timely
 
-pub new-requires-clause-turn : goal.new-requires-clause-turn
-new-requires-clause-turn g c =
+pub new-requires-clause-lines : goal.new-requires-clause-lines
+new-requires-clause-lines g c =
     let room = c.in-Ok.ensures.room in
     let same = ap (λ (q : Image). 64 + step_lines q.header.messages) c.requires.image in
     (c.in-Ok.ensures.lines, omega (arith, room, same))

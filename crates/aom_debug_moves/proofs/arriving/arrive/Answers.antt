@@ -29,8 +29,8 @@ loop-mover-smaller g c =
     let turned = c.turn_out.new.mover.machine in
     let resting = sym c.progress.ensures ∙ c.in-Turned.is in
     let takes = c.turn_out.ensures.takes in
-    let so = subst (λ o. TakesTurns m.machine o takes.0 m.turn takes.1 turned) (hears_as keeps) takes.2 in
-    let less = nearer _ _ _ (λ again. fewer _ c.requires.ready.few m.machine turned m.turn takes.1 takes.0 keeps.ready.stands resting so again) in
+    let so = subst (λ o. TakesTurns m.machine o takes.0 m.lines takes.1 turned) (hears_as keeps) takes.2 in
+    let less = nearer _ _ _ (λ again. fewer _ c.requires.ready.few m.machine turned m.lines takes.1 takes.0 keeps.ready.stands resting so again) in
     subst (λ q. to_go (progress turned.core) (left a.script.timed a.limit turned) < to_go q (left a.script.timed a.limit m.machine)) (sym resting) less
 
 pub loop-mover-preserved : goal.loop-mover-preserved

@@ -69,7 +69,7 @@ loop-done-preserved g c =
     let some = c.in_ok-other.ensures.went in
     let comes = comes_so a m mid i.keeps _ _ some.0 in
     let keeps = keeps_on i.keeps c.arrive.ensures.keeps in
-    let noted = subst (λ spots. Sends (Strides mid.machine.core.image mid.turn.refused spots n.recent) mid.machine
+    let noted = subst (λ spots. Sends (Strides mid.machine.core.image mid.lines.refused spots n.recent) mid.machine
     (g.W.Sink.out c.arrive.new.out) out n.machine) c.arrive.ensures.recent c.in_ok-stride.ensures.went.0 in
     let step = begun_as keeps (λ q r. Sends (Strides q r m.recent n.recent) mid.machine (g.W.Sink.out c.arrive.new.out) out n.machine) noted in
     let more : suc c.loop-done.done ≡ c.loop-done.done + 1 = omega arith in

@@ -16,7 +16,7 @@ returns-in-Running-clause-went g c =
     let goes = begun_as c.arrive.ensures.keeps (λ q r. Sends (stretch_of q r marks c.args.stretch a.recent n.recent) m.machine
     (g.W.Sink.out c.arrive.new.out) (g.W.Sink.out c.go_stretch.new.out) n.machine) in
     went_as a m n _ _ _ _ c.go_stretch.result
-    (λ x. in_dispatch _ _ (stretch_of a.machine.core.image a.turn.refused marks c.args.stretch)
+    (λ x. in_dispatch _ _ (stretch_of a.machine.core.image a.lines.refused marks c.args.stretch)
     a.recent n.recent a.machine m.machine n.machine _ _ _ some.0 (sym some.1 ∙ c.in-Running.is) (goes (rw c.arrive.ensures.recent at x)))
     (λ x. walk_cut a m n c.arrive.ensures.keeps _ _ _ some.0 x) c.go_stretch.ensures.went
 
@@ -25,7 +25,7 @@ returns-in_default-clause-went g c =
     let a = c.args.mover.now in
     let m = c.arrive.new.mover in
     let some = c.in_ok-other.ensures.went in
-    let leads = stretch_of a.machine.core.image a.turn.refused c.args.breakpoints.now c.args.stretch in (
+    let leads = stretch_of a.machine.core.image a.lines.refused c.args.breakpoints.now c.args.stretch in (
       over_there _ _ leads a.recent m.recent c.arrive.ensures.recent a.machine m.machine _ _ (λ is. c.in_default.not-Running (some.1 ∙ is))
           (λ is. c.in_ok-other.ensures.goes (some.1 ∙ is)) some.0,
       some.1,

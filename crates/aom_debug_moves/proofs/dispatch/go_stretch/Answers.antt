@@ -13,7 +13,7 @@ pub returns-in-Over-clause-went : goal.returns-in-Over-clause-went
 returns-in-Over-clause-went g c =
     let a = c.args.mover.now in
     let n = c.walk-in-Over.new.mover in
-    rw c.in-Over.is (went_as a a n _ _ _ _ c.walk-in-Over.result (walks_over a.machine.core.image a.turn.refused c.in-Over.scope c.args.breakpoints.now
+    rw c.in-Over.is (went_as a a n _ _ _ _ c.walk-in-Over.result (walks_over a.machine.core.image a.lines.refused c.in-Over.scope c.args.breakpoints.now
     a.recent n.recent c.depth_of-depth.result a.machine n.machine _ _ c.depth_of-depth.ensures) (λ x. x) c.walk-in-Over.ensures.went)
 
 pub returns-in-OnTo-clause-went : goal.returns-in-OnTo-clause-went
@@ -23,7 +23,7 @@ returns-in-OnTo-clause-went g c =
     let n = c.walk_unless.new.mover in
     let rests = c.is_there-rests in
     rw c.in-OnTo.is (went_as a a n _ _ _ _ c.walk_unless.result
-    (walked_on p a.turn.refused (λ (s : State). stays_at p c.in-OnTo.until c.args.breakpoints.now s)
+    (walked_on p a.lines.refused (λ (s : State). stays_at p c.in-OnTo.until c.args.breakpoints.now s)
     a.recent n.recent a.machine n.machine _ _ rests.result rests.ensures) (λ x. x) c.walk_unless.ensures.went)
 
 pub is_there-rests-requires : goal.is_there-rests-requires

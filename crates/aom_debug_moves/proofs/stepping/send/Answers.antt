@@ -1,4 +1,4 @@
--- What goes out is the turn's lines, or a beginning of them.
+-- What goes out is the buffer's lines, or a beginning of them.
 use Rattle.std.proofs.Common.{rules}
 use Rattle.aom_debug_moves.proofs.stepping.send.Goals as goal
 

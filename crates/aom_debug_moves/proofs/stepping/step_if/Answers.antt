@@ -14,33 +14,33 @@ returns-clause-keeps g c =
     let a = c.args.mover.now in
     let ready = c.requires.ready in
     let step = c.step-progress in
-    let steps = stepped_of a.machine step.new.self step.result a.turn step.new.turn step.ensures.steps in
-    let same = cleared a.machine step.new.self step.result a.turn step.new.turn ready.none steps ready.stands c.send.new.turn c.send.ensures.clear in
+    let steps = stepped_of a.machine step.new.self step.result a.lines step.new.lines step.ensures.steps in
+    let same = cleared a.machine step.new.self step.result a.lines step.new.lines ready.none steps ready.stands c.send.new.lines c.send.ensures.clear in
     keeps_with a ready _ _ _ step.ensures.image step.ensures.natives same
-    (stands_after a.machine step.new.self step.result a.turn step.new.turn ready.none steps ready.stands)
+    (stands_after a.machine step.new.self step.result a.lines step.new.lines ready.none steps ready.stands)
 
 pub returns-clause-went : goal.returns-clause-went
 returns-clause-went g c =
     let a = c.args.mover.now in
     let ready = c.requires.ready in
     let step = c.step-progress in
-    let new = record a { machine = step.new.self; turn = c.send.new.turn; page = c.send.new.page } in
+    let new = record a { machine = step.new.self; lines = c.send.new.lines; page = c.send.new.page } in
     let before = g.W.Sink.out c.args.out.now in
     let out = g.W.Sink.out c.send.new.out in
-    let leads = StepsOnce a.machine.core.image a.turn.refused in
-    let steps = stepped_of a.machine step.new.self step.result a.turn step.new.turn step.ensures.steps in
+    let leads = StepsOnce a.machine.core.image a.lines.refused in
+    let steps = stepped_of a.machine step.new.self step.result a.lines step.new.lines step.ensures.steps in
     went_if a new before out (g.W.Sink.failed c.send.new.out) step.result c.send.result c.then_some.result c.then_some.ensures
-    (far_after a.machine step.new.self step.result a.turn step.new.turn ready.none steps ready.stands)
+    (far_after a.machine step.new.self step.result a.lines step.new.lines ready.none steps ready.stands)
     (λ all. sends_if_so c.args.asked c.if-not-asked.false leads a.machine step.new.self before out
-    (sends_step a.machine step.new.self step.result a.turn step.new.turn ready.none steps before out (c.send.ensures.whole all)))
-    (λ part. (c.send.ensures.fails part, breaks_step a.machine step.new.self step.result a.turn step.new.turn ready.none steps before out c.send.ensures.prefix.0 c.send.ensures.prefix.1))
+    (sends_step a.machine step.new.self step.result a.lines step.new.lines ready.none steps before out (c.send.ensures.whole all)))
+    (λ part. (c.send.ensures.fails part, breaks_step a.machine step.new.self step.result a.lines step.new.lines ready.none steps before out c.send.ensures.prefix.0 c.send.ensures.prefix.1))
 
 pub returns-clause-was : goal.returns-clause-was
 returns-clause-was g c =
     let a = c.args.mover.now in
     let step = c.step-progress in
-    was_running a.machine step.new.self step.result a.turn step.new.turn c.requires.ready.none
-    (stepped_of a.machine step.new.self step.result a.turn step.new.turn step.ensures.steps) c.requires.ready.stands
+    was_running a.machine step.new.self step.result a.lines step.new.lines c.requires.ready.none
+    (stepped_of a.machine step.new.self step.result a.lines step.new.lines step.ensures.steps) c.requires.ready.stands
 
 pub returns-then-not-asked-clause-agree : goal.returns-then-not-asked-clause-agree
 returns-then-not-asked-clause-agree g c = c.requires.agree
@@ -80,9 +80,9 @@ returns-clause-rank g c =
     let a = c.args.mover.now in
     let ready = c.requires.ready in
     let step = c.step-progress in
-    let steps = stepped_of a.machine step.new.self step.result a.turn step.new.turn step.ensures.steps in
+    let steps = stepped_of a.machine step.new.self step.result a.lines step.new.lines step.ensures.steps in
     λ running.
-    let falls = step.ensures.falls (far_after a.machine step.new.self step.result a.turn step.new.turn ready.none steps ready.stands ∙ running) in
+    let falls = step.ensures.falls (far_after a.machine step.new.self step.result a.lines step.new.lines ready.none steps ready.stands ∙ running) in
     omega (arith, falls)
 
 pub returns-clause-falls : goal.returns-clause-falls
@@ -90,5 +90,5 @@ returns-clause-falls g c =
     let a = c.args.mover.now in
     let ready = c.requires.ready in
     let step = c.step-progress in
-    let steps = stepped_of a.machine step.new.self step.result a.turn step.new.turn step.ensures.steps in
-    λ asked running. step.ensures.falls (far_after a.machine step.new.self step.result a.turn step.new.turn ready.none steps ready.stands ∙ running)
+    let steps = stepped_of a.machine step.new.self step.result a.lines step.new.lines step.ensures.steps in
+    λ asked running. step.ensures.falls (far_after a.machine step.new.self step.result a.lines step.new.lines ready.none steps ready.stands ∙ running)

@@ -13,7 +13,7 @@ pub returns-in_err-step_if-2-clause-went : goal.returns-in_err-step_if-2-clause-
 returns-in_err-step_if-2-clause-went g c =
     let a = c.args.mover.now in
     let p = a.machine.core.image in
-    let refused = a.turn.refused in
+    let refused = a.lines.refused in
     let m = c.step_if.new.mover in
     let n = c.step_if-2.new.mover in
     let before = g.W.Sink.out c.args.out.now in
@@ -32,7 +32,7 @@ pub returns-clause-went : goal.returns-clause-went
 returns-clause-went g c =
     let a = c.args.mover.now in
     let p = a.machine.core.image in
-    let refused = a.turn.refused in
+    let refused = a.lines.refused in
     let m = c.step_if.new.mover in
     let n = c.step_if-2.new.mover in
     let l = c.step_if-3.new.mover in

@@ -9,7 +9,7 @@ pub loop-progress-init : goal.loop-progress-init
 loop-progress-init g c =
     let a = c.args.mover.now in
     record {
-      so_far = nowhere a.machine.core.image a.turn.refused (λ s. stays_at a.machine.core.image c.args.until c.args.breakpoints.now s) a.recent a.machine _;
+      so_far = nowhere a.machine.core.image a.lines.refused (λ s. stays_at a.machine.core.image c.args.until c.args.breakpoints.now s) a.recent a.machine _;
       running = c.requires.running;
       keeps = keeps_all a c.requires.ready;
       agree = c.requires.agree;

@@ -10,7 +10,7 @@ use Rattle.aom_debug_moves.proofs.walking.walk.Given as goal
 
 abbrev pub invariant-loop-progress : goal.invariant-loop-progress
 invariant-loop-progress g l = record {
-  so_far : Sends (Underway l.fn.mover.machine.core.image l.fn.mover.turn.refused
+  so_far : Sends (Underway l.fn.mover.machine.core.image l.fn.mover.lines.refused
       (λ s. stays_at l.fn.mover.machine.core.image l.fn.until l.fn.breakpoints s) l.fn.mover.recent l.mover.recent) l.fn.mover.machine
       (g.W.Sink.out l.fn.out) (g.W.Sink.out l.out) l.mover.machine;
   running : progress l.mover.machine.core ≡ Running;

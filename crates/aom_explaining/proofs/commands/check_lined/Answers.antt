@@ -9,4 +9,4 @@ returns-in-Err g c = refused refl c.in-Err.fault c.in-Err.ensures.err (c.line_te
 
 pub returns-in-Ok : goal.returns-in-Ok
 returns-in-Ok g c = denotes c.in-Ok.ensures.makes
-    (lined _ _ _ _ _ (rw c.in-Ok.ensures.text at c.try_check_by_lines-found.ensures) (rw c.in-Ok.ensures.text at c.answer_lined.ensures))
+    (lined _ _ _ _ _ _ (rw c.in-Ok.ensures.text at c.try_check_by_lines-found.ensures) (rw c.in-Ok.ensures.text at c.answer_lined.ensures))

@@ -28,7 +28,7 @@ note_changed-requires c =
 
 pub returns-in-Ok-clause-obeyed : goal.returns-in-Ok-clause-obeyed
 returns-in-Ok-clause-obeyed c =
-    let told = c.args.turn.now in
+    let told = c.args.lines.now in
     let lines = told_none c.args.client told c.act-answer.result _ c.in-Ok.is in
     rw (c.deliver.ensures, c.note_changed.ensures.rest) (heard c.args.linked.now c.args.parts.now c.requires.between c.args.client c.requires.client
     c.args.command c.asked_by-asked.result c.asked_by-asked.ensures.value c.queue_of-queue.result c.queue_of-queue.ensures.value c.act-answer.new.clients
@@ -40,7 +40,7 @@ returns-in-Ok-clause-timers c = hears_timers c.args.linked.now
 
 pub returns-in-Err-clause-obeyed : goal.returns-in-Err-clause-obeyed
 returns-in-Err-clause-obeyed c =
-    let told = c.args.turn.now in
+    let told = c.args.lines.now in
     let now = c.push.new.self in
     let fits : FitsSigned w32 c.code.result = search rules in
     let lines = told_one c.args.client told now c.act-answer.result c.in-Err.refusal

@@ -11,9 +11,9 @@ returns-clause-killed c = λ s st.
     let p = c.args.linked.now in
     let m = c.args.parts.now in
     let b = c.fail_all_requests.new.parts in
-    subst (λ x. Takes (record { image = p; parts = m }) s (Kills c.args.native) c.args.turn.now c.push.new.self (record { image = p; parts = x }))
+    subst (λ x. Takes (record { image = p; parts = m }) s (Kills c.args.native) c.args.lines.now c.push.new.self (record { image = p; parts = x }))
     (sym (killed_is p c.args.native m b c.fail_all_requests.ensures c.kill.new.self c.deliver.new.self c.kill.ensures c.deliver.ensures))
-    (kills p c.args.native m b c.fail_all_requests.ensures c.requires.between c.args.turn.now c.push.new.self c.push.ensures s st)
+    (kills p c.args.native m b c.fail_all_requests.ensures c.requires.between c.args.lines.now c.push.new.self c.push.ensures s st)
 
 pub returns-clause-timers : goal.returns-clause-timers
 returns-clause-timers c = kills_no_timer c.args.linked.now c.args.native c.args.parts.now c.fail_all_requests.new.parts c.fail_all_requests.ensures c.requires.stands

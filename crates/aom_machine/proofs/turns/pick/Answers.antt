@@ -20,15 +20,15 @@ dispatch-requires-clause-can c =
 pub returns-then-is_server : goal.returns-then-is_server
 returns-then-is_server c =
     let picks = subst (λ o. Picks c.args.parts.now.active c.pick.new.self o) c.in-Some.is c.pick.ensures in
-    serves_one c.args.linked.now c.args.parts.now c.requires.between c.pick.new.self c.in-Some.id c.args.turn.now c.serve.new.turn c.serve.new.parts picks
+    serves_one c.args.linked.now c.args.parts.now c.requires.between c.pick.new.self c.in-Some.id c.args.lines.now c.serve.new.lines c.serve.new.parts picks
     (sym c.is_server.ensures ∙ c.if-is_server.true) c.serve.ensures
 
 pub returns-else-is_server : goal.returns-else-is_server
 returns-else-is_server c =
     let picks = subst (λ o. Picks c.args.parts.now.active c.pick.new.self o) c.in-Some.is c.pick.ensures in
-    picks_one c.args.linked.now c.args.parts.now c.requires.between c.pick.new.self c.in-Some.id c.args.turn.now c.dispatch.new.turn c.dispatch.new.parts picks
-    (sym c.is_server.ensures ∙ c.if-is_server.false) c.dispatch.ensures
+    picks_one c.args.linked.now c.args.parts.now c.requires.between c.pick.new.self c.in-Some.id c.args.lines.now c.dispatch.new.lines c.dispatch.new.parts
+    picks (sym c.is_server.ensures ∙ c.if-is_server.false) c.dispatch.ensures
 
 pub returns-in_default : goal.returns-in_default
-returns-in_default c = picks_none c.args.linked.now c.args.parts.now c.requires.between c.pick.new.self c.args.turn.now c.pick.result
+returns-in_default c = picks_none c.args.linked.now c.args.parts.now c.requires.between c.pick.new.self c.args.lines.now c.pick.result
     c.in_default.not-Some c.pick.ensures

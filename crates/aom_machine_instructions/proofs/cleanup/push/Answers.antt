@@ -12,13 +12,13 @@ push_object-requires c =
 
 pub returns-then-refused-clause-does : goal.returns-then-refused-clause-does
 returns-then-refused-clause-does c =
-    let does = push_does c.args.parts.now c.args.turn.now c.args.from true c.bring.ensures.in_range
+    let does = push_does c.args.parts.now c.args.lines.now c.args.from true c.bring.ensures.in_range
     (sym c.if-refused.true ∙ c.request-refused.ensures.refused) in
     rw (c.leave.ensures, c.push_object.ensures, c.bring.ensures.brought, c.register-object.ensures.value, c.request-refused.ensures.counted) does
 
 pub returns-clause-does : goal.returns-clause-does
 returns-clause-does c =
-    let does = push_does c.args.parts.now c.args.turn.now c.args.from false c.bring.ensures.in_range
+    let does = push_does c.args.parts.now c.args.lines.now c.args.from false c.bring.ensures.in_range
     (sym c.if-refused.false ∙ c.request-refused.ensures.refused) in
     rw (c.push_object.ensures, c.bring.ensures.brought, c.register-object.ensures.value, c.request-refused.ensures.counted) does
 

@@ -10,10 +10,10 @@ push_operation-requires c = rw c.request-refused.ensures.counted
 
 pub returns-then-refused : goal.returns-then-refused
 returns-then-refused c =
-    let does = push_operation_does c.args.parts.now c.args.turn.now c.args.from c.args.method true (sym c.if-refused.true ∙ c.request-refused.ensures.refused) in
+    let does = push_operation_does c.args.parts.now c.args.lines.now c.args.from c.args.method true (sym c.if-refused.true ∙ c.request-refused.ensures.refused) in
     rw (c.leave.ensures, c.next.ensures, c.push_operation.ensures, c.register-word.ensures.value, c.request-refused.ensures.counted) does
 
 pub returns-else-refused : goal.returns-else-refused
 returns-else-refused c =
-    let does = push_operation_does c.args.parts.now c.args.turn.now c.args.from c.args.method false (sym c.if-refused.false ∙ c.request-refused.ensures.refused) in
+    let does = push_operation_does c.args.parts.now c.args.lines.now c.args.from c.args.method false (sym c.if-refused.false ∙ c.request-refused.ensures.refused) in
     rw (c.next.ensures, c.push_operation.ensures, c.register-word.ensures.value, c.request-refused.ensures.counted) does

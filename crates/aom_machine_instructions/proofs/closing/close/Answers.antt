@@ -20,23 +20,23 @@ pub end_answered-requires : goal.end_answered-requires
 end_answered-requires c = can_end c.args.linked.now c.args.parts.now c.requires.stands (ending_of _ c.requires.ending)
 
 pub returns-in-Main : goal.returns-in-Main
-returns-in-Main c = let told = c.args.turn.now in
+returns-in-Main c = let told = c.args.lines.now in
     rw c.end_dispatch.ensures (main_moves c.args.linked.now c.args.parts.now told c.requires.announced (c.requires.ending ∙ ap (λ d. Some d) c.in-Main.is))
 
 pub returns-in-Root : goal.returns-in-Root
-returns-in-Root c = let told = c.args.turn.now in rw (c.finish.ensures, c.drop_task-in-Root.ensures)
+returns-in-Root c = let told = c.args.lines.now in rw (c.finish.ensures, c.drop_task-in-Root.ensures)
     (over_moves c.args.linked.now c.args.parts.now told c.requires.announced (c.requires.ending ∙ ap (λ d. Some d) c.in-Root.is))
 
 pub returns-in-MainLeft : goal.returns-in-MainLeft
 returns-in-MainLeft c =
-    let told = c.args.turn.now in
+    let told = c.args.lines.now in
     let fits : FitsSigned w32 c.in-MainLeft.code = search rules in
     rw (c.end_left.ensures, c.drop_task.ensures) (left_moves c.args.linked.now c.args.parts.now told c.requires.announced _
     (c.requires.ending ∙ ap (λ d. Some d) c.in-MainLeft.is ∙ ap (λ w. Some (MainLeft w)) (sym (to_z-of_z w32 c.in-MainLeft.code fits))))
 
 pub returns-in-Object : goal.returns-in-Object
 returns-in-Object c =
-    let told = c.args.turn.now in
+    let told = c.args.lines.now in
     let p = c.args.linked.now in
     let m = c.args.parts.now in
     rw c.end_object.ensures (elim c.in-Object.is [
@@ -46,7 +46,7 @@ returns-in-Object c =
 
 pub returns-in-ObjectLeft : goal.returns-in-ObjectLeft
 returns-in-ObjectLeft c =
-    let told = c.args.turn.now in
+    let told = c.args.lines.now in
     let x = c.in-ObjectLeft.subject in
     let code = c.in-ObjectLeft.code in
     let fits : FitsSigned w32 code = search rules in
@@ -56,7 +56,7 @@ returns-in-ObjectLeft c =
 
 pub returns-in-Answered : goal.returns-in-Answered
 returns-in-Answered c =
-    let told = c.args.turn.now in
+    let told = c.args.lines.now in
     let x = c.in-Answered.field-0 in
     let answer = c.in-Answered.answer in
     let fits : FitsSigned w32 answer = search rules in
@@ -70,8 +70,8 @@ end_stage-requires-clause-can c = stage_can c.args.linked.now c.args.parts.now c
 
 pub redispatch-requires-clause-room : goal.redispatch-requires-clause-room
 redispatch-requires-clause-room c = stage_room c.in-Server.client c.in-Server.stage c.args.parts.now
-    c.end_stage.new.parts c.args.turn.now c.end_stage.new.turn c.end_stage.ensures (has_room c.args.linked.now c.args.parts.now c.requires.stands)
+    c.end_stage.new.parts c.args.lines.now c.end_stage.new.lines c.end_stage.ensures (has_room c.args.linked.now c.args.parts.now c.requires.stands)
 
 pub returns-in-Server : goal.returns-in-Server
-returns-in-Server c = rw c.redispatch.ensures (stage_moves c.args.linked.now c.args.parts.now c.args.turn.now c.end_stage.new.turn c.requires.announced
+returns-in-Server c = rw c.redispatch.ensures (stage_moves c.args.linked.now c.args.parts.now c.args.lines.now c.end_stage.new.lines c.requires.announced
     c.in-Server.subject c.in-Server.client c.in-Server.stage c.end_stage.new.parts (c.requires.ending ∙ ap (λ d. Some d) c.in-Server.is) c.end_stage.ensures)

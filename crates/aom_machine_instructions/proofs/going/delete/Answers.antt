@@ -1,22 +1,48 @@
-use Rattle.std.proofs.Common.{sym, ◌∙◌}
+use Rattle.std.proofs.Common.{arith, sym, ◌∙◌}
+use Rattle.aom_cells.specs.Heap.{null}
+use Rattle.aom_frames.specs.Tasks.{with_register}
 use Rattle.aom_machine_instructions.proofs.Finding.{deletes_living}
 use Rattle.aom_machine_instructions.proofs.GoingActs.{delete_does}
 use Rattle.aom_machine_instructions.proofs.ObjectActs.{delete_null_does}
-use Rattle.aom_machine_instructions.proofs.Resulting.{on_top_runs}
+use Rattle.aom_machine_instructions.proofs.Resulting.{on_top_long, on_top_runs}
+use Rattle.aom_machine_instructions.proofs.Standing.{delete_alone}
 use Rattle.aom_machine_instructions.proofs.going.delete.Goals as goal
 
 pub begin-requires-clause-lives : goal.begin-requires-clause-lives
 begin-requires-clause-lives c = rw (c.take_register-number.ensures.emptied, c.take_register-number.ensures.value)
     (deletes_living c.args.linked.now c.args.parts.now c.args.from c.requires (λ e. c.if-number.false (c.take_register-number.ensures.value ∙ e)))
 
+pub class-requires-clause-lives : goal.class-requires-clause-lives
+class-requires-clause-lives c = rw (c.take_register-number.ensures.emptied, c.take_register-number.ensures.value)
+    (deletes_living c.args.linked.now c.args.parts.now c.args.from c.requires (λ e. c.if-number.false (c.take_register-number.ensures.value ∙ e)))
+
+-- ---- no object
+
 pub returns-then-number-clause-does : goal.returns-then-number-clause-does
 returns-then-number-clause-does c = λ refused. rw (c.next.ensures, c.take_register-number.ensures.emptied) (delete_null_does c.args.parts.now
     refused c.args.linked.now c.args.from c.take_register-number.ensures.in_range (sym c.take_register-number.ensures.value ∙ c.if-number.true))
+
+pub returns-then-number-clause-runs : goal.returns-then-number-clause-runs
+returns-then-number-clause-runs c = λ still. rw (c.next.ensures, c.take_register-number.ensures.emptied) (on_top_runs _ _ (on_top_runs _ _ c.requires.runs))
+
+-- ---- one that goes at once
+
+pub returns-then-goes_at_once-clause-does : goal.returns-then-goes_at_once-clause-does
+returns-then-goes_at_once-clause-does c = λ refused.
+    let class = rw (c.take_register-number.ensures.emptied, c.take_register-number.ensures.value) at c.class.ensures in
+    rw (c.take_register-number.ensures.emptied, c.take_register-number.ensures.value)
+    (delete_alone c.args.linked.now c.args.parts.now refused c.args.from c.take_register-number.ensures.in_range
+    (λ e. c.if-number.false (c.take_register-number.ensures.value ∙ e)) c.class.result class (c.goes_at_once.ensures c.if-goes_at_once.true _ _))
+
+pub returns-then-goes_at_once-clause-goes : goal.returns-then-goes_at_once-clause-goes
+returns-then-goes_at_once-clause-goes c = λ number is. rw c.take_register-number.ensures.emptied
+    (let long = on_top_long (with_register c.args.from null) c.args.parts.now.stack.tasks in
+    let room = c.requires.room in
+    (on_top_runs _ _ c.requires.runs, omega (arith, long, room)))
+
+-- ---- another
 
 pub returns-clause-does : goal.returns-clause-does
 returns-clause-does c = λ refused. rw (c.begin.ensures, c.take_register-number.ensures.emptied, c.take_register-number.ensures.value)
     (delete_does c.args.linked.now c.args.parts.now refused c.args.from c.take_register-number.ensures.in_range
     (λ e. c.if-number.false (c.take_register-number.ensures.value ∙ e)))
-
-pub returns-then-number-clause-runs : goal.returns-then-number-clause-runs
-returns-then-number-clause-runs c = λ still. rw (c.next.ensures, c.take_register-number.ensures.emptied) (on_top_runs _ _ (on_top_runs _ _ c.requires.runs))

@@ -23,9 +23,9 @@ returns-then-is_running c =
     let received : c.receive_code.new.parts ≡ told p i (to_z w32 (of_z w32 c.args.code)) (record (with_tasks under m) { entries = c.unmark.new.self }) =
     rw (c.end_other-2.ensures, c.end_other.ensures) at c.receive_code.ensures in
     rw (received, c.push.ensures)
-    (subst (λ w. Unwinds p m (told p i w (record (with_tasks under m) { entries = c.unmark.new.self })) c.args.turn.now
-    (record c.args.turn.now { lines = c.args.turn.now.lines ++ Leave w ∷ [] })) (sym code.0)
-    (arrives_method p m c.unmark.new.self marked c.args.turn.now code.1 c.requires.unwinding c.requires.trapped runs coded))
+    (subst (λ w. Unwinds p m (told p i w (record (with_tasks under m) { entries = c.unmark.new.self })) c.args.lines.now
+    (record c.args.lines.now { lines = c.args.lines.now.lines ++ Leave w ∷ [] })) (sym code.0)
+    (arrives_method p m c.unmark.new.self marked c.args.lines.now code.1 c.requires.unwinding c.requires.trapped runs coded))
 
 pub returns-else-is_running : goal.returns-else-is_running
 returns-else-is_running c =
@@ -38,8 +38,8 @@ returns-else-is_running c =
     { entries = c.unmark.new.self } = rw (c.end_other-2.ensures, c.end_other.ensures) at c.leave_dispatch.ensures in
     rw (left, c.push.ensures)
     (subst (λ w. Unwinds c.args.linked.now m (record (with_tasks (left_by w (below_first (below_first m.stack.tasks))) m)
-    { entries = c.unmark.new.self }) c.args.turn.now (record c.args.turn.now { lines = c.args.turn.now.lines ++ Leave w ∷ [] })) (sym code.0)
-    (arrives_end c.args.linked.now m c.unmark.new.self marked c.args.turn.now code.1 c.requires.unwinding c.requires.trapped ending))
+    { entries = c.unmark.new.self }) c.args.lines.now (record c.args.lines.now { lines = c.args.lines.now.lines ++ Leave w ∷ [] })) (sym code.0)
+    (arrives_end c.args.linked.now m c.unmark.new.self marked c.args.lines.now code.1 c.requires.unwinding c.requires.trapped ending))
 
 pub unmark-requires : goal.unmark-requires
 unmark-requires c = rw (c.end_other-2.ensures, c.end_other.ensures) c.requires.marked

@@ -32,10 +32,10 @@ arrive-requires-clause-calls c = calls_there c.args.linked.now c.requires.stands
 
 pub returns-then-above_mark : goal.returns-then-above_mark
 returns-then-above_mark c =
-    let deals = deals_move c.args.linked.now c.args.parts.now c.args.turn.now (c.above_mark.ensures.0 c.if-above_mark.true) in
+    let deals = deals_move c.args.linked.now c.args.parts.now c.args.lines.now (c.above_mark.ensures.0 c.if-above_mark.true) in
     rw c.run_cleanup_entry.ensures
-    (unwinding_moves c.args.linked.now c.args.parts.now _ c.args.turn.now c.args.turn.now c.requires.unwinding c.requires.announced deals)
+    (unwinding_moves c.args.linked.now c.args.parts.now _ c.args.lines.now c.args.lines.now c.requires.unwinding c.requires.announced deals)
 
 pub returns-else-above_mark : goal.returns-else-above_mark
-returns-else-above_mark c = unwinding_moves c.args.linked.now c.args.parts.now c.arrive.new.parts c.args.turn.now c.arrive.new.turn c.requires.unwinding
+returns-else-above_mark c = unwinding_moves c.args.linked.now c.args.parts.now c.arrive.new.parts c.args.lines.now c.arrive.new.lines c.requires.unwinding
     c.requires.announced c.arrive.ensures

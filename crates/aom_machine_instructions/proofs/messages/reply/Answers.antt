@@ -13,7 +13,7 @@ pub returns-clause-does : goal.returns-clause-does
 returns-clause-does c =
     let fits : FitsSigned w32 c.word-code.result = search rules in
     λ refused.
-    answer_done c.args.parts.now c.take_register-message.new.self c.answer.new.parts c.args.turn.now c.answer.new.turn c.take_register-message.result
+    answer_done c.args.parts.now c.take_register-message.new.self c.answer.new.parts c.args.lines.now c.answer.new.lines c.take_register-message.result
     (to_z w32 (of_z w32 c.word-code.result)) c.args.from c.args.code
     c.take_register-message.ensures.emptied c.take_register-message.ensures.value (to_z-of_z w32 c.word-code.result fits
     ∙ c.word-code.ensures) refused c.next.new.self c.take_register-message.ensures.in_range c.next.ensures c.answer.ensures
@@ -21,7 +21,7 @@ returns-clause-does c =
 pub returns-clause-tells : goal.returns-clause-tells
 returns-clause-tells c =
     let fits : FitsSigned w32 c.word-code.result = search rules in
-    answer_told c.args.parts.now c.take_register-message.new.self c.answer.new.parts c.args.turn.now c.answer.new.turn c.take_register-message.result
+    answer_told c.args.parts.now c.take_register-message.new.self c.answer.new.parts c.args.lines.now c.answer.new.lines c.take_register-message.result
     (to_z w32 (of_z w32 c.word-code.result)) c.args.from c.args.code
     c.take_register-message.ensures.emptied c.take_register-message.ensures.value (to_z-of_z w32 c.word-code.result fits ∙ c.word-code.ensures) c.answer.ensures
 
@@ -30,7 +30,7 @@ next-requires-clause-runs c =
     let next = c.requires.next.1 in
     let on = set_goes_on c.args.from null c.args.parts.now.stack.tasks (record { runs = next.runs; within = next.within }) in
     let same = answer_rest c.take_register-message.result
-    (to_z w32 (of_z w32 c.word-code.result)) c.take_register-message.new.self c.answer.new.parts c.args.turn.now c.answer.new.turn c.answer.ensures in
+    (to_z w32 (of_z w32 c.word-code.result)) c.take_register-message.new.self c.answer.new.parts c.args.lines.now c.answer.new.lines c.answer.ensures in
     rw (same, c.take_register-message.ensures.emptied) on.runs
 
 pub next-requires-clause-within : goal.next-requires-clause-within
@@ -38,5 +38,5 @@ next-requires-clause-within c =
     let next = c.requires.next.1 in
     let on = set_goes_on c.args.from null c.args.parts.now.stack.tasks (record { runs = next.runs; within = next.within }) in
     let same = answer_rest c.take_register-message.result
-    (to_z w32 (of_z w32 c.word-code.result)) c.take_register-message.new.self c.answer.new.parts c.args.turn.now c.answer.new.turn c.answer.ensures in
+    (to_z w32 (of_z w32 c.word-code.result)) c.take_register-message.new.self c.answer.new.parts c.args.lines.now c.answer.new.lines c.answer.ensures in
     rw (same, c.take_register-message.ensures.emptied) on.within

@@ -4,5 +4,5 @@ use Rattle.aom_machine_instructions.proofs.servers.end_entries.Goals as goal
 
 pub loop-taken-preserved : goal.loop-taken-preserved
 loop-taken-preserved c = goes_on c.args.server c.args.parts.now c.loop-taken.parts c.end_entry.new.parts
-    c.args.turn.now c.loop-taken.turn c.end_entry.new.turn c.in-Some.taken c.loop-taken.invariant (sym c.in-Some.is ∙ c.next_gone.ensures.taken)
+    c.args.lines.now c.loop-taken.lines c.end_entry.new.lines c.in-Some.taken c.loop-taken.invariant (sym c.in-Some.is ∙ c.next_gone.ensures.taken)
     (rw c.next_gone.ensures.after at c.end_entry.ensures.rest) c.end_entry.ensures.messages c.end_entry.ensures.told

@@ -13,5 +13,5 @@ returns-clause-tells c = λ p h choice needs.
     let fits : FitsSigned w32 c.word-word.result = search rules in
     let word : to_z w32 (of_z w32 c.word-word.result) ≡ to_z w32 (register_here c.args.parts.now.stack.tasks c.args.from) =
     to_z-of_z w32 c.word-word.result fits ∙ c.word-word.ensures in
-    c.push.ensures ∙ ap (λ w. record c.args.turn.now { lines = c.args.turn.now.lines ++ Out w ∷ [] }) word
-    ∙ print_tells c.args.parts.now c.args.turn.now c.args.from p h choice needs
+    c.push.ensures ∙ ap (λ w. record c.args.lines.now { lines = c.args.lines.now.lines ++ Out w ∷ [] }) word
+    ∙ print_tells c.args.parts.now c.args.lines.now c.args.from p h choice needs

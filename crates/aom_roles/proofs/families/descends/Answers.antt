@@ -1,4 +1,4 @@
-use Rattle.std.proofs.Common.{refl, sym, ap, subst, ◌∙◌, ◌≡◌}
+use Rattle.std.proofs.Common.{refl, sym, ap, ◌∙◌, ◌≡◌}
 use Rattle.aom_roles.proofs.Descending.{from_none, from_parent, is_other, itself, parent_below}
 use Rattle.aom_roles.specs.Families.{descends}
 use Rattle.aom_roles.proofs.families.descends.Goals as goal

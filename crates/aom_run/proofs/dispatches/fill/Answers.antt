@@ -6,9 +6,9 @@ use Rattle.aom_run.proofs.Keeping.{image_all, image_on}
 use Rattle.aom_run.proofs.Stepped.{unnamed_step}
 use Rattle.aom_run.proofs.dispatches.fill.Goals as goal
 
-pub loop-progress-init : goal.loop-progress-init
-loop-progress-init g c = record {
-  went = went_nowhere c.args.machine.now c.args.turn.now;
+pub loop-lines-init : goal.loop-lines-init
+loop-lines-init g c = record {
+  went = went_nowhere c.args.machine.now c.args.lines.now;
   stands = c.requires.stands;
   agree = c.requires.agree;
   kept = image_all c.args.machine.now;
@@ -20,7 +20,7 @@ loop-progress-init g c = record {
 
 pub step_on-progress-requires : goal.step_on-progress-requires
 step_on-progress-requires g c =
-    let i = c.loop-progress.invariant in
+    let i = c.loop-lines.invariant in
     let room = i.room in
     let few = i.few in
     let enough = c.requires.room.1 in
@@ -28,36 +28,36 @@ step_on-progress-requires g c =
     record { agree = i.agree; stands = i.stands; room = omega (arith, room, few, enough, messages); many = omega (arith, room, enough, messages) }
 
 pub returns-then-lines-ge-MANY_LINES-clause-kept : goal.returns-then-lines-ge-MANY_LINES-clause-kept
-returns-then-lines-ge-MANY_LINES-clause-kept g c = image_on c.loop-progress.invariant.kept c.step_on-progress.ensures.image c.step_on-progress.ensures.natives
+returns-then-lines-ge-MANY_LINES-clause-kept g c = image_on c.loop-lines.invariant.kept c.step_on-progress.ensures.image c.step_on-progress.ensures.natives
 
 pub returns-then-lines-ge-MANY_LINES-clause-unnamed : goal.returns-then-lines-ge-MANY_LINES-clause-unnamed
 returns-then-lines-ge-MANY_LINES-clause-unnamed g c =
-    let i = c.loop-progress.invariant in
-    unnamed_step c.args.machine.now c.loop-progress.machine c.step_on-progress.new.self i.kept.image i.unnamed i.stands c.step_on-progress.ensures.unasked
+    let i = c.loop-lines.invariant in
+    unnamed_step c.args.machine.now c.loop-lines.machine c.step_on-progress.new.self i.kept.image i.unnamed i.stands c.step_on-progress.ensures.unasked
 
 pub returns-then-lines-ge-MANY_LINES-clause-steps : goal.returns-then-lines-ge-MANY_LINES-clause-steps
 returns-then-lines-ge-MANY_LINES-clause-steps g c =
-    let i = c.loop-progress.invariant in
-    filled c.args.machine.now c.loop-progress.machine c.step_on-progress.new.self _ _ _ _ i.went i.kept.image
-    (steps_of c.loop-progress.machine c.step_on-progress.new.self _ _ _ c.step_on-progress.ensures.steps)
+    let i = c.loop-lines.invariant in
+    filled c.args.machine.now c.loop-lines.machine c.step_on-progress.new.self _ _ _ _ i.went i.kept.image
+    (steps_of c.loop-lines.machine c.step_on-progress.new.self _ _ _ c.step_on-progress.ensures.steps)
 
 pub returns-then-lines-ge-MANY_LINES-clause-falls : goal.returns-then-lines-ge-MANY_LINES-clause-falls
 returns-then-lines-ge-MANY_LINES-clause-falls g c = λ running.
     let falls = c.step_on-progress.ensures.falls running in
-    let lower = c.loop-progress.invariant.lower in
+    let lower = c.loop-lines.invariant.lower in
     omega (arith, falls, lower)
 
-pub loop-progress-preserved : goal.loop-progress-preserved
-loop-progress-preserved g c =
-    let i = c.loop-progress.invariant in
+pub loop-lines-preserved : goal.loop-lines-preserved
+loop-lines-preserved g c =
+    let i = c.loop-lines.invariant in
     let old = c.args.machine.now in
-    let told = c.args.turn.now in
-    let m = c.loop-progress.machine in
-    let mid = c.loop-progress.turn in
+    let told = c.args.lines.now in
+    let m = c.loop-lines.machine in
+    let mid = c.loop-lines.lines in
     let new = c.step_on-progress.new.self in
-    let now = c.step_on-progress.new.turn in
+    let now = c.step_on-progress.new.lines in
     let progress = c.step_on-progress.result in
-    let steps = (steps_of c.loop-progress.machine c.step_on-progress.new.self _ c.loop-progress.turn _ c.step_on-progress.ensures.steps) in
+    let steps = (steps_of c.loop-lines.machine c.step_on-progress.new.self _ c.loop-lines.lines _ c.step_on-progress.ensures.steps) in
     let falls = c.step_on-progress.ensures.falls c.in-Running.is in
     let lower = i.lower in
     let count = ap length c.lines.ensures in
@@ -67,7 +67,7 @@ loop-progress-preserved g c =
       stands = stands_on m new mid now progress i.stands steps;
       agree = c.step_on-progress.ensures.agree;
       kept = image_on i.kept c.step_on-progress.ensures.image c.step_on-progress.ensures.natives;
-      unnamed = unnamed_step c.args.machine.now c.loop-progress.machine c.step_on-progress.new.self i.kept.image i.unnamed i.stands
+      unnamed = unnamed_step c.args.machine.now c.loop-lines.machine c.step_on-progress.new.self i.kept.image i.unnamed i.stands
           c.step_on-progress.ensures.unasked;
       room = room_stays m new mid now progress i.stands steps ∙ i.room;
       few = omega (arith, count, test);
@@ -76,13 +76,13 @@ loop-progress-preserved g c =
 
 pub returns-in_default : goal.returns-in_default
 returns-in_default g c =
-    let i = c.loop-progress.invariant in
+    let i = c.loop-lines.invariant in
     record {
       agree = c.step_on-progress.ensures.agree;
       kept = image_on i.kept c.step_on-progress.ensures.image c.step_on-progress.ensures.natives;
-      unnamed = unnamed_step c.args.machine.now c.loop-progress.machine c.step_on-progress.new.self i.kept.image i.unnamed i.stands
+      unnamed = unnamed_step c.args.machine.now c.loop-lines.machine c.step_on-progress.new.self i.kept.image i.unnamed i.stands
           c.step_on-progress.ensures.unasked;
-      steps = filled c.args.machine.now c.loop-progress.machine c.step_on-progress.new.self _ _ _ _ i.went i.kept.image
-          (steps_of c.loop-progress.machine c.step_on-progress.new.self _ _ _ c.step_on-progress.ensures.steps);
+      steps = filled c.args.machine.now c.loop-lines.machine c.step_on-progress.new.self _ _ _ _ i.went i.kept.image
+          (steps_of c.loop-lines.machine c.step_on-progress.new.self _ _ _ c.step_on-progress.ensures.steps);
       falls = λ is. absurd (c.in_default.not-Running is);
     }

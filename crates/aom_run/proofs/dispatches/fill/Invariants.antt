@@ -7,17 +7,17 @@ use Rattle.aom_run.specs.Runs.{KeepsImage}
 use Rattle.aom_run.proofs.Reaching.{Went}
 use Rattle.aom_run.proofs.dispatches.fill.Given as goal
 
-abbrev pub invariant-loop-progress : goal.invariant-loop-progress
-invariant-loop-progress g l = record {
-  went : Went l.fn.machine l.fn.turn l.turn l.machine;
+abbrev pub invariant-loop-lines : goal.invariant-loop-lines
+invariant-loop-lines g l = record {
+  went : Went l.fn.machine l.fn.lines l.lines l.machine;
   stands : Stands l.machine;
   agree : AllAgree (λ x. x.ids) (λ x. (goal.Native-dyn g (x.native.vtable, x.native.value)).owed x.native.value) l.machine.natives.slots.items;
   kept : KeepsImage l.fn.machine l.machine;
   unnamed : KeepsUnnamed l.fn.machine.core.image l.fn.machine.natives.slots.items l.machine.natives.slots.items;
-  room : l.turn.room ≡ l.fn.turn.room;
-  few : length l.turn.lines < 64;
+  room : l.lines.room ≡ l.fn.lines.room;
+  few : length l.lines.lines < 64;
   lower : rank l.machine.core ≤ rank l.fn.machine.core;
 }
 
-abbrev pub decreases-loop-progress : goal.decreases-loop-progress
-decreases-loop-progress g l = rank l.machine.core
+abbrev pub decreases-loop-lines : goal.decreases-loop-lines
+decreases-loop-lines g l = rank l.machine.core

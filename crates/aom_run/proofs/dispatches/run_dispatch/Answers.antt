@@ -11,7 +11,7 @@ use Rattle.aom_run.proofs.dispatches.run_dispatch.Goals as goal
 
 pub loop-progress-init : goal.loop-progress-init
 loop-progress-init g c = record {
-  underway = underway (named_by c.args.names) c.args.machine.now c.args.turn.now (g.W.Sink.out c.args.out.now);
+  underway = underway (named_by c.args.names) c.args.machine.now c.args.lines.now (g.W.Sink.out c.args.out.now);
   stands = c.requires.stands;
   agree = c.requires.agree;
   kept = image_all c.args.machine.now;
@@ -29,7 +29,7 @@ fill-progress-requires g c =
       room = (
         i.few,
         subst (λ (t : LineBuffer). 64 + step_lines c.loop-progress.machine.core.image.header.messages
-            ≤ t.room) (sym i.same) (subst (λ (p : Image). 64 + step_lines p.header.messages ≤ c.args.turn.now.room) (sym i.kept.image) c.requires.room.1),
+            ≤ t.room) (sym i.same) (subst (λ (p : Image). 64 + step_lines p.header.messages ≤ c.args.lines.now.room) (sym i.kept.image) c.requires.room.1),
       );
     }
 
@@ -46,7 +46,7 @@ returns-then-has_failed-clause-none g c =
     let sent = c.put_lines.ensures.prefix in (
       sym c.has_failed.ensures ∙ c.if-has_failed.true,
       cut_off (named_by c.args.names) c.args.machine.now
-          c.loop-progress.machine c.fill-progress.new.machine c.args.turn.now c.loop-progress.turn c.fill-progress.new.turn (g.W.Sink.out c.args.out.now)
+          c.loop-progress.machine c.fill-progress.new.machine c.args.lines.now c.loop-progress.lines c.fill-progress.new.lines (g.W.Sink.out c.args.out.now)
           (g.W.Sink.out c.loop-progress.out) c.fill-progress.result i.underway i.kept.image i.same c.fill-progress.ensures.steps _ sent.0
           (sent.1 ∙ ap (λ ls. after (g.W.Sink.out c.loop-progress.out) (take sent.0 (text_by (named_by c.args.names) ls))) c.lines.ensures),
     )
@@ -62,16 +62,16 @@ loop-progress-preserved g c =
     let none = ap (λ (t : LineBuffer). length t.lines) c.clear.ensures in
     record {
       underway = underway_still (named_by c.args.names) c.args.machine.now
-          c.loop-progress.machine c.fill-progress.new.machine c.args.turn.now c.loop-progress.turn c.fill-progress.new.turn (g.W.Sink.out c.args.out.now)
+          c.loop-progress.machine c.fill-progress.new.machine c.args.lines.now c.loop-progress.lines c.fill-progress.new.lines (g.W.Sink.out c.args.out.now)
           (g.W.Sink.out c.loop-progress.out) c.fill-progress.result i.underway i.kept.image i.same c.fill-progress.ensures.steps _ _ c.clear.ensures out;
-      stands = still_stands c.loop-progress.machine c.fill-progress.new.machine c.loop-progress.turn c.fill-progress.new.turn c.fill-progress.result i.stands
+      stands = still_stands c.loop-progress.machine c.fill-progress.new.machine c.loop-progress.lines c.fill-progress.new.lines c.fill-progress.result i.stands
           c.fill-progress.ensures.steps;
       agree = c.fill-progress.ensures.agree;
       kept = image_on i.kept c.fill-progress.ensures.kept.image c.fill-progress.ensures.kept.natives;
       unnamed = unnamed_on i.unnamed (subst (λ p. KeepsUnnamed p c.loop-progress.machine.natives.slots.items c.fill-progress.new.machine.natives.slots.items)
           i.kept.image c.fill-progress.ensures.unnamed);
-      same = cleared_same c.loop-progress.machine c.fill-progress.new.machine c.args.turn.now
-          c.loop-progress.turn c.fill-progress.new.turn c.clear.new.self c.fill-progress.result i.same i.stands c.fill-progress.ensures.steps c.clear.ensures;
+      same = cleared_same c.loop-progress.machine c.fill-progress.new.machine c.args.lines.now
+          c.loop-progress.lines c.fill-progress.new.lines c.clear.new.self c.fill-progress.result i.same i.stands c.fill-progress.ensures.steps c.clear.ensures;
       few = omega (arith, none);
     }
 
@@ -87,6 +87,6 @@ returns-in_default g c =
           i.kept.image c.fill-progress.ensures.unnamed);
       none = tt;
       some = is_sent (named_by c.args.names) c.args.machine.now c.loop-progress.machine c.fill-progress.new.machine
-          c.args.turn.now c.loop-progress.turn c.fill-progress.new.turn (g.W.Sink.out c.args.out.now) (g.W.Sink.out c.loop-progress.out)
+          c.args.lines.now c.loop-progress.lines c.fill-progress.new.lines (g.W.Sink.out c.args.out.now) (g.W.Sink.out c.loop-progress.out)
           c.fill-progress.result i.underway i.kept.image i.same c.fill-progress.ensures.steps _ _ c.clear.ensures out c.in_default.not-Running;
     }

@@ -10,13 +10,13 @@ use Rattle.aom_run.proofs.dispatches.run_dispatch.Given as goal
 
 abbrev pub invariant-loop-progress : goal.invariant-loop-progress
 invariant-loop-progress g l = record {
-  underway : Underway (named_by l.fn.names) l.fn.machine l.fn.turn (g.W.Sink.out l.fn.out) (g.W.Sink.out l.out) l.turn l.machine;
+  underway : Underway (named_by l.fn.names) l.fn.machine l.fn.lines (g.W.Sink.out l.fn.out) (g.W.Sink.out l.out) l.lines l.machine;
   stands : Stands l.machine;
   agree : AllAgree (λ x. x.ids) (λ x. (goal.Native-dyn g (x.native.vtable, x.native.value)).owed x.native.value) l.machine.natives.slots.items;
   kept : KeepsImage l.fn.machine l.machine;
   unnamed : KeepsUnnamed l.fn.machine.core.image l.fn.machine.natives.slots.items l.machine.natives.slots.items;
-  same : l.turn ≡ record l.fn.turn { lines = l.turn.lines };
-  few : length l.turn.lines < 64;
+  same : l.lines ≡ record l.fn.lines { lines = l.lines.lines };
+  few : length l.lines.lines < 64;
 }
 
 abbrev pub decreases-loop-progress : goal.decreases-loop-progress

@@ -11,11 +11,11 @@ use Rattle.aom_run.proofs.runs.run_lines.Given as goal
 abbrev pub invariant-loop-progress : goal.invariant-loop-progress
 invariant-loop-progress g l = record {
   so_far : SoFar (named_by l.fn.names) l.fn.machine.core.image
-      (hearing l.fn.turn.refused l.fn.limit (natives_of l.fn.machine) l.fn.events) (g.W.Sink.out l.fn.out) (g.W.Sink.out l.out) l.turn.lines l.machine;
+      (hearing l.fn.lines.refused l.fn.limit (natives_of l.fn.machine) l.fn.events) (g.W.Sink.out l.fn.out) (g.W.Sink.out l.out) l.lines.lines l.machine;
   agree : AllAgree (λ x. x.ids) (λ x. (goal.Native-dyn g (x.native.vtable, x.native.value)).owed x.native.value) l.machine.natives.slots.items;
   image : l.machine.core.image ≡ l.fn.machine.core.image;
   natives : natives_of l.machine ≡ natives_of l.fn.machine;
-  turn : l.turn ≡ record l.fn.turn { lines = [] };
+  lines : l.lines ≡ record l.fn.lines { lines = [] };
   as_far : l.progress ≡ progress l.machine.core;
   rests : l.progress ≢ Running;
 }

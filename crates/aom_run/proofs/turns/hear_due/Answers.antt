@@ -16,7 +16,7 @@ loop-event-init g c = record {
   kept = times_all c.args.machine.now c.requires.rests.0 c.requires.rests.1 c.requires.none_due;
   agree = c.requires.agree;
   untold = λ k none. refl;
-  turn = refl;
+  lines = refl;
   fewer = inl refl;
 }
 
@@ -26,7 +26,7 @@ deliver-requires-clause-few g c =
     omega (arith, within)
 
 pub deliver-requires-clause-room : goal.deliver-requires-clause-room
-deliver-requires-clause-room g c = subst (λ (t : LineBuffer). length t.lines < t.room) (sym c.loop-event.invariant.turn) c.requires.can.1
+deliver-requires-clause-room g c = subst (λ (t : LineBuffer). length t.lines < t.room) (sym c.loop-event.invariant.lines) c.requires.can.1
 
 pub deliver-requires-clause-ranged : goal.deliver-requires-clause-ranged
 deliver-requires-clause-ranged g c =
@@ -38,11 +38,11 @@ returns-then-deliver-clause-heard g c =
     let i = c.loop-event.invariant in
     let m = c.loop-event.machine in
     let new = c.deliver.new.self in
-    let now = c.deliver.new.turn in
+    let now = c.deliver.new.lines in
     let e = c.deliver.ensures.delivered in
     let come = c.in-Some.ensures.some in
-    let takes = subst (λ event. Delivered m event c.loop-event.turn now new) (sym come.1) e.delivered in
-    subst (λ t. TellsEnd c.args.events.now c.args.machine.now t now new) i.turn (tells_after _ c.args.machine.now m i.kept.keeps.image i.kept.keeps.natives
+    let takes = subst (λ event. Delivered m event c.loop-event.lines now new) (sym come.1) e.delivered in
+    subst (λ t. TellsEnd c.args.events.now c.args.machine.now t now new) i.lines (tells_after _ c.args.machine.now m i.kept.keeps.image i.kept.keeps.natives
     i.settled _ now new (heard_tells _ m new _ now i.kept.none_due come.0 takes e.rest))
 
 pub returns-then-deliver-clause-kept : goal.returns-then-deliver-clause-kept
@@ -51,11 +51,11 @@ returns-then-deliver-clause-kept g c =
     let m = c.loop-event.machine in
     let e = c.deliver.ensures.delivered in
     let come = c.in-Some.ensures.some in
-    let takes = subst (λ event. Delivered m event c.loop-event.turn c.deliver.new.turn c.deliver.new.self) (sym come.1) e.delivered in
+    let takes = subst (λ event. Delivered m event c.loop-event.lines c.deliver.new.lines c.deliver.new.self) (sym come.1) e.delivered in
     let none = i.kept.none_due in
     let k = i.kept.keeps in
-    keeps_on k (heard_stands c.args.events.now m c.deliver.new.self c.loop-event.turn c.deliver.new.turn none come.0 takes e.rest k.stands)
-    (heard_far c.args.events.now m c.deliver.new.self c.loop-event.turn c.deliver.new.turn none come.0 takes e.rest k.stands) e.image e.natives.count
+    keeps_on k (heard_stands c.args.events.now m c.deliver.new.self c.loop-event.lines c.deliver.new.lines none come.0 takes e.rest k.stands)
+    (heard_far c.args.events.now m c.deliver.new.self c.loop-event.lines c.deliver.new.lines none come.0 takes e.rest k.stands) e.image e.natives.count
 
 pub loop-event-smaller : goal.loop-event-smaller
 loop-event-smaller g c =
@@ -63,8 +63,8 @@ loop-event-smaller g c =
     let m = c.loop-event.machine in
     let e = c.deliver.ensures.delivered in
     let come = c.in-Some.ensures.some in
-    let takes = subst (λ event. Delivered m event c.loop-event.turn c.deliver.new.turn c.deliver.new.self) (sym come.1) e.delivered in
-    heard_fewer c.args.events.now m c.deliver.new.self c.loop-event.turn c.deliver.new.turn i.kept.none_due come.0 takes e.rest
+    let takes = subst (λ event. Delivered m event c.loop-event.lines c.deliver.new.lines c.deliver.new.self) (sym come.1) e.delivered in
+    heard_fewer c.args.events.now m c.deliver.new.self c.loop-event.lines c.deliver.new.lines i.kept.none_due come.0 takes e.rest
 
 pub loop-event-preserved : goal.loop-event-preserved
 loop-event-preserved g c =
@@ -74,8 +74,8 @@ loop-event-preserved g c =
     let old = c.args.machine.now in
     let m = c.loop-event.machine in
     let new = c.deliver.new.self in
-    let told = c.loop-event.turn in
-    let now = c.deliver.new.turn in
+    let told = c.loop-event.lines in
+    let now = c.deliver.new.lines in
     let e = c.deliver.ensures.delivered in
     let events = c.args.events.now in
     let come = c.in-Some.ensures.some in
@@ -88,7 +88,7 @@ loop-event-preserved g c =
       agree = c.deliver.ensures.agree;
       untold = λ k none. e.natives.at k
           (subst (λ event. is_for_native event k ≡ false) come.1 (all_got (λ x. is_for_native x.event k ≡ false) _ _ _ none come.0.1)) ∙ i.untold k none;
-      turn = quiet ∙ i.turn;
+      lines = quiet ∙ i.lines;
       fewer = inr (less_to_come events old m new i.fewer (heard_fewer events m new told now none come.0 takes e.rest));
     }
 
@@ -105,7 +105,7 @@ pub returns-clause-kept : goal.returns-clause-kept
 returns-clause-kept g c = c.loop-event.invariant.kept.keeps
 
 pub returns-clause-heard : goal.returns-clause-heard
-returns-clause-heard g c = (c.loop-event.invariant.turn, c.loop-event.invariant.settled, c.loop-event.invariant.kept.none_due, c.in_default.ensures.none)
+returns-clause-heard g c = (c.loop-event.invariant.lines, c.loop-event.invariant.settled, c.loop-event.invariant.kept.none_due, c.in_default.ensures.none)
 
 pub returns-clause-timers : goal.returns-clause-timers
 returns-clause-timers g c = c.loop-event.invariant.kept.timers

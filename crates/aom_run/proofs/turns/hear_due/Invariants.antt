@@ -13,7 +13,7 @@ invariant-loop-event g l = record {
   agree : AllAgree (λ x. x.ids) (λ x. (goal.Native-dyn g (x.native.vtable, x.native.value)).owed x.native.value) l.machine.natives.slots.items;
   untold : (k : ℕ) → All (λ e. is_for_native e.event k ≡ false) l.fn.events →
       living_at l.machine.natives.slots.items k ≡ living_at l.fn.machine.natives.slots.items k;
-  turn : l.turn ≡ l.fn.turn;
+  lines : l.lines ≡ l.fn.lines;
   fewer : (l.machine ≡ l.fn.machine) ⊎ (to_come l.fn.events l.machine < to_come l.fn.events l.fn.machine);
 }
 

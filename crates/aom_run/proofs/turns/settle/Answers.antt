@@ -16,7 +16,7 @@ returns-then-hear_due-clause-heard g c =
     let events = c.args.events.now in
     tells_after _ c.args.machine.now c.complete_due.new.machine done.kept.image done.kept.natives
     (completed_settles _ c.args.machine.now c.complete_due.new.machine done.completed) _ _ c.hear_due.new.machine (subst (λ b. HearsAll b c.args.events.now
-    c.complete_due.new.machine c.args.turn.now c.hear_due.new.turn c.hear_due.new.machine) c.if-hear_due.true c.hear_due.ensures.heard)
+    c.complete_due.new.machine c.args.lines.now c.hear_due.new.lines c.hear_due.new.machine) c.if-hear_due.true c.hear_due.ensures.heard)
 
 pub returns-then-hear_due-clause-kept : goal.returns-then-hear_due-clause-kept
 returns-then-hear_due-clause-kept g c = keeps_both c.complete_due.ensures.kept c.hear_due.ensures.kept
@@ -25,7 +25,7 @@ pub poll_all-requires : goal.poll_all-requires
 poll_all-requires g c =
     let done = c.complete_due.ensures in
     let heard = c.hear_due.ensures in
-    let all = subst (λ b. HearsAll b c.args.events.now c.complete_due.new.machine c.args.turn.now c.hear_due.new.turn c.hear_due.new.machine)
+    let all = subst (λ b. HearsAll b c.args.events.now c.complete_due.new.machine c.args.lines.now c.hear_due.new.lines c.hear_due.new.machine)
     c.if-hear_due.false heard.heard in
     record {
       agree = heard.agree;
@@ -39,7 +39,7 @@ returns g c =
     let heard = c.hear_due.ensures in
     let polled = c.poll_all.ensures in
     let quiet = c.if-hear_due.false in
-    let all = subst (λ b. HearsAll b c.args.events.now c.complete_due.new.machine c.args.turn.now c.hear_due.new.turn c.hear_due.new.machine) quiet heard.heard in
+    let all = subst (λ b. HearsAll b c.args.events.now c.complete_due.new.machine c.args.lines.now c.hear_due.new.lines c.hear_due.new.machine) quiet heard.heard in
     let old = c.args.machine.now in
     let m = c.complete_due.new.machine in
     let k = c.hear_due.new.machine in

@@ -8,7 +8,7 @@ abbrev pub invariant-loop-limit : goal.invariant-loop-limit
 invariant-loop-limit g l = record {
   rests : Rests l.fn.machine l.fn.events l.fn.limit l.machine;
   agree : AllAgree (λ x. x.ids) (λ x. (goal.Native-dyn g (x.native.vtable, x.native.value)).owed x.native.value) l.machine.natives.slots.items;
-  turn : l.turn ≡ l.fn.turn;
+  lines : l.lines ≡ l.fn.lines;
 }
 
 abbrev pub decreases-loop-limit : goal.decreases-loop-limit

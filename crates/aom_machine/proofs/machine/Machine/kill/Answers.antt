@@ -12,13 +12,13 @@ use Rattle.aom_machine.proofs.machine.Machine.kill.Goals as goal
 
 pub invariant_of-self : goal.invariant_of-self
 invariant_of-self c = let killed = seen_as (λ (old : Machine) (p : Image). (s : State) → StandsFor old s → Takes old s
-    (Kills c.args.native) c.args.turn.now c.kill.new.turn (record { image = p; parts = c.kill.new.parts })) c.linked.ensures refl c.kill.ensures.killed in
+    (Kills c.args.native) c.args.lines.now c.kill.new.lines (record { image = p; parts = c.kill.new.parts })) c.linked.ensures refl c.kill.ensures.killed in
     let t = killed c.self.invariant.0 c.self.invariant.1 in
     (t.state, t.stands)
 
 pub returns-clause-killed : goal.returns-clause-killed
 returns-clause-killed c = seen_as (λ (old : Machine) (p : Image). (s : State) → StandsFor old s → Takes old s (Kills c.args.native)
-    c.args.turn.now c.kill.new.turn (record { image = p; parts = c.kill.new.parts })) c.linked.ensures c.self.view_is c.kill.ensures.killed
+    c.args.lines.now c.kill.new.lines (record { image = p; parts = c.kill.new.parts })) c.linked.ensures c.self.view_is c.kill.ensures.killed
 
 pub returns-clause-timers : goal.returns-clause-timers
 returns-clause-timers c = subst (λ (old : Machine). timers (record { image = c.self.inside.accepted.now; parts = c.kill.new.parts }) ≡ timers old)

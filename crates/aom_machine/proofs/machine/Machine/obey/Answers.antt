@@ -18,13 +18,13 @@ use Rattle.aom_machine.proofs.machine.Machine.obey.Goals as goal
 
 pub invariant_of-self : goal.invariant_of-self
 invariant_of-self c = let obeyed = seen_as (λ (old : Machine) (p : Image). (s : State) → StandsFor old s → Obeyed old s c.args.client
-    c.args.command c.args.turn.now c.obey.new.turn (record { image = p; parts = c.obey.new.parts })) c.linked.ensures refl c.obey.ensures.obeyed in
+    c.args.command c.args.lines.now c.obey.new.lines (record { image = p; parts = c.obey.new.parts })) c.linked.ensures refl c.obey.ensures.obeyed in
     let t = obeyed c.self.invariant.0 c.self.invariant.1 in
     (t.2.state, t.2.stands)
 
 pub returns-clause-obeyed : goal.returns-clause-obeyed
 returns-clause-obeyed c = seen_as (λ (old : Machine) (p : Image). (s : State) → StandsFor old s → Obeyed old s c.args.client
-    c.args.command c.args.turn.now c.obey.new.turn (record { image = p; parts = c.obey.new.parts })) c.linked.ensures c.self.view_is c.obey.ensures.obeyed
+    c.args.command c.args.lines.now c.obey.new.lines (record { image = p; parts = c.obey.new.parts })) c.linked.ensures c.self.view_is c.obey.ensures.obeyed
 
 -- a refusal is told by one line
 few_refused : (client : ℕ) (r : Option CommandRefusal) → length (refusal_line client r) ≤ 1
@@ -35,11 +35,12 @@ pub returns-clause-told : goal.returns-clause-told
 returns-clause-told c =
     let p = c.self.inside.accepted.now in
     let obeyed = seen_as (λ (old : Machine) (p : Image). (s : State) → StandsFor old s → Obeyed old s c.args.client
-    c.args.command c.args.turn.now c.obey.new.turn (record { image = p; parts = c.obey.new.parts })) c.linked.ensures refl c.obey.ensures.obeyed in
+    c.args.command c.args.lines.now c.obey.new.lines (record { image = p; parts = c.obey.new.parts })) c.linked.ensures refl c.obey.ensures.obeyed in
     let t = obeyed c.self.invariant.0 c.self.invariant.1 in
     let r = refusal p c.args.client c.self.invariant.0 c.args.command in
-    let lines : length c.obey.new.turn.lines ≡ length (c.args.turn.now.lines ++ refusal_line c.args.client r) = ap (λ (x : LineBuffer). length x.lines) t.2.lines in
-    let all = length-append c.args.turn.now.lines (refusal_line c.args.client r) in
+    let lines : length c.obey.new.lines.lines ≡ length (c.args.lines.now.lines ++ refusal_line c.args.client r) =
+    ap (λ (x : LineBuffer). length x.lines) t.2.lines in
+    let all = length-append c.args.lines.now.lines (refusal_line c.args.client r) in
     let few = few_refused c.args.client r in
     omega (arith, lines, all, few)
 

@@ -8,12 +8,12 @@ use Rattle.aom_machine.proofs.Agreeing.{agrees_in_all}
 use Rattle.aom_machine.proofs.machine.Machine.step_on.Goals as goal
 
 pub invariant_of-self : goal.invariant_of-self
-invariant_of-self c = stands_on c.self.inside.accepted.now c.self.inside.parts c.step_on.new.parts c.args.turn.now c.step_on.new.turn
-    c.step_on.result c.self.invariant (seen_as (λ (old : Machine) (p : Image). SteppedOn old c.step_on.result c.args.turn.now c.step_on.new.turn
+invariant_of-self c = stands_on c.self.inside.accepted.now c.self.inside.parts c.step_on.new.parts c.args.lines.now c.step_on.new.lines
+    c.step_on.result c.self.invariant (seen_as (λ (old : Machine) (p : Image). SteppedOn old c.step_on.result c.args.lines.now c.step_on.new.lines
     (record { image = p; parts = c.step_on.new.parts })) c.linked.ensures refl (c.step_on.ensures.steps))
 
 pub returns-clause-steps : goal.returns-clause-steps
-returns-clause-steps c = seen_as (λ (old : Machine) (p : Image). SteppedOn old c.step_on.result c.args.turn.now c.step_on.new.turn
+returns-clause-steps c = seen_as (λ (old : Machine) (p : Image). SteppedOn old c.step_on.result c.args.lines.now c.step_on.new.lines
     (record { image = p; parts = c.step_on.new.parts })) c.linked.ensures c.self.view_is (c.step_on.ensures.steps)
 
 pub returns-clause-falls : goal.returns-clause-falls
@@ -24,9 +24,9 @@ pub returns-clause-agrees : goal.returns-clause-agrees
 returns-clause-agrees c = agrees_in_all _
 
 pub returns-clause-told : goal.returns-clause-told
-returns-clause-told c = λ running. seen_as (λ (old : Machine) (p : Image). (length c.args.turn.now.lines < length c.step_on.new.turn.lines) ⊎
+returns-clause-told c = λ running. seen_as (λ (old : Machine) (p : Image). (length c.args.lines.now.lines < length c.step_on.new.lines.lines) ⊎
     Wants (record { image = p; parts = c.step_on.new.parts })) c.linked.ensures c.self.view_is (c.step_on.ensures.told running)
 
 pub returns-clause-idle : goal.returns-clause-idle
-returns-clause-idle c = seen_as (λ (old : Machine) (p : Image). StaysIdle old c.args.turn.now c.step_on.new.turn
+returns-clause-idle c = seen_as (λ (old : Machine) (p : Image). StaysIdle old c.args.lines.now c.step_on.new.lines
     (record { image = p; parts = c.step_on.new.parts })) c.linked.ensures c.self.view_is c.step_on.ensures.idle

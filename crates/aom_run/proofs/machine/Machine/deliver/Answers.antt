@@ -13,9 +13,9 @@ returns-in-Tell-clause-delivered g c =
       image = e.image;
       natives = subst (λ x. KeepsUntold x c.args.self.now.natives.slots.items c.tell.new.self.natives.slots.items)
           (sym c.in-Tell.is) (record { count = e.natives.count; at = untold_but _ _ c.in-Tell.native e.natives });
-      delivered = λ outside same s st. with_any_name s (λ name. Takes c.args.self.now s (delivers outside name s c.args.event) c.args.turn.now c.args.turn.now
-          c.tell.new.self) (λ name. subst (λ x. Takes c.args.self.now s (delivers outside name s x) c.args.turn.now c.args.turn.now c.tell.new.self)
-          (sym c.in-Tell.is) (e.heard c.args.turn.now s st));
+      delivered = λ outside same s st. with_any_name s (λ name. Takes c.args.self.now s (delivers outside name s c.args.event) c.args.lines.now c.args.lines.now
+          c.tell.new.self) (λ name. subst (λ x. Takes c.args.self.now s (delivers outside name s x) c.args.lines.now c.args.lines.now c.tell.new.self)
+          (sym c.in-Tell.is) (e.heard c.args.lines.now s st));
       rest = e.rest;
       timers = e.timers;
       told = omega arith;
@@ -25,12 +25,12 @@ returns-in-Tell-clause-delivered g c =
 
 pub returns-in-Kill-clause-delivered : goal.returns-in-Kill-clause-delivered
 returns-in-Kill-clause-delivered g c =
-    subst (λ e. IsDelivered c.args.self.now e c.kill.result c.args.turn.now c.kill.new.turn c.kill.new.self) (sym c.in-Kill.is) c.kill.ensures.delivered
+    subst (λ e. IsDelivered c.args.self.now e c.kill.result c.args.lines.now c.kill.new.lines c.kill.new.self) (sym c.in-Kill.is) c.kill.ensures.delivered
 
 -- a client does what it is told
 pub returns-in-Client-clause-delivered : goal.returns-in-Client-clause-delivered
 returns-in-Client-clause-delivered g c =
-    subst (λ e. IsDelivered c.args.self.now e c.obey.result c.args.turn.now c.obey.new.turn c.obey.new.self) (sym c.in-Client.is) c.obey.ensures.delivered
+    subst (λ e. IsDelivered c.args.self.now e c.obey.result c.args.lines.now c.obey.new.lines c.obey.new.self) (sym c.in-Client.is) c.obey.ensures.delivered
 
 pub obey-requires-clause-ranged : goal.obey-requires-clause-ranged
 obey-requires-clause-ranged g c = subst EventInRange c.in-Client.is c.requires.ranged

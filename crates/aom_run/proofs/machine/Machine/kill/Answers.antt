@@ -9,7 +9,7 @@ use Rattle.aom_run.proofs.machine.Machine.kill.Goals as goal
 pub returns-then-not-is_alive-clause-delivered : goal.returns-then-not-is_alive-clause-delivered
 returns-then-not-is_alive-clause-delivered g c =
     let e = c.hear_event.ensures in
-    heard_only c.args.self.now c.hear_event.new.self e.image (Kill c.args.native) c.args.turn.now
+    heard_only c.args.self.now c.hear_event.new.self e.image (Kill c.args.native) c.args.lines.now
     (kills_nothing c.args.self.now _ e.image _ (sym c.is_alive.ensures ∙ c.if-not-is_alive.true) (λ now s st. e.heard now s st.stands) _) e.rest e.back e.timers
 
 -- one that lives is
@@ -20,10 +20,10 @@ returns-clause-delivered g c =
       image = e.image;
       natives = record { count = c.kill.ensures.others.count; at = untold_but _ _ c.args.native c.kill.ensures.others };
       delivered = kills_one c.args.self.now (record { core = c.kill-2.new.self; natives = c.kill.new.self }) e.image c.args.native (sym c.is_alive.ensures
-          ∙ c.if-not-is_alive.false) c.kill.ensures.dead c.kill.ensures.others c.args.turn.now c.kill-2.new.turn (λ s st. e.killed s st.stands);
+          ∙ c.if-not-is_alive.false) c.kill.ensures.dead c.kill.ensures.others c.args.lines.now c.kill-2.new.lines (λ s st. e.killed s st.stands);
       rest = e.rest;
       timers = e.timers;
-      told = line_more _ c.kill-2.new.self _ c.args.native c.args.turn.now c.kill-2.new.turn (e.killed c.requires.rests.0.0 c.requires.rests.0.1.stands);
+      told = line_more _ c.kill-2.new.self _ c.args.native c.args.lines.now c.kill-2.new.lines (e.killed c.requires.rests.0.0 c.requires.rests.0.1.stands);
       quiet = λ is. absurd (true≢false is);
       none_due = λ is. absurd (true≢false is);
     }

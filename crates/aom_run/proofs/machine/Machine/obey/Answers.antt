@@ -7,8 +7,8 @@ use Rattle.aom_run.proofs.machine.Machine.obey.Goals as goal
 pub returns-then-client-ge-CLIENTS-clause-delivered : goal.returns-then-client-ge-CLIENTS-clause-delivered
 returns-then-client-ge-CLIENTS-clause-delivered g c =
     let e = c.hear_event.ensures in
-    heard_only c.args.self.now c.hear_event.new.self e.image (Client c.args.client c.args.command) c.args.turn.now
-    (obeyed_none c.args.self.now _ e.image c.args.client c.args.command c.if-client-ge-CLIENTS.true e.heard c.args.turn.now) e.rest e.back e.timers
+    heard_only c.args.self.now c.hear_event.new.self e.image (Client c.args.client c.args.command) c.args.lines.now
+    (obeyed_none c.args.self.now _ e.image c.args.client c.args.command c.if-client-ge-CLIENTS.true e.heard c.args.lines.now) e.rest e.back e.timers
 
 -- a client does what it is told
 pub returns-clause-delivered : goal.returns-clause-delivered
@@ -18,7 +18,7 @@ returns-clause-delivered g c =
     record {
       image = e.image;
       natives = record { count = refl; at = λ k apart. refl };
-      delivered = obeyed_so c.args.self.now c.obey.new.self e.image c.args.client c.args.command c.args.turn.now c.obey.new.turn (omega (arith, few)) e.obeyed;
+      delivered = obeyed_so c.args.self.now c.obey.new.self e.image c.args.client c.args.command c.args.lines.now c.obey.new.lines (omega (arith, few)) e.obeyed;
       rest = e.rest;
       timers = e.timers;
       told = e.told;

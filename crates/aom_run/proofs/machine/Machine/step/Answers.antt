@@ -21,4 +21,4 @@ pub returns-clause-unasked : goal.returns-clause-unasked
 returns-clause-unasked g c = λ s st. (c.ask.ensures.asked s st).1.unasked
 
 pub returns-clause-idle : goal.returns-clause-idle
-returns-clause-idle g c = stays_idle c.args.self.now c.ask.new.self c.step.new.self c.args.turn.now c.step.new.turn c.ask.ensures.idle c.step.ensures.idle
+returns-clause-idle g c = stays_idle c.args.self.now c.ask.new.self c.step.new.self c.args.lines.now c.step.new.lines c.ask.ensures.idle c.step.ensures.idle

@@ -10,7 +10,7 @@ returns-clause-steps g c = λ s st. (
   heard_by c.ask.new.self.core.parts,
   (c.ask.ensures.asked s st).0,
   stepped_on c.args.self.now s st (record { core = c.step_on.new.self; natives = c.ask.new.self.natives }) c.ask.new.self.core
-      (heard_by c.ask.new.self.core.parts) c.step_on.result c.args.turn.now c.step_on.new.turn (ap (λ (m : Core). m.image) c.ask.ensures.core) refl
+      (heard_by c.ask.new.self.core.parts) c.step_on.result c.args.lines.now c.step_on.new.lines (ap (λ (m : Core). m.image) c.ask.ensures.core) refl
       (c.ask.ensures.stands s st.stands) c.step_on.ensures.image (c.ask.ensures.asked s st).1 c.step_on.ensures.steps,
 )
 
@@ -21,4 +21,4 @@ pub returns-clause-unasked : goal.returns-clause-unasked
 returns-clause-unasked g c = λ s st. (c.ask.ensures.asked s st).1.unasked
 
 pub returns-clause-idle : goal.returns-clause-idle
-returns-clause-idle g c = stays_idle c.args.self.now c.ask.new.self _ c.args.turn.now c.step_on.new.turn c.ask.ensures.idle c.step_on.ensures.idle
+returns-clause-idle g c = stays_idle c.args.self.now c.ask.new.self _ c.args.lines.now c.step_on.new.lines c.ask.ensures.idle c.step_on.ensures.idle
