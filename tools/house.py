@@ -5,6 +5,8 @@ import re
 import shutil
 import subprocess
 
+from quick_rt import rt_words
+
 # what a check reads of a crate
 PARTS = ("src", "specs", "proofs")
 # what it keeps
@@ -118,9 +120,9 @@ def measured(words, folder):
 
 def run_rt(folder, *words):
     """Runs rt in a folder: its status, the lines that it said, and its time. A run that fails without a reason was broken off, and is begun once more."""
-    status, lines, seconds = measured(["rt", *words], folder)
+    status, lines, seconds = measured(rt_words(*words), folder)
     if status and not any(map(tells_errors, lines)):
-        status, lines, more = measured(["rt", *words], folder)
+        status, lines, more = measured(rt_words(*words), folder)
         seconds += more
     return status, lines, seconds
 
