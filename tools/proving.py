@@ -9,48 +9,34 @@ import time
 
 from following import Following
 from house import House
-from kept_run import KeptRun
 from lanes import Lanes
-from quick_rt import keeps_proofs, rt_words
+from quick_rt import KEPT_AT, keeps_proofs, rt_words
 from trial import Trial
 from verdicts import Verdicts
 
 
 class Proofs:
-    """A run of rt ci over a copy without must-fail edits: what passed and failed, how long it took, and how much of the processors' time.
-    Where rt ci keeps nothing of what it has proved, an earlier run here over the same texts stands for it."""
+    """A run of rt ci over a copy without must-fail edits: what passed and failed, how long it took, and how much of the processors' time."""
 
-    def __init__(self, house, top, jobs, anew, kept_at=None):
-        self.house, self.top, self.jobs, self.anew, self.kept_at = house, top, jobs, anew, kept_at
+    def __init__(self, top, jobs, anew, kept_at=None):
+        self.top, self.jobs, self.anew, self.kept_at = top, jobs, anew, kept_at
         self.passed, self.failed, self.seconds, self.used = 0, 1, 0.0, 0.0
+
+    def command(self):
+        """The words of the run, and what it finds around it. What earlier runs have proved is kept by rt ci itself, or else here."""
+        around = {**os.environ, "RT_JOBS": str(self.jobs)}
+        if keeps_proofs():
+            return ["rt", "ci", *(["--anew"] if self.anew else [])], around
+        return rt_words("ci"), around if self.anew or not self.kept_at else {**around, KEPT_AT: self.kept_at}
 
     def run(self, hear):
         """Runs it, and hands on each line that it says."""
         for name in os.listdir(f"{self.top}/crates"):
             shutil.rmtree(f"{self.top}/crates/{name}/must-fail", ignore_errors=True)
-        if keeps_proofs():
-            self.run_anew(hear, ["rt", "ci", *(["--anew"] if self.anew else [])])
-            return
-        kept = KeptRun(self.top, self.kept_at)
-        known = None if self.anew else kept.passed()
-        if known is not None:
-            self.take(hear, known)
-            return
-        self.run_anew(hear, rt_words("ci"))
-        if not self.failed:
-            kept.keep(self.passed)
-
-    def take(self, hear, passed):
-        """Takes it that an earlier run passed so many."""
-        for name in self.house.direct:
-            hear(f"rt: {name} is kept")
-        self.passed, self.failed = passed, 0
-
-    def run_anew(self, hear, words):
-        """Runs rt ci."""
         start, last = time.monotonic(), ""
+        words, around = self.command()
         how = {"stdin": subprocess.DEVNULL, "stdout": subprocess.PIPE, "stderr": subprocess.STDOUT, "text": True, "errors": "replace"}
-        with subprocess.Popen(words, cwd=self.top, env={**os.environ, "RT_JOBS": str(self.jobs)}, **how) as ran:
+        with subprocess.Popen(words, cwd=self.top, env=around, **how) as ran:
             for line in ran.stdout:
                 last = line.rstrip("\n")
                 hear(last)
@@ -66,8 +52,7 @@ class Proofs:
 
 def prove_and_try(place, jobs, anew, say, show, verdicts_at=None):
     """Proves the copy `proofs` of a folder, and tries the edits of its copy `edits`, each once rt ci has proved what it stands on: the run of rt ci, and the trial. Proofs come first."""
-    house = House(f"{place}/edits")
-    proofs = Proofs(house, f"{place}/proofs", jobs, anew, verdicts_at)
+    house, proofs = House(f"{place}/edits"), Proofs(f"{place}/proofs", jobs, anew, verdicts_at)
     following = Following(house, proofs.top, Lanes(jobs, say), place)
     trial = Trial(house, list(house.direct), following, place, say, Verdicts(house, verdicts_at, anew))
     trial.begin()

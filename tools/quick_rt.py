@@ -1,8 +1,8 @@
 """quick_rt WORD..: runs the toolchain's own rt with these words, in this process, where each crate is asked once what it has below it.
 
 The program stands on some fifty crates, and there are 600,000 ways down from the library to the lowest of them. Some toolchains' rt lists the crates
-below a crate, and sums up their texts, by going each of these ways, twice a crate: that takes longer than the proofs. What is proved, tried and run, and
-how, is rt's own, and so is each answer; where rt is not made as it is known here, it runs as it stands."""
+below a crate, and sums up their texts, by going each of these ways, twice a crate: that takes longer than the proofs. What is proved, tried and run is rt's
+own, and so is each answer; how many processes share a check of rt ci is told here. Where rt is not made as it is known here, it runs as it stands."""
 
 import functools
 import importlib.machinery
@@ -14,6 +14,10 @@ import sys
 import threading
 import time
 
+from kept_checks import KeptChecks
+
+# names the folder in which the checks of rt ci are kept
+KEPT_AT = "AOM_KEPT_AT"
 # what a crate answers by asking the same of each crate that it names
 ASKED_DOWN = ("below", "stamp")
 # the most processes that share one check: memory holds no more of them beside the edits' checks
@@ -71,6 +75,12 @@ def with_idle_lanes(check, lanes):
     return shared
 
 
+def checks_of(check):
+    """The checks of rt ci: by the lanes that are idle, and, where a folder for them is named, not again where one of the same texts is kept."""
+    shared, kept_at = with_idle_lanes(check, int(os.environ["RT_JOBS"])), os.environ.get(KEPT_AT)
+    return KeptChecks(kept_at).checking(shared) if kept_at else shared
+
+
 def module_of(path):
     """The module that a program of Python is."""
     loader = importlib.machinery.SourceFileLoader("rt", path)
@@ -87,7 +97,7 @@ def main(words):
         for name in ASKED_DOWN:
             setattr(crate, name, once_in_a_call(getattr(crate, name)))
         if words == ["ci"]:
-            rt.Crate.ci = with_idle_lanes(rt.Crate.ci, int(os.environ["RT_JOBS"]))
+            rt.Crate.ci = checks_of(rt.Crate.ci)
     except (AttributeError, KeyError, SyntaxError, ValueError):
         os.execv(path, ["rt", *words])
     sys.argv = [path, *words]
