@@ -1,9 +1,12 @@
-"""The test of the gate's own tools: a small repository of which one crate is false, and whose edits are known to be refused, or must not pass."""
+"""The test of the gate's own tools: a small repository of which one crate is false, and whose edits are known to be refused, or must not pass;
+and of what is kept of its proofs."""
 
+import re
 import shutil
 
 from edit_files import write_text
-from proving import prove_and_try
+from proving import Proofs, prove_and_try
+from quick_rt import keeps_proofs
 from showing import ANSWER, GOAL, NAME
 
 SAMPLE = """//! A small crate on which the trial of edits is tried.
@@ -155,8 +158,20 @@ def text_of(name, file, old, new):
     return f"{page}file: {file}\nold: {old}\nnew: {new}\n"
 
 
+def keeping_is_well(top, jobs, tell):
+    """Whether a crate that was proved is taken as it is kept, and one whose text is another is proved again, where rt ci itself keeps nothing."""
+    if keeps_proofs():
+        return True
+    write_text(f"{top}/proofs/crates/stated/{DEFINITIONS}", AMOUNTS.replace("six times a number", "a number, six times"))
+    said, again = [], Proofs(f"{top}/proofs", jobs, False, f"{top}/kept")
+    again.run(said.append)
+    kept = [told[1] for told in map(re.compile(r"rt: (\w+) is kept\b").match, said) if told]
+    tell(f"kept of its proofs: {' '.join(kept) or 'nothing'}")
+    return kept == ["sample"] and (again.passed, again.failed) == (2, 1)
+
+
 def tools_are_well(place, jobs, say):
-    """Whether just the edits that are wrong come out as refused, and just the crate that is false as not proved."""
+    """Whether just the edits that are wrong come out as refused, just the crate that is false as not proved, and just what has not changed as kept."""
     top = f"{place}/selftest"
     for file, text in FILES.items():
         write_text(f"{top}/edits/{file}", text)
@@ -167,7 +182,8 @@ def tools_are_well(place, jobs, say):
     def tell(text):
         say(f"of the tools' own test: {text}")
 
-    proofs, trial = prove_and_try(top, jobs, False, tell, tell)
+    proofs, trial = prove_and_try(top, jobs, False, tell, tell, f"{top}/kept")
     wanted = {f"{crate}/{name}.edit": kind for crate, name, *_, kind in EDITS if kind}
     is_told = {it: trial.kinds[it] for it in trial.passed} == wanted and len(trial.failed) == len(EDITS) - len(wanted)
-    return is_told and trial.unshown == ["sample/again-without-a-page.edit"] and (proofs.passed, proofs.failed) == (2, 1)
+    is_told = is_told and trial.unshown == ["sample/again-without-a-page.edit"] and (proofs.passed, proofs.failed) == (2, 1)
+    return is_told and keeping_is_well(top, jobs, tell)
