@@ -8,8 +8,7 @@ use Rattle.aom_image.specs.Image.{Image}
 use Rattle.std.specs.List.{find}
 use Rattle.aom_codec.proofs.InstructionsLemmas.{making_parts_again}
 use Rattle.aom_instructions.specs.Mnemonics.{is_in, with_opcode}
-use Rattle.aom_instructions.specs.Parts.{mnemonic, operands}
-use Rattle.aom_instructions.specs.Rows.{mnemonics, row}
+use Rattle.aom_instructions.specs.Table.{mnemonic, operands, mnemonics, row}
 use Rattle.aom_instructions.specs.declared.kinds.Kinds.{Kinds}
 use Rattle.aom_instructions.specs.declared.kinds.LargeKind.{LargeKind}
 use Rattle.aom_instructions.specs.declared.kinds.SmallKind.{SmallKind}

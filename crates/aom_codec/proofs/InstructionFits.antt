@@ -3,9 +3,8 @@ use Rattle.std.proofs.lemmas.Bool.Decides.{nat_tests}
 use Rattle.std.proofs.Common.{arith, ◌≡◌, ◌∙◌, ◌<◌, Err, Ok, cond, refl, sym, true, ap}
 use Rattle.aom_codec.proofs.InstructionsLemmas.{parts_make_again, rows_are_one}
 use Rattle.aom_instructions.specs.Operands.{OperandsFit}
-use Rattle.aom_instructions.specs.Parts.{mnemonic, operands}
+use Rattle.aom_instructions.specs.Table.{mnemonic, operands, row}
 use Rattle.aom_instructions.specs.Mnemonics.{is_in, with_opcode}
-use Rattle.aom_instructions.specs.Rows.{row}
 use Rattle.aom_instructions.specs.Fits.{InstrFits}
 use Rattle.aom_instructions.specs.declared.instr.Instr.{Instr}
 use Rattle.aom_instructions.specs.declared.kinds.Kinds.{Kinds}

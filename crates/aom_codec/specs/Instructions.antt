@@ -6,8 +6,7 @@ use Rattle.aom_codec.specs.Spelling.{small_byte, large_number}
 use Rattle.aom_codec.specs.declared.fault.LoadFault.{LoadFault}
 use Rattle.aom_codec.specs.declared.fault.LoadFault.TheVariants.{BadOpcode, BadOperand, BadIndex, NotZero}
 use Rattle.aom_instructions.specs.Mnemonics.{is_in, with_opcode}
-use Rattle.aom_instructions.specs.Parts.{make, mnemonic, operands, operands_of}
-use Rattle.aom_instructions.specs.Rows.{row}
+use Rattle.aom_instructions.specs.Table.{make, mnemonic, operands, operands_of, row}
 use Rattle.aom_instructions.specs.declared.instr.Instr.{Instr}
 use Rattle.aom_instructions.specs.declared.instr.Target.TheVariants as targets
 use Rattle.aom_instructions.specs.declared.kinds.Kinds.{Kinds}

@@ -2,8 +2,7 @@
 use Rattle.std.proofs.Common.{◌≡◌, refl, ◌∙◌}
 use Rattle.aom_instructions.specs.Laws.{PartsMakeAgain, MakingPartsAgain, RowsAreOne}
 use Rattle.aom_instructions.specs.Operands.{SmallFits, LargeFits}
-use Rattle.aom_instructions.specs.Parts.{class, depth, field, make, method, mnemonic, number, operands, operands_of, place, register, rounds, target, word}
-use Rattle.aom_instructions.specs.Rows.{row}
+use Rattle.aom_instructions.specs.Table.{class, depth, field, make, method, mnemonic, number, operands, operands_of, place, register, rounds, target, word, row}
 use Rattle.aom_instructions.specs.declared.instr.Instr.TheVariants as instr
 use Rattle.aom_instructions.specs.declared.kinds.LargeKind.{LargeKind}
 use Rattle.aom_instructions.specs.declared.kinds.LargeKind.TheVariants as lk

@@ -6,7 +6,7 @@ use Rattle.std.specs.List.{find, slice_get}
 use Rattle.std.specs.Option.{option_copied}
 use Rattle.std.specs.Slice.{IsItemAt}
 use Rattle.aom_instructions.specs.Mnemonics.{with_opcode}
-use Rattle.aom_instructions.specs.Rows.{mnemonics, row}
+use Rattle.aom_instructions.specs.Table.{mnemonics, row}
 
 -- what a slice lends at a place, as a value
 pub copied_at : {X : Type 0} (xs : List X) (i : ℕ) (r : Option (Bor X)) → IsItemAt xs i r → option_copied r ≡ slice_get xs i

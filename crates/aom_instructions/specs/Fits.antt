@@ -2,8 +2,7 @@
 use Rattle.std.specs.Prelude.{◌≡◌, ℕ, true}
 use Rattle.aom_instructions.specs.Mnemonics.{is_in}
 use Rattle.aom_instructions.specs.Operands.{OperandsFit}
-use Rattle.aom_instructions.specs.Parts.{mnemonic, operands as operands_in}
-use Rattle.aom_instructions.specs.Rows.{row}
+use Rattle.aom_instructions.specs.Table.{mnemonic, operands as operands_in, row}
 use Rattle.aom_instructions.specs.declared.instr.Instr.{Instr}
 use Rattle.aom_instructions.specs.declared.limits.Limits.{Limits}
 use Rattle.aom_instructions.specs.declared.version.Version.{Version}

@@ -2,8 +2,7 @@
 use Rattle.std.specs.Prelude.{◌≡◌, Some}
 use Rattle.aom_instructions.specs.Mnemonics.{mnemonic_of, mnemonic_text, with_opcode}
 use Rattle.aom_instructions.specs.Operands.{OperandsFit}
-use Rattle.aom_instructions.specs.Parts.{make, mnemonic, operands}
-use Rattle.aom_instructions.specs.Rows.{row}
+use Rattle.aom_instructions.specs.Table.{make, mnemonic, operands, row}
 use Rattle.aom_instructions.specs.declared.instr.Instr.{Instr}
 use Rattle.aom_instructions.specs.declared.limits.Limits.{Limits}
 use Rattle.aom_instructions.specs.declared.mnemonic.Mnemonic.{Mnemonic}

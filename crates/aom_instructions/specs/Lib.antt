@@ -1,7 +1,6 @@
 pub mod Versions
 pub mod Operands
-pub mod Parts
-pub mod Rows
+pub mod Table
 pub mod Mnemonics
 pub mod Fits
 pub mod Laws

@@ -4,7 +4,7 @@ use Rattle.std.specs.List.{find}
 use Rattle.std.specs.Str.{bytes_eq}
 use Rattle.aom_instructions.specs.declared.mnemonic.Mnemonic.{Mnemonic}
 use Rattle.aom_instructions.specs.declared.version.Version.{Version}
-use Rattle.aom_instructions.specs.Rows.{mnemonics, row}
+use Rattle.aom_instructions.specs.Table.{mnemonics, row}
 use Rattle.aom_instructions.specs.Versions.{includes}
 
 -- how each is written

@@ -1,6 +1,6 @@
 //! The operands of one instruction, each of its kind.
 ghost use Rattle.std.specs.Prelude.{◌≡◌};
-ghost use Rattle.aom_instructions.specs.Parts.{register, word, field, depth, target, number, rounds, place, class, method, operands_of};
+ghost use Rattle.aom_instructions.specs.Table.{register, word, field, depth, target, number, rounds, place, class, method, operands_of};
 
 use crate::{
     ClassNumber, FieldIndex, InstrPlace, LoopDepth, MethodNumber, Register, Target, WordIndex,

@@ -31,8 +31,7 @@ use Rattle.aom_text.specs.Words.{has_bytes}
 use Rattle.aom_syntax.specs.Keywords.{keyword_text}
 use Rattle.aom_syntax.specs.declared.keyword.Keyword.{Keyword}
 use Rattle.aom_syntax.specs.declared.keyword.Keyword.TheVariants as k
-use Rattle.aom_instructions.specs.Parts.{mnemonic, operands}
-use Rattle.aom_instructions.specs.Rows.{row}
+use Rattle.aom_instructions.specs.Table.{mnemonic, operands, row}
 use Rattle.aom_instructions.specs.declared.kinds.OperandOrder.{OperandOrder}
 use Rattle.aom_instructions.specs.declared.kinds.OperandOrder.TheVariants.{LargeLast, LargeSecond}
 use Rattle.aom_instructions.specs.declared.operand.Large.{Large}

@@ -1,7 +1,7 @@
 -- The places to which a method's instructions jump.
 use Rattle.std.specs.Prelude.{◌≡◌, ◌<◌, ℕ, Bool, false, List, Option, Some, None, slice_index_or}
 use Rattle.std.specs.List.{list_any}
-use Rattle.aom_instructions.specs.Parts.{operands}
+use Rattle.aom_instructions.specs.Table.{operands}
 use Rattle.aom_instructions.specs.declared.instr.Instr.{Instr}
 use Rattle.aom_instructions.specs.declared.operand.Large.{Large}
 use Rattle.aom_instructions.specs.declared.operand.Large.TheVariants as large

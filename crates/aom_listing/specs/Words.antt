@@ -2,8 +2,7 @@
 use Rattle.std.specs.Prelude.{ℕ, List, [], ◌∷◌, ◌++◌, decimal}
 use Rattle.std.specs.Fmt.{signed_decimal}
 use Rattle.aom_instructions.specs.Mnemonics.{mnemonic_text}
-use Rattle.aom_instructions.specs.Parts.{mnemonic, operands}
-use Rattle.aom_instructions.specs.Rows.{row}
+use Rattle.aom_instructions.specs.Table.{mnemonic, operands, row}
 use Rattle.aom_instructions.specs.declared.instr.Instr.{Instr}
 use Rattle.aom_instructions.specs.declared.kinds.OperandOrder.{OperandOrder}
 use Rattle.aom_instructions.specs.declared.kinds.OperandOrder.TheVariants.{LargeLast, LargeSecond}

@@ -21,7 +21,7 @@ use Rattle.aom_instructions.specs.declared.instr.Instr.{Instr}
 use Rattle.aom_syntax.specs.Classes.{declared_at, is_at}
 use Rattle.aom_syntax.specs.Methods.{after_label, check_label, instruction, known_mnemonic, label_of, named_mnemonic, skip_label}
 use Rattle.aom_instructions.specs.Mnemonics.{is_in, mnemonic_of, mnemonic_text}
-use Rattle.aom_instructions.specs.Rows.{mnemonics}
+use Rattle.aom_instructions.specs.Table.{mnemonics}
 use Rattle.aom_syntax.specs.Names.{place_of}
 use Rattle.aom_syntax.specs.Reading.{◌>>=◌, as_name, giving, next, nothing_more, seen, word}
 use Rattle.aom_syntax.specs.Words.{words_operands}

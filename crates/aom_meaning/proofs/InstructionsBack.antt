@@ -6,8 +6,7 @@ use Rattle.aom_instructions.specs.declared.version.Version.{Version}
 use Rattle.aom_meaning.proofs.InstructionsLemmas.{parts_make_again}
 use Rattle.aom_instructions.specs.Mnemonics.{is_in, mnemonic_text}
 use Rattle.aom_instructions.specs.Operands.{LargeFits, OperandsFit, SmallFits}
-use Rattle.aom_instructions.specs.Parts.{make, mnemonic, operands}
-use Rattle.aom_instructions.specs.Rows.{row}
+use Rattle.aom_instructions.specs.Table.{make, mnemonic, operands, row}
 use Rattle.aom_instructions.specs.Fits.{InstrFits, limits}
 use Rattle.aom_instructions.specs.declared.instr.Instr.{Instr}
 use Rattle.aom_instructions.specs.declared.kinds.Kinds.{Kinds}

@@ -6,8 +6,7 @@ use Rattle.std.proofs.lemmas.Bool.{eq-eqb}
 use Rattle.aom_instructions.specs.declared.version.Version.{Version}
 use Rattle.aom_instructions.specs.Fits.{InstrFits, limits}
 use Rattle.aom_instructions.specs.Operands.{LargeFits}
-use Rattle.aom_instructions.specs.Parts.{mnemonic, operands}
-use Rattle.aom_instructions.specs.Rows.{row}
+use Rattle.aom_instructions.specs.Table.{mnemonic, operands, row}
 use Rattle.aom_instructions.specs.declared.instr.Instr.{Instr}
 use Rattle.aom_instructions.specs.declared.kinds.LargeKind.{LargeKind}
 use Rattle.aom_instructions.specs.declared.limits.Limits.{Limits}

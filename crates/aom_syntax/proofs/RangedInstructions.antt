@@ -10,8 +10,7 @@ use Rattle.aom_instructions.specs.declared.operand.Operands.{Operands}
 use Rattle.aom_instructions.specs.Fits.{InstrFits, limits}
 use Rattle.aom_instructions.specs.declared.instr.Instr.{Instr}
 use Rattle.aom_syntax.proofs.InstructionsLemmas.{making_parts_again}
-use Rattle.aom_instructions.specs.Parts.{make, operands_of}
-use Rattle.aom_instructions.specs.Rows.{row}
+use Rattle.aom_instructions.specs.Table.{make, operands_of, row}
 use Rattle.aom_instructions.specs.declared.kinds.LargeKind.{LargeKind}
 use Rattle.aom_instructions.specs.declared.kinds.LargeKind.TheVariants as lk
 use Rattle.aom_instructions.specs.declared.kinds.OperandOrder.{OperandOrder}

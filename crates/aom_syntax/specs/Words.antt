@@ -1,7 +1,6 @@
 -- What stands behind a mnemonic: operands of the kinds that its row asks, in the order of a text.
 use Rattle.std.specs.Prelude.{ℕ, List}
-use Rattle.aom_instructions.specs.Parts.{make, operands_of}
-use Rattle.aom_instructions.specs.Rows.{row}
+use Rattle.aom_instructions.specs.Table.{make, operands_of, row}
 use Rattle.aom_instructions.specs.declared.instr.Instr.{Instr}
 use Rattle.aom_instructions.specs.declared.kinds.Kinds.{Kinds}
 use Rattle.aom_instructions.specs.declared.kinds.LargeKind.{LargeKind}

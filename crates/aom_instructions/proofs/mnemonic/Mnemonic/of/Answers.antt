@@ -1,7 +1,7 @@
 use Rattle.std.proofs.Common.{◌∙◌, ap}
 use Rattle.std.specs.Str.{bytes_eq}
 use Rattle.aom_instructions.specs.Mnemonics.{mnemonic_text}
-use Rattle.aom_instructions.specs.Rows.{mnemonics}
+use Rattle.aom_instructions.specs.Table.{mnemonics}
 use Rattle.aom_instructions.proofs.Finding.{found, none_left, passed}
 use Rattle.aom_instructions.proofs.mnemonic.Mnemonic.of.Goals as goal
 

@@ -2,7 +2,7 @@ use Rattle.std.proofs.Common.{◌≡◌, drop}
 use Rattle.std.specs.List.{find}
 use Rattle.std.specs.Str.{bytes_eq}
 use Rattle.aom_instructions.specs.Mnemonics.{mnemonic_text}
-use Rattle.aom_instructions.specs.Rows.{mnemonics}
+use Rattle.aom_instructions.specs.Table.{mnemonics}
 use Rattle.aom_instructions.proofs.mnemonic.Mnemonic.of.Given as goal
 
 abbrev pub invariant-loop-mnemonic : goal.invariant-loop-mnemonic

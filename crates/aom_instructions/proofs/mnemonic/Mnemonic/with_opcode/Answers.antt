@@ -1,7 +1,7 @@
 -- The mnemonic at the place of an opcode is the one that a search finds.
 use Rattle.std.proofs.Common.{◌≡◌, ◌∙◌, ◌+◌, ap, arith}
 use Rattle.aom_instructions.specs.Mnemonics.{with_opcode}
-use Rattle.aom_instructions.specs.Rows.{mnemonics}
+use Rattle.aom_instructions.specs.Table.{mnemonics}
 use Rattle.aom_instructions.proofs.Opcodes.{copied_at, opcode_at}
 use Rattle.aom_instructions.proofs.mnemonic.Mnemonic.with_opcode.Goals as goal
 
