@@ -1,5 +1,5 @@
 -- Where all else of an image is in range, its size in bytes decides.
-use Rattle.std.proofs.Common.{◌≡◌, ℕ, ◌≤◌, length, arith, ◌↔◌, IsTrue, leb}
+use Rattle.std.proofs.Common.{◌≡◌, ℕ, length, arith, ◌↔◌, IsTrue, leb}
 use Rattle.std.proofs.lemmas.Bool.{leb-true, le-leb}
 use Rattle.aom_image.specs.Image.{Image}
 use Rattle.aom_image.specs.WellFormed.{HeaderFits, ClassesFit, MethodsFit, FamiliesFit, WellFormed, spelled_size}

@@ -1,4 +1,5 @@
 mod Given
 mod Lengths
 mod Sets
+mod Standing
 pub mod ImageLemmas

@@ -2,7 +2,10 @@
 use Rattle.std.specs.Prelude.{ℕ, Bool, false, ◌==◌, List, [], Option, Some, None, slice_get, bit_and}
 use Rattle.aom_image.specs.Image.{Image}
 use Rattle.aom_image.specs.declared.class.ClassDecl.{ClassDecl}
+use Rattle.aom_instructions.specs.Table.{action_of, transfer_of}
+use Rattle.aom_instructions.specs.declared.action.Action.{Action}
 use Rattle.aom_instructions.specs.declared.instr.Instr.{Instr}
+use Rattle.aom_instructions.specs.declared.transfer.Transfer.{Transfer}
 use Rattle.aom_image.specs.declared.method.Argument.{Argument}
 use Rattle.aom_image.specs.declared.method.Gives.{Gives}
 use Rattle.aom_image.specs.declared.method.Gives.TheVariants.{Nothing}
@@ -27,6 +30,22 @@ instr_in (Some m) place = slice_get m.code place
 -- the instruction at a place of a method
 abbrev pub instr_at : Image → ℕ → ℕ → Option Instr
 instr_at p m place = instr_in (method_at p m) place
+
+-- where it goes on
+abbrev pub transfer_in : Option Instr → Option Transfer
+transfer_in None = None
+transfer_in (Some i) = Some (transfer_of i)
+
+abbrev pub transfer_at : Image → ℕ → ℕ → Option Transfer
+transfer_at p m place = transfer_in (instr_at p m place)
+
+-- and what it does with methods and objects
+abbrev pub action_in : Option Instr → Option Action
+action_in None = None
+action_in (Some i) = Some (action_of i)
+
+abbrev pub action_at : Image → ℕ → ℕ → Option Action
+action_at p m place = action_in (instr_at p m place)
 
 unfoldable pub fields_in : Option ClassDecl → List Thing
 fields_in None = []

@@ -1,4 +1,5 @@
 mod Again
 mod Finding
 mod Opcodes
+mod Sorts
 pub mod InstructionsLemmas
