@@ -24,6 +24,7 @@ mod Budgeting
 pub mod BudgetLemmas
 pub use Rattle.aom_classes.proofs.ClassesLemmas
 pub use Rattle.aom_image.proofs.ImageLemmas
+pub use Rattle.aom_instructions.proofs.InstructionsLemmas
 pub use Rattle.aom_linked.proofs.LinkedLemmas
 pub use Rattle.aom_roles.proofs.RolesLemmas
 pub use Rattle.aom_rules.proofs.RulesLemmas

@@ -22,12 +22,13 @@ use Rattle.aom_typings.specs.Prices.{Prices, own}
 use Rattle.aom_typings.specs.Costs.{AmongFlows, GoesOut, Region, Whole, Round}
 use Rattle.aom_typings.specs.Sweeping.{Afters, IsAfter, IsInnermost, after, most_within}
 use Rattle.aom_budget.proofs.TypingsLemmas.{BeginsLoop, LoopIn, NextIn, not_both_in, same_back, same_rounds, goes_forward, innermost_of_body, jumps_forward}
-use Rattle.aom_budget.proofs.TypingsLemmas.{no_loop_here, no_next_here, one_innermost}
+use Rattle.aom_budget.proofs.TypingsLemmas.{goes_so, no_loop_here, no_next_here, one_innermost}
 use Rattle.aom_budget.specs.Extents.{IsMost, Before}
 use Rattle.aom_budget.specs.Pricing.{AreKept, kept, targets_of, most_to, after_in, ExitsAt, Found, Agrees, IsPassed, plain_cost}
 use Rattle.aom_budget.proofs.Mentioned.{called_lower}
 use Rattle.aom_budget.proofs.Passing.{targets, targets_same, among_flows, flows_among, most_same, own_same, Extends, round_found, passed_more}
-use Rattle.aom_budget.proofs.Rounds.{no_body_ends, one_begin, next_around, next_here}
+use Rattle.aom_budget.proofs.InstructionsLemmas.{loop_is}
+use Rattle.aom_budget.proofs.Rounds.{loop_ends_none, no_body_ends, one_begin, next_around, next_here}
 
 module _ (p : Image) (prices : List ℕ) (m : ℕ) (s : Shapes) (looped : IsLooped p) (linked : IsLinked p) (strongest : IsMethodStrongest p m s) where
   -- ---- what is known of a reached place
@@ -85,8 +86,8 @@ module _ (p : Image) (prices : List ℕ) (m : ℕ) (s : Shapes) (looped : IsLoop
           IsPassed p prices m s x new
       plain_more low value = passed_more p prices m s looped x old new extends h (λ t c a agrees. record {
         plain = grind (arith, nat_tests, same_Some i, one_innermost p looped m x r, stands_there t x, plain_value c a t);
-        loops = λ d n sh there. absurd (no_loop_here i d n no_loop (same_Some i _ (sym stands ∙ there.instr)));
-        nexts = λ d f sh there. absurd (no_next_here i d (suc f) no_next (same_Some i _ (sym stands ∙ there.instr)));
+        loops = λ d n sh there. absurd (no_loop_here i d n no_loop (goes_so _ i _ stands there.goes));
+        nexts = λ d f sh there. absurd (no_next_here i d (suc f) no_next (goes_so _ i _ stands there.goes));
         rounds = round_found p prices m s looped x old new extends h t c a agrees;
         afters = λ f d n u b w. absurd (no_body_ends p m x f x d n i stands no_next b refl);
       }) (λ f d n u b w. absurd (no_body_ends p m x f x d n i stands no_next b refl)) (λ sh u there w.
@@ -116,8 +117,8 @@ module _ (p : Image) (prices : List ℕ) (m : ℕ) (s : Shapes) (looped : IsLoop
       body_reached : (sh : Shape) → at None s x ≡ Some sh → (y : Shape) × (at None s (suc x) ≡ Some y)
       body_reached sh there =
           let applies = strongest.typed.each x sh there in
-          let one : BeginsLoop applies.instr d n = same_Some applies.instr _ (sym applies.stands ∙ stands) in
-          let ways = subst (λ i. AllMet s (flows p m x sh i)) one applies.flows in
+          let one : BeginsLoop applies.instr d n = goes_so _ applies.instr _ applies.stands stands in
+          let ways = subst (λ i. AllMet s (flows p m x sh i)) (loop_is applies.instr d n one) applies.flows in
           (ways.0.next, ways.0.there)
 
       loop_covers : (v q y around low : ℕ) → v ≡ kept (1 + q + y) → around ≤ low → low ≤ y → y ≤ 4294967296 → around ≤ v
@@ -127,15 +128,15 @@ module _ (p : Image) (prices : List ℕ) (m : ℕ) (s : Shapes) (looped : IsLoop
           IsPassed p prices m s x new
       unfolding next_in loop_in
       loop_more small value = passed_more p prices m s looped x old new extends h (λ t c a agrees. record {
-        plain = λ sh j u there j_no_loop j_no_next u_inner. absurd (no_loop_here j d n j_no_loop (same_Some j _ (sym there.instr ∙ stands)));
+        plain = λ sh j u there j_no_loop j_no_next u_inner. absurd (no_loop_here j d n j_no_loop (goes_so _ j _ there.instr stands));
         loops = λ e l sh there.
-            let rounds : l ≡ n = same_rounds (instr_at p m x) e l d n there.instr stands in
+            let rounds : l ≡ n = same_rounds (instr_at p m x) e l d n there.goes stands in
             let here = stands_there t x sh agrees.states there.shape in
             rw rounds (loop_value t c a agrees (value sh here));
-        nexts = λ e f sh there. absurd (not_both_in (instr_at p m x) d n e (suc f) stands there.instr);
+        nexts = λ e f sh there. absurd (not_both_in (instr_at p m x) d n e (suc f) stands there.goes);
         rounds = round_found p prices m s looped x old new extends h t c a agrees;
-        afters = λ f e l u b w. absurd (no_body_ends p m x f x e l _ stands refl b refl);
-      }) (λ f e l u b w. absurd (no_body_ends p m x f x e l _ stands refl b refl)) (λ sh u there w.
+        afters = λ f e l u b w. absurd (loop_ends_none p m x f x e l d n stands b refl);
+      }) (λ f e l u b w. absurd (loop_ends_none p m x f x e l d n stands b refl)) (λ sh u there w.
           let begins = looped.begins m x d n stands in
           let body = begins.2 in
           let around = h.around x begins.1 d n u body.later body w in
@@ -222,10 +223,10 @@ module _ (p : Image) (prices : List ℕ) (m : ℕ) (s : Shapes) (looped : IsLoop
         pub next_more : ((sh : Shape) → at None s x ≡ Some sh → at 0 new.from x ≡ kept (1 + follows)) → follows ≤ 4294967296 → IsPassed p prices m s x new
         unfolding next_in loop_in
         next_more value low = passed_more p prices m s looped x old new extends h (λ t c a agrees. record {
-          plain = grind (arith, nat_tests, no_next_here, same_Some);
-          loops = λ e l sh there. absurd (not_both_in (instr_at p m x) e l d (suc f) there.instr body.ends);
+          plain = λ sh i v there none no_next w. absurd (no_next_here i d (suc f) no_next (goes_so _ i _ there.instr body.ends));
+          loops = λ e l sh there. absurd (not_both_in (instr_at p m x) e l d (suc f) there.goes body.ends);
           nexts = λ e g sh there.
-              let back = one_next e g there.instr in
+              let back = one_next e g there.goes in
               let here = stands_there t x sh agrees.states there.shape in
               rw (back, closed t c a agrees) (agrees.froms x (omega arith) ∙ value sh here);
           rounds = round_found p prices m s looped x old new extends h t c a agrees;

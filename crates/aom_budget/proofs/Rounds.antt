@@ -1,9 +1,8 @@
 -- The innermost loops round two places that follow each other, and the list of the loops that a pass is in.
-use Rattle.std.proofs.lemmas.Option.{same_Some}
-use Rattle.std.proofs.Common.{◌≡◌, ℕ, suc, ◌<◌, List, length, Option, Some, None, slice_set, inl, inr, refl, sym, ap, ◌∙◌, subst, arith}
+use Rattle.std.proofs.Common.{◌≡◌, ℕ, suc, ◌<◌, List, length, Option, Some, None, slice_set, inl, inr, sym, ap, ◌∙◌, subst, arith}
 use Rattle.std.proofs.lemmas.Bool.Decides.{eqb_tells, leb_tells}
 use Rattle.aom_image.specs.Image.{Image}
-use Rattle.aom_image.specs.Views.{instr_at}
+use Rattle.aom_image.specs.Views.{instr_at, transfer_at}
 use Rattle.aom_instructions.specs.declared.instr.Instr.{Instr}
 use Rattle.aom_classes.specs.Bodies.{Body, IsIn, IsLooped}
 use Rattle.aom_classes.specs.Loops.{loop_in, next_in}
@@ -11,7 +10,7 @@ use Rattle.aom_roles.specs.Tables.{at}
 use Rattle.aom_budget.proofs.ShapeLemmas.{at_set_here, at_set_other}
 use Rattle.aom_typings.specs.Costs.{Region, Whole, Round}
 use Rattle.aom_typings.specs.Sweeping.{IsInnermost}
-use Rattle.aom_budget.proofs.TypingsLemmas.{LoopIn, not_both_in, same_back, ends_before, nested, no_loop_here, no_next_here, one_end}
+use Rattle.aom_budget.proofs.TypingsLemmas.{LoopIn, not_both_in, same_back, ends_before, goes_so, nested, no_loop_here, no_next_here, one_end}
 use Rattle.aom_budget.specs.Pricing.{IsWithin, region_of}
 use Rattle.aom_budget.specs.declared.pass.Round as rounds
 
@@ -30,11 +29,15 @@ module _ (p : Image) (m : ℕ) where
 
   pub no_body_begins : (x f e d n : ℕ) (i : Instr) → instr_at p m x ≡ Some i → loop_in (Some i) ≡ None → Body p m f e d n → f ≡ x → ⊥
   no_body_begins x f e d n i stands none b same =
-      no_loop_here i d n none (same_Some i _ (sym stands ∙ (ap (λ y. instr_at p m y) (sym same) ∙ b.begins)))
+      no_loop_here i d n none (goes_so _ i _ stands (ap (λ y. transfer_at p m y) (sym same) ∙ b.begins))
 
   pub no_body_ends : (x f e d n : ℕ) (i : Instr) → instr_at p m x ≡ Some i → next_in (Some i) ≡ None → Body p m f e d n → e ≡ x → ⊥
   no_body_ends x f e d n i stands none b same =
-      no_next_here i d (suc f) none (same_Some i _ (sym stands ∙ (ap (λ y. instr_at p m y) (sym same) ∙ b.ends)))
+      no_next_here i d (suc f) none (goes_so _ i _ stands (ap (λ y. transfer_at p m y) (sym same) ∙ b.ends))
+
+  -- nor does a loop end one
+  pub loop_ends_none : (x f e d n k l : ℕ) → LoopIn (instr_at p m x) k l → Body p m f e d n → e ≡ x → ⊥
+  loop_ends_none x f e d n k l stands b same = not_both_in (instr_at p m x) k l d (suc f) stands (ap (λ y. transfer_at p m y) (sym same) ∙ b.ends)
 
   -- a next closes one loop
   pub one_begin : (f g x d n k l : ℕ) → Body p m f x d n → Body p m g x k l → f ≡ g
@@ -60,7 +63,7 @@ module _ (p : Image) (m : ℕ) where
         there : (g k c l : ℕ) → Body p m g k c l → IsIn g k (suc x) → IsIn g k f
         there g k c l b inside = elim (leb_tells f g) [
           | inl w ↦ elim (eqb_tells g x) [
-            | inl v ↦ absurd (not_both_in (instr_at p m x) c l d (suc f) (ap (λ y. instr_at p m y) (sym v.1) ∙ b.begins) body.ends)
+            | inl v ↦ absurd (not_both_in (instr_at p m x) c l d (suc f) (ap (λ y. transfer_at p m y) (sym v.1) ∙ b.begins) body.ends)
             | inr v ↦
                 let ends = nested p looped m f x d n g k c l body b w.1 (omega (arith, inside.0, v.1)) in
                 absurd (omega (arith, ends, inside.1))
@@ -112,7 +115,7 @@ module _ (p : Image) (m : ℕ) where
         record {
           here = h.loops x begins.1 d n (omega arith) (begins.2).later begins.2;
           loops = λ f e c l before after b. elim (eqb_tells e x) [
-            | inl w ↦ absurd (no_body_ends x f e c l _ stands refl b w.1)
+            | inl w ↦ absurd (loop_ends_none x f e c l d n stands b w.1)
             | inr w ↦ h.loops f e c l (omega (arith, before)) (omega (arith, after, w.1)) b
           ];
         }

@@ -10,7 +10,7 @@ use Rattle.aom_image.specs.WellFormed.{WellFormed}
 use Rattle.aom_budget.proofs.ClassesLemmas.{linked_is_looped}
 use Rattle.aom_classes.specs.Bodies.{Body, IsLooped}
 use Rattle.aom_classes.specs.Linked.{IsLinked}
-use Rattle.aom_classes.specs.Loops.{loop_in, next_in}
+use Rattle.aom_classes.specs.Loops.{loop_in, next_in, repeated_by}
 use Rattle.aom_shape.specs.Shape.{Shape}
 use Rattle.aom_roles.specs.Tables.{at}
 use Rattle.aom_budget.proofs.ShapeLemmas.{at_set_here, at_set_other}
@@ -19,7 +19,7 @@ use Rattle.aom_typings.specs.Strongest.{IsMethodStrongest}
 use Rattle.aom_verify.specs.Sweep.{HasPlaces}
 use Rattle.aom_budget.proofs.VerifyLemmas.{has_instr}
 use Rattle.aom_typings.specs.Costs.{Region, Whole, Round}
-use Rattle.aom_budget.proofs.TypingsLemmas.{BeginsLoop, EndsRound, LoopIn, by_kind, next_is_no_loop, one_end}
+use Rattle.aom_budget.proofs.TypingsLemmas.{BeginsLoop, EndsRound, LoopIn, by_kind, next_is_no_loop, one_end, stands_so}
 use Rattle.aom_budget.specs.Pricing.{AreKept, kept, after_in, Follows, IsPassing, region_of, found_by, plain_cost}
 use Rattle.aom_budget.specs.declared.pass.Round as rounds
 use Rattle.aom_budget.proofs.Passing.{Extends}
@@ -35,14 +35,14 @@ instr_there p m n place h within =
 pub next_closes : (p q : Image) → q ≡ p → WellFormed q → IsLinked p → (m place d to : ℕ) (i : Instr) → instr_at p m place ≡ Some i → EndsRound i d to →
     (from : ℕ) × (n : ℕ) × Body p m from place d n × (to ≡ suc from)
 next_closes p q same formed linked m place d to i stands is =
-    (linked_is_looped p (subst WellFormed same formed) linked).closes m place d to (stands ∙ ap (λ j. Some j) is)
+    (linked_is_looped p (subst WellFormed same formed) linked).closes m place d to (stands_so _ i _ stands is)
 
 pub no_loop : (i : Instr) → ((d n : ℕ) → BeginsLoop i d n → ⊥) → loop_in (Some i) ≡ None
 no_loop i h = by_kind (loop_in (Some i) ≡ None) i (λ loop next. loop) (λ d n e. absurd (h d n e)) (next_is_no_loop i)
 
 pub no_next : (i : Instr) → ((d to : ℕ) → EndsRound i d to → ⊥) → next_in (Some i) ≡ None
 unfolding next_in
-no_next i h = by_kind (next_in (Some i) ≡ None) i (λ loop next. next) (λ d n e. ap (λ j. next_in (Some j)) e) (λ d to e. absurd (h d to e))
+no_next i h = by_kind (next_in (Some i) ≡ None) i (λ loop next. next) (λ d n e. ap (λ t. repeated_by (Some t)) e) (λ d to e. absurd (h d to e))
 
 low_in : (after : List ℕ) (r : Region) → AreKept after → after_in after r ≤ 4294967296
 low_in after Whole low = omega arith

@@ -4,6 +4,7 @@ ghost use Rattle.aom_typings.specs.Charges.{charge_of};
 ghost use Rattle.aom_budget.specs.Charging.{charge_said};
 
 use aom_image::{Instr, MethodNumber, Register};
+use aom_instructions::Action;
 
 /// What an instruction sets going, now or as it leaves the cleanup stack.
 #[derive(Clone, Copy)]
@@ -23,11 +24,11 @@ impl Charge {
     pub(crate) fn of(instr: &Instr) -> Charge
         ensures { charge_said result ≡ charge_of instr.now }
     {
-        match *instr {
-            Instr::Call(_, called, _, _) | Instr::Trap(_, called, _, _) => Charge::Call(called),
-            Instr::PushOperation(_, pushed) => Charge::Operation(pushed),
-            Instr::Push(register) | Instr::Delete(register) => Charge::Destruction(register),
-            Instr::Cancel => Charge::Cancel,
+        match &instr.action() {
+            Action::Call(_, _, called, _, _) => Charge::Call(*called),
+            Action::PushOperation(_, pushed) => Charge::Operation(*pushed),
+            Action::Push(register) | Action::Destroy(register) => Charge::Destruction(*register),
+            Action::Cancel => Charge::Cancel,
             _ => Charge::Nothing,
         }
     }

@@ -15,6 +15,7 @@ use crate::costs::Costs;
 use crate::sums::{Sums, kept};
 use crate::targets::Targets;
 use aom_image::{Instr, MethodNumber};
+use aom_instructions::Transfer;
 use aom_linked::Linked;
 use aom_verify::{Checked, Sheet};
 use std::alloc::{AllocError, Global};
@@ -253,8 +254,8 @@ impl Pass {
         self.from.low();
         self.after.low();
         let instr = linked.instr(method, place);
-        match instr {
-            Instr::Next(_, to) => {
+        match &instr.transfer() {
+            Transfer::Repeat(_, to) => {
                 let round = Round {
                     first: to.number() as usize - 1,
                     last: place,
@@ -263,9 +264,9 @@ impl Pass {
                 self.close(round, follows);
                 self.note(sheet, place, kept(1 + follows));
             }
-            Instr::Loop(_, rounds) => {
+            Transfer::Begin(_, rounds) => {
                 self.innermost = self.around[place];
-                let cost = self.all_rounds(place, rounds);
+                let cost = self.all_rounds(place, *rounds);
                 self.note(sheet, place, cost);
             }
             _ => {

@@ -5,6 +5,7 @@ ghost use Rattle.aom_typings.specs.Calls.{listed};
 ghost use Rattle.aom_budget.specs.Pricing.{null_targets, empty_targets, states_targets, targets_of};
 
 use aom_image::{Instr, InstrPlace, States};
+use aom_instructions::{Condition, Transfer};
 use aom_rules::{enlisted, inactive, outstanding};
 use aom_shape::{Filling, Kind};
 use aom_verify::ShapeView;
@@ -94,38 +95,32 @@ impl Targets {
         ensures { (p : ImageRecord) → listed result.first ++ listed result.second ≡ targets_of p place shape.now instr.now }
     {
         let next = place + 1;
-        match *instr {
-            Instr::Jump(to) => Targets::one(index_of(to)),
-            Instr::JumpEqual(_, _, to) | Instr::JumpLess(_, _, to) => {
-                Targets::two(next, index_of(to))
+        match &instr.transfer() {
+            Transfer::Jump(to) => Targets::one(index_of(*to)),
+            Transfer::Branch(Condition::OnWords, to) => Targets::two(next, index_of(*to)),
+            Transfer::Branch(Condition::IsNull(register), to) => {
+                Targets::of_null(next, shape.register(*register), index_of(*to))
             }
-            Instr::JumpNull(register, to) => {
-                Targets::of_null(next, shape.register(register), index_of(to))
+            Transfer::Branch(Condition::IsEmpty(field), to) => {
+                Targets::of_empty(next, shape.field(*field), index_of(*to))
             }
-            Instr::JumpEmpty(field, to) => {
-                Targets::of_empty(next, shape.field(field), index_of(to))
-            }
-            Instr::JumpActive(to) => {
-                Targets::of_states(
-                    next,
-                    shape.states(),
-                    inactive(),
-                    index_of(to),
-                    outstanding(),
-                )
-            }
-            Instr::JumpAdded(to) => {
-                Targets::of_states(
-                    next,
-                    shape.states(),
-                    States::UNLISTED,
-                    index_of(to),
-                    enlisted(),
-                )
-            }
-            Instr::Next(_, to) => Targets::two(index_of(to), next),
-            Instr::Return(_) | Instr::Leave(_) => Targets::none(),
-            _ => Targets::one(next),
+            Transfer::Branch(Condition::IsActive, to) => Targets::of_states(
+                next,
+                shape.states(),
+                inactive(),
+                index_of(*to),
+                outstanding(),
+            ),
+            Transfer::Branch(Condition::IsAdded, to) => Targets::of_states(
+                next,
+                shape.states(),
+                States::UNLISTED,
+                index_of(*to),
+                enlisted(),
+            ),
+            Transfer::Repeat(_, to) => Targets::two(index_of(*to), next),
+            Transfer::Return(_) | Transfer::Leave(_) => Targets::none(),
+            Transfer::Onward | Transfer::Begin(_, _) => Targets::one(next),
         }
     }
 }

@@ -1,5 +1,6 @@
 -- How paths stay in the body of the innermost loop, and how they leave it: from what linking promises of loops and jumps.
 use Rattle.std.proofs.lemmas.Bool.Decides.{nat_tests}
+use Rattle.std.proofs.lemmas.Option.{same_Some}
 use Rattle.std.proofs.Common.{◌≡◌, ◌<◌, ◌≤◌, ◌∙◌, ℕ, zero, suc, true, false, Option, Some, None, inl, inr, ⊎_elim, refl, sym, ap, arith, subst}
 use Rattle.std.specs.Prelude.{◌⊎◌}
 use Rattle.std.proofs.lemmas.Bool.{cases_lt, ltb-true, ltb-false}
@@ -41,6 +42,9 @@ NextIn o d to = transfer_in o ≡ Some (Repeat d to)
 
 pub stands_so : (o : Option Instr) (i : Instr) (t : Transfer) → o ≡ Some i → transfer_of i ≡ t → transfer_in o ≡ Some t
 stands_so o i t at is = ap transfer_in at ∙ ap (λ u. Some u) is
+
+pub goes_so : (o : Option Instr) (i : Instr) (t : Transfer) → o ≡ Some i → transfer_in o ≡ Some t → transfer_of i ≡ t
+goes_so o i t at is = same_Some (transfer_of i) t (sym (ap transfer_in at) ∙ is)
 
 -- the instruction of a transfer, and the other way round
 module _ (p : Image) (t : Typing) (m place : ℕ) (sh : Shape) where

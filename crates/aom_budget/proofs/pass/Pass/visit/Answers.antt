@@ -1,11 +1,10 @@
 -- A next, a loop or a plain instruction.
-use Rattle.std.proofs.Common.{◌≡◌, ◌≢◌, ◌<◌, ◌-◌, ℕ, List, length, Some, None, ap, ◌∙◌, subst, arith}
-use Rattle.aom_image.specs.Views.{instr_at}
-use Rattle.aom_instructions.specs.declared.instr.Instr.TheVariants.{Loop}
+use Rattle.std.proofs.Common.{◌≡◌, ◌≢◌, ◌<◌, ◌-◌, ℕ, List, length, None, ap, ◌∙◌, subst, sym, arith}
 use Rattle.aom_classes.specs.Bodies.{Body}
 use Rattle.aom_budget.proofs.ClassesLemmas.{linked_is_looped}
 use Rattle.aom_roles.specs.Tables.{at}
 use Rattle.aom_budget.proofs.ShapeLemmas.{at_within}
+use Rattle.aom_budget.proofs.TypingsLemmas.{stands_so}
 use Rattle.aom_budget.proofs.Visiting.{instr_there, next_closes, no_loop, no_next, visit_plain, visit_loop, visit_next}
 use Rattle.aom_budget.proofs.pass.Pass.visit.Goals as goal
 
@@ -14,25 +13,25 @@ instr-instr-requires c = instr_there _ _ _ _ c.requires.passing.places c.require
 
 pub overflow_sub-round : goal.overflow_sub-round
 overflow_sub-round c =
-    let closes = next_closes _ _ c.image.ensures c.methods-formed.ensures.well_formed c.facts.ensures.linked _ _ _ _ _ c.instr-instr.ensures c.in-Next.is in
+    let closes = next_closes _ _ c.image.ensures c.methods-formed.ensures.well_formed c.facts.ensures.linked _ _ _ _ _ c.instr-instr.ensures (sym c.transfer.ensures ∙ c.in-Repeat.is) in
     omega (arith, closes.3, c.number.ensures.value)
 
 pub follows-follows-requires-clause-order : goal.follows-follows-requires-clause-order
 follows-follows-requires-clause-order c =
-    let closes = next_closes _ _ c.image.ensures c.methods-formed.ensures.well_formed c.facts.ensures.linked _ _ _ _ _ c.instr-instr.ensures c.in-Next.is in
+    let closes = next_closes _ _ c.image.ensures c.methods-formed.ensures.well_formed c.facts.ensures.linked _ _ _ _ _ c.instr-instr.ensures (sym c.transfer.ensures ∙ c.in-Repeat.is) in
     omega (arith, closes.3, c.number.ensures.value, closes.2.later)
 
 pub close-requires-clause-room : goal.close-requires-clause-room
 close-requires-clause-room c =
-    let closes = next_closes _ _ c.image.ensures c.methods-formed.ensures.well_formed c.facts.ensures.linked _ _ _ _ _ c.instr-instr.ensures c.in-Next.is in
+    let closes = next_closes _ _ c.image.ensures c.methods-formed.ensures.well_formed c.facts.ensures.linked _ _ _ _ _ c.instr-instr.ensures (sym c.transfer.ensures ∙ c.in-Repeat.is) in
     omega (arith, closes.3, c.number.ensures.value, closes.2.later, c.requires.place, c.requires.passing.after_size)
 
-pub returns-in-Next-clause-passing : goal.returns-in-Next-clause-passing
-returns-in-Next-clause-passing c =
+pub returns-in-Repeat-clause-passing : goal.returns-in-Repeat-clause-passing
+returns-in-Repeat-clause-passing c =
     let looped = linked_is_looped c.args.linked.now (rw c.image.ensures at c.methods-formed.ensures.well_formed) c.facts.ensures.linked in
-    let closes = next_closes _ _ c.image.ensures c.methods-formed.ensures.well_formed c.facts.ensures.linked _ _ _ _ _ c.instr-instr.ensures c.in-Next.is in
+    let closes = next_closes _ _ c.image.ensures c.methods-formed.ensures.well_formed c.facts.ensures.linked _ _ _ _ _ c.instr-instr.ensures (sym c.transfer.ensures ∙ c.in-Repeat.is) in
     let first : closes.0 ≡ c.number.result - 1 = omega (arith, closes.3, c.number.ensures.value) in
-    let body = subst (λ f. Body c.args.linked.now c.args.method f c.args.place c.in-Next.field-0 closes.1) first closes.2 in
+    let body = subst (λ f. Body c.args.linked.now c.args.method f c.args.place c.in-Repeat.field-0 closes.1) first closes.2 in
     let within : c.number.result - 1 < length c.args.self.now.from = omega (arith, body.later, c.requires.place) in
     let others = λ (y : ℕ) (e : y ≢ c.args.place). c.note.ensures.others y e ∙ ap (λ l. at 0 l y) c.close.ensures.from in
     let size = c.note.ensures.size ∙ ap (λ (l : List ℕ). length l) c.close.ensures.from in
@@ -42,18 +41,17 @@ returns-in-Next-clause-passing c =
     c.low.ensures c.low-2.ensures _ _ others size _ _ _ _ body within c.follows-follows.ensures.is c.follows-follows.ensures.low set
     (λ sh there. c.note.ensures.here sh there ∙ c.kept.ensures))
 
-pub returns-in-Loop-clause-passing : goal.returns-in-Loop-clause-passing
-returns-in-Loop-clause-passing c =
+pub returns-in-Begin-clause-passing : goal.returns-in-Begin-clause-passing
+returns-in-Begin-clause-passing c =
     let looped = linked_is_looped c.args.linked.now (rw c.image.ensures at c.methods-formed.ensures.well_formed) c.facts.ensures.linked in
-    let stands : instr_at c.args.linked.now c.args.method c.args.place ≡ Some (Loop c.in-Loop.field-0 c.in-Loop.rounds) =
-    c.instr-instr.ensures ∙ ap (λ i. Some i) c.in-Loop.is in
+    let stands = stands_so _ _ _ c.instr-instr.ensures (sym c.transfer.ensures ∙ c.in-Begin.is) in
     let room : c.args.place < length c.args.self.now.around.items = omega (arith, c.requires.place, c.requires.passing.around_size) in
     let outer : c.index.result.now ≡ at None c.args.self.now.around.items c.args.place =
     c.index.ensures ∙ at_within None c.index.result.now c.args.self.now.around.items c.args.place room in
-    rw (c.note-in-Loop.ensures.innermost, outer, c.note-in-Loop.ensures.around)
+    rw (c.note-in-Begin.ensures.innermost, outer, c.note-in-Begin.ensures.around)
     (visit_loop _ _ _ _ looped c.facts.ensures.linked c.requires.strongest _ _ _ _ _ c.requires.passing
-    c.low.ensures c.low-2.ensures _ _ c.note-in-Loop.ensures.others c.note-in-Loop.ensures.size _ _ stands c.note-in-Loop.ensures.after
-    (λ sh there. c.note-in-Loop.ensures.here sh there ∙ c.all_rounds-cost.ensures.is))
+    c.low.ensures c.low-2.ensures _ _ c.note-in-Begin.ensures.others c.note-in-Begin.ensures.size _ _ stands c.note-in-Begin.ensures.after
+    (λ sh there. c.note-in-Begin.ensures.here sh there ∙ c.all_rounds-cost.ensures.is))
 
 pub returns-in_default : goal.returns-in_default
 returns-in_default c =
@@ -62,12 +60,13 @@ returns-in_default c =
       passing = rw (c.note-in_default.ensures.innermost, c.note-in_default.ensures.around)
           (visit_plain _ _ _ _ looped c.facts.ensures.linked c.requires.strongest _ _ _ _ _ c.requires.passing
           c.low.ensures c.low-2.ensures _ _ c.note-in_default.ensures.others c.note-in_default.ensures.size _ c.instr-instr.ensures
-          (no_loop _ c.in_default.not-Loop) (no_next _ c.in_default.not-Next) c.note-in_default.ensures.after
+          (no_loop _ (λ d n is. c.in_default.not-Begin d n (c.transfer.ensures ∙ is)))
+          (no_next _ (λ d to is. c.in_default.not-Repeat d to (c.transfer.ensures ∙ is))) c.note-in_default.ensures.after
           (λ sh there. c.note-in_default.ensures.here sh there ∙ c.plain-cost.ensures.is sh there));
       size = c.note-in_default.ensures.size;
     }
 
 pub close-requires-clause-around : goal.close-requires-clause-around
 close-requires-clause-around c =
-    let closes = next_closes _ _ c.image.ensures c.methods-formed.ensures.well_formed c.facts.ensures.linked _ _ _ _ _ c.instr-instr.ensures c.in-Next.is in
+    let closes = next_closes _ _ c.image.ensures c.methods-formed.ensures.well_formed c.facts.ensures.linked _ _ _ _ _ c.instr-instr.ensures (sym c.transfer.ensures ∙ c.in-Repeat.is) in
     omega (arith, closes.3, c.number.ensures.value, closes.2.later, c.requires.place, c.requires.passing.around_size)
