@@ -1,19 +1,25 @@
 -- How an instruction leads from its method to another, and the lines of that.
 use Rattle.std.specs.Prelude.{ℕ, List, [], ◌++◌, Option, Some, None, codes, flat_map}
 use Rattle.std.specs.Fmt.{decimal}
+use Rattle.aom_instructions.specs.Table.{action_of}
+use Rattle.aom_instructions.specs.declared.action.Action.{Action}
+use Rattle.aom_instructions.specs.declared.action.Action.TheVariants as actions
+use Rattle.aom_instructions.specs.declared.action.Manner.TheVariants.{Plain, Trapped}
 use Rattle.aom_instructions.specs.declared.instr.Instr.{Instr}
-use Rattle.aom_instructions.specs.declared.instr.Instr.TheVariants.{Call, Trap, PushOperation}
 use Rattle.aom_figures.specs.Each.{line_end}
 use Rattle.aom_figures.specs.declared.edge.Edge.{Edge}
 use Rattle.aom_figures.specs.declared.edge.EdgeKind.{EdgeKind}
 use Rattle.aom_figures.specs.declared.edge.EdgeKind.TheVariants as kinds
 
--- what an instruction calls, calls under a trap or pushes as an operation
+-- what is called, called under a trap or pushed as an operation
+abbrev pub edge_by : Action → Option Edge
+edge_by (actions.Call Plain target k first x) = Some (record { kind = kinds.Call; to = k })
+edge_by (actions.Call Trapped target k first x) = Some (record { kind = kinds.Trap; to = k })
+edge_by (actions.PushOperation a k) = Some (record { kind = kinds.Operation; to = k })
+edge_by _ = None
+
 abbrev pub edge_of : Instr → Option Edge
-edge_of (Call target k first x) = Some (record { kind = kinds.Call; to = k })
-edge_of (Trap target k first x) = Some (record { kind = kinds.Trap; to = k })
-edge_of (PushOperation a k) = Some (record { kind = kinds.Operation; to = k })
-edge_of _ = None
+edge_of i = edge_by (action_of i)
 
 -- edges of one key between the same two methods are one edge to Graphviz
 abbrev pub kind_text : EdgeKind → List ℕ

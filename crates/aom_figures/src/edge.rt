@@ -4,6 +4,7 @@ ghost use Rattle.aom_figures.specs.Edges.{arrow, edge_of, edge_line, edge_text, 
 
 use crate::FigureWriter;
 use aom_image::{Instr, MethodNumber};
+use aom_instructions::{Action, Manner};
 use std::alloc::AllocError;
 
 #[derive(Clone, Copy)]
@@ -26,18 +27,18 @@ impl Edge {
     pub(crate) fn of(instr: Instr) -> Option<Edge>
         ensures { result ≡ edge_of instr }
     {
-        match instr {
-            Instr::Call(_, to, _, _) => Some(Edge {
+        match &instr.action() {
+            Action::Call(Manner::Plain, _, to, _, _) => Some(Edge {
                 kind: EdgeKind::Call,
-                to,
+                to: *to,
             }),
-            Instr::Trap(_, to, _, _) => Some(Edge {
+            Action::Call(Manner::Trapped, _, to, _, _) => Some(Edge {
                 kind: EdgeKind::Trap,
-                to,
+                to: *to,
             }),
-            Instr::PushOperation(_, to) => Some(Edge {
+            Action::PushOperation(_, to) => Some(Edge {
                 kind: EdgeKind::Operation,
-                to,
+                to: *to,
             }),
             _ => None,
         }

@@ -54,12 +54,12 @@ large_same l lk.Method (large.Method n) fits = refl
 large_same l _ _ fits = absurd fits
 
 mnemonic_again : (m : Mnemonic) (o : Operands) → mnemonic (make m o) ≡ m
-mnemonic_again m.Delete o = refl
+mnemonic_again m.Sub o = refl
 mnemonic_again _ o = refl
 
 operands_again : (m : Mnemonic) (o : Operands) → operands (make m o)
     ≡ operands_of (small_again (row m).kinds.a o.a) (small_again (row m).kinds.b o.b) (small_again (row m).kinds.c o.c) (large_again (row m).kinds.d o.d)
-operands_again m.Delete o = refl
+operands_again m.Sub o = refl
 operands_again _ o = refl
 
 same : {a a1 b b1 c c1 : Small} {d d1 : Large} → a ≡ a1 → b ≡ b1 → c ≡ c1 → d ≡ d1 → operands_of a b c d ≡ operands_of a1 b1 c1 d1
@@ -73,9 +73,9 @@ making_parts_again l m o fits = (
 )
 
 pub parts_make_again : PartsMakeAgain
-parts_make_again (instr.Delete a) = refl
+parts_make_again (instr.Sub a b c) = refl
 parts_make_again _ = refl
 
 pub rows_are_one : RowsAreOne
-rows_are_one m.Delete = (refl, refl)
+rows_are_one m.Sub = (refl, refl)
 rows_are_one _ = (refl, refl)
