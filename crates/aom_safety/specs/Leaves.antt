@@ -1,9 +1,11 @@
 -- Leaves: the code that a method leaves with is the one that arrives, what was pushed last is dealt with first, and what lies below the mark stays as it is.
 use Rattle.std.specs.Prelude.{Bool, false, ℕ, suc, ℤ, negsuc, pos, true, ◌≡◌, ◌≢◌, ◌⊎◌, int_lt, List, [], ◌∷◌, ◌++◌, Option, Some, None, length}
 use Rattle.aom_image.specs.Image.{Image}
-use Rattle.aom_image.specs.Views.{instr_at, is_quiet, gives_of}
+use Rattle.aom_image.specs.Views.{action_at, instr_at, is_quiet, gives_of}
+use Rattle.aom_instructions.specs.declared.action.Action.TheVariants.{Call}
+use Rattle.aom_instructions.specs.declared.action.Manner.TheVariants.{Trapped as Under_trap}
 use Rattle.aom_instructions.specs.declared.instr.Instr.{Instr}
-use Rattle.aom_instructions.specs.declared.instr.Instr.TheVariants.{NewOrLeave, Push, PushOperation, Leave, LeaveIf, Trap}
+use Rattle.aom_instructions.specs.declared.instr.Instr.TheVariants.{NewOrLeave, Push, PushOperation, Leave, LeaveIf}
 use Rattle.aom_instructions.specs.declared.instr.Target.{Target}
 use Rattle.aom_image.specs.declared.method.Gives.{Gives}
 use Rattle.aom_image.specs.declared.method.Gives.TheVariants.{Nothing, Word as A_word, Own as An_own, Maybe as A_maybe, Left}
@@ -134,7 +136,7 @@ abbrev pub ArrivesAt : Image → ℤ → List Task → State → Type 0
 ArrivesAt p code (Trapped ∷ Run before ∷ ts) u =
     (after : Frame)
     × (u.tasks ≡ Run after ∷ ts)
-    × ((target : Target) (m first c : ℕ) → instr_at p before.method before.place ≡ Some (Trap target m first c) → Hears code (gives_of p m) c u.cells (length ts) before after)
+    × ((target : Target) (m first c : ℕ) → action_at p before.method before.place ≡ Some (Call Under_trap target m first c) → Hears code (gives_of p m) c u.cells (length ts) before after)
 ArrivesAt p code (Trapped ∷ Dispatched Of_main ∷ ts) u = u.tasks ≡ Dispatched (Main_left code) ∷ ts
 ArrivesAt p code (Trapped ∷ Dispatched (Of_object x) ∷ ts) u = u.tasks ≡ Dispatched (Object_left x code) ∷ ts
 ArrivesAt p code (Trapped ∷ Dispatched (Of_server x client Accepts) ∷ ts) u = u.tasks ≡ Dispatched (Of_server x client (Accept_left code)) ∷ ts
