@@ -46,13 +46,13 @@ module _ (fr : Frame) (s : State) where
 
 module _ (p : Image) (fr : Frame) (ts : List Task) (s : State) where
   -- an update completes a message, which is there
-  abbrev pub Completes : Update → Type 0
-  Completes (Replied a code) = is_thing p Message (held s.cells (here fr ts s a)) ≡ true
-  Completes _ = ⊥
+  abbrev pub IsCompleting : Update → Type 0
+  IsCompleting (Replied a code) = is_thing p Message (held s.cells (here fr ts s a)) ≡ true
+  IsCompleting _ = ⊥
 
   -- an answer is given: a message is completed, or a method returns
   abbrev pub IsAnswer : Effect → Type 0
-  IsAnswer (Goes_on ch) = Completes ch.update
+  IsAnswer (Goes_on ch) = IsCompleting ch.update
   IsAnswer (Returns g a) = Unit {0}
   IsAnswer _ = ⊥
 

@@ -9,7 +9,7 @@ use Rattle.aom_image.specs.declared.method.Thing.TheVariants.{Message}
 use Rattle.aom_classes.specs.Roles.{main_of}
 use Rattle.aom_clients.specs.declared.client.Client.{Client}
 use Rattle.aom_rules.specs.Typing.{Typing}
-use Rattle.aom_safety.proofs.ClientsEffects.{Completes, IsAnswer, effect_kept, fine_effect}
+use Rattle.aom_safety.proofs.ClientsEffects.{IsAnswer, IsCompleting, effect_kept, fine_effect}
 use Rattle.aom_safety.proofs.ClientsFacts.{IsAt, goes_apart, queued_well, server_lives, serving_plain, waiting_well}
 use Rattle.aom_safety.proofs.ClientsFit.{IsFit, fit_parted}
 use Rattle.aom_safety.proofs.ClientsGone.{fit_gone, stage_gone}
@@ -218,7 +218,7 @@ module _ (p : Image) (t : Typing) (wired : IsWired p) (c : Choice) (s : State) (
         )) tasks (tasks_steady p s.clients s.cells (ended_cells p fr s.cells) still ts stage_below)
         (tasks_steady p s.clients s.cells (ended_cells p fr s.cells) still ts stage_below)
 
-    completed_kept : (ch : Change) (u : Update) → Completes p fr ts (counted p s) u → IsFit p (applied p fr ts (counted p s) (Goes_on (record ch { update = u })))
+    completed_kept : (ch : Change) (u : Update) → IsCompleting p fr ts (counted p s) u → IsFit p (applied p fr ts (counted p s) (Goes_on (record ch { update = u })))
     completed_kept ch (Replied a code) met = reply_kept ch a code met
     completed_kept ch _ met = absurd met
 

@@ -13,7 +13,7 @@ use Rattle.aom_instructions.specs.declared.instr.Instr.{Instr}
 use Rattle.aom_transcript.specs.declared.event.ClientCommand.{ClientCommand}
 use Rattle.aom_roles.specs.Tests.{AllTrue}
 use Rattle.aom_safety.proofs.Apart.{handed_apart, redeemed_by_apart}
-use Rattle.aom_safety.proofs.ClientsEffects.{Completes, Fine, IsAnswer, fewer_on, fine_effect}
+use Rattle.aom_safety.proofs.ClientsEffects.{Fine, IsAnswer, IsCompleting, fewer_on, fine_effect}
 use Rattle.aom_safety.proofs.ClientsMoves.{IsSteady}
 use Rattle.aom_safety.proofs.Guarded.{acts_at}
 use Rattle.aom_safety.proofs.Moving.{steps_are_moves}
@@ -100,7 +100,7 @@ module _ (p : Image) (fr : Frame) (ts : List Task) (s : State) (tidy : Tidy s.ce
   apart_applied (Destroys_last o) f = still p fr ts s tidy apart _ (comes_moved s.cells (top_place s.items) (Going (suc (length ts))))
   apart_applied _ f = apart
 
-  apart_completed : (u : Update) → Completes p fr ts s u → TokensApart (cells_after p fr ts s u)
+  apart_completed : (u : Update) → IsCompleting p fr ts s u → TokensApart (cells_after p fr ts s u)
   apart_completed (Replied a code) met = apart_replied p fr ts s tidy apart a code
   apart_completed _ met = absurd met
 
