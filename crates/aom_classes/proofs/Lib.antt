@@ -15,3 +15,4 @@ mod Views
 pub mod ClassesLemmas
 pub use Rattle.aom_image.proofs.ImageLemmas
 pub use Rattle.aom_roles.proofs.RolesLemmas
+pub use Rattle.aom_instructions.proofs.InstructionsLemmas

@@ -1,21 +1,38 @@
 -- The loop or the next that stands where one is found.
 use Rattle.std.proofs.lemmas.Bool.Decides.{nat_tests}
-use Rattle.std.proofs.Common.{◌≡◌, ◌<◌, ℕ, suc, List, length, IsTrue, Option, Some, slice_index_or, refl, arith}
-use Rattle.std.proofs.lemmas.Option.{slice_get_read}
+use Rattle.std.proofs.Common.{◌≡◌, ◌<◌, ℕ, suc, List, length, IfSome, IsTrue, Option, Some, slice_index_or, refl, arith}
+use Rattle.std.proofs.lemmas.Option.{same_Some, slice_get_read}
 use Rattle.aom_instructions.specs.declared.instr.Instr.{Instr}
-use Rattle.aom_instructions.specs.declared.instr.Instr.TheVariants.{Loop, Next}
+use Rattle.aom_image.specs.Views.{transfer_in}
+use Rattle.aom_instructions.specs.declared.transfer.Transfer.{Transfer}
+use Rattle.aom_instructions.specs.declared.transfer.Transfer.TheVariants.{Begin, Repeat}
 use Rattle.aom_classes.specs.Jumps.{Body, back_of, begins_loop}
-use Rattle.aom_classes.specs.Loops.{loop_in, next_in}
+use Rattle.aom_classes.specs.Loops.{begun_by, loop_in, next_in, repeated_by}
+
+begun : (t : Option Transfer) (d : ℕ) → begun_by t ≡ Some d → (n : ℕ) × (t ≡ Some (Begin d n))
+begun t d e = grind arith
+
+repeated : (t : Option Transfer) (d to : ℕ) → repeated_by t ≡ Some (record { number = d; back = to }) → t ≡ Some (Repeat d to)
+repeated t d to e = grind arith
 
 -- a loop of that number begins there
-pub loop_there : (o : Option Instr) (d : ℕ) → loop_in o ≡ Some d → (n : ℕ) × (o ≡ Some (Loop d n))
+pub loop_there : (o : Option Instr) (d : ℕ) → loop_in o ≡ Some d → (n : ℕ) × (transfer_in o ≡ Some (Begin d n))
 unfolding loop_in
-loop_there o d e = grind arith
+loop_there o d e = begun (transfer_in o) d e
 
 -- and that next ends a round of it
-pub next_there : (o : Option Instr) (d t : ℕ) → next_in o ≡ Some (record { number = d; back = t }) → o ≡ Some (Next d t)
+pub next_there : (o : Option Instr) (d t : ℕ) → next_in o ≡ Some (record { number = d; back = t }) → transfer_in o ≡ Some (Repeat d t)
 unfolding next_in
-next_there o d t e = grind arith
+next_there o d t e = repeated (transfer_in o) d t e
+
+-- so a loop begins there, and that next goes back
+pub begins_there : (o : Option Instr) (d n : ℕ) → transfer_in o ≡ Some (Begin d n) → IfSome o (λ i. IsTrue (begins_loop i))
+unfolding begins_loop
+begins_there o d n e = grind (arith, same_Some)
+
+pub back_there : (o : Option Instr) (d t : ℕ) → transfer_in o ≡ Some (Repeat d t) → IfSome o (λ i. back_of i ≡ Some t)
+unfolding back_of
+back_there o d t e = grind (arith, same_Some)
 
 -- a body, from what stands at its two places
 pub body_here : (code : List Instr) (p q : ℕ) (i j : Instr) → q < length code →

@@ -9,9 +9,12 @@ use Rattle.std.proofs.lemmas.List.Sums.{count_by_more_yes, count_by_more_no}
 use Rattle.std.proofs.lemmas.Option.{slice_get_within, get_or_from_slice_get, slice_get_cases, same_Some}
 use Rattle.std.proofs.lemmas.List.{length-append}
 use Rattle.aom_instructions.specs.declared.instr.Instr.{Instr}
-use Rattle.aom_instructions.specs.declared.instr.Instr.TheVariants.{Loop, Next}
-use Rattle.aom_classes.specs.Loops.{loop_in, loop_at, Ending, next_in, next_at, Closes, ClosesSome, ApartOrWithin, is_loop, is_next, begun, ended, LoopsNest}
-use Rattle.aom_classes.specs.Scanning.{Enters, Leaves, Passes}
+use Rattle.aom_instructions.specs.Table.{transfer_of}
+use Rattle.aom_instructions.specs.declared.transfer.Transfer.{Transfer}
+use Rattle.aom_instructions.specs.declared.transfer.Transfer.TheVariants.{Begin, Repeat}
+use Rattle.aom_classes.specs.Jumps.{begins, begins_loop}
+use Rattle.aom_classes.specs.Loops.{ApartOrWithin, Closes, ClosesSome, Ending, LoopsNest, begun, begun_by, ended, is_next, loop_at, loop_in, next_at, next_in, repeated_by, repeats}
+use Rattle.aom_classes.specs.Scanning.{Enters, Leaves, Passes, PassesBy}
 use Rattle.aom_classes.proofs.ImageLemmas.{nil_given}
 
 -- ---- lists
@@ -87,7 +90,7 @@ not_counted : (code : List Instr) (i : ℕ) (x : Instr) (test : Instr → Bool) 
 not_counted code i x test e t = count_by_more_no test code i x (slice_get_within code i x e) (ap test (get_or_from_slice_get code i x x e) ∙ t)
 
 scanned_plain : (code : List Instr) (i : ℕ) (x : Instr) (s : List ℕ) → slice_get code i ≡ Some x →
-    loop_at code i ≡ None → next_at code i ≡ None → is_loop x ≡ false → is_next x ≡ false → Scanned code i s → Scanned code (i + 1) s
+    loop_at code i ≡ None → next_at code i ≡ None → begins_loop x ≡ false → is_next x ≡ false → Scanned code i s → Scanned code (i + 1) s
 scanned_plain code i x s e no_loop no_next l n h = record {
   opens = λ k p g. let o = h.opens k p g in (omega (arith, o.0), o.1);
   rising = h.rising;
@@ -98,11 +101,11 @@ scanned_plain code i x s e no_loop no_next l n h = record {
   apart = λ c d p q r t one other lq lt. h.apart c d p q r t one other (earlier code i c p q no_next one lq) (earlier code i d r t no_next other lt);
   before = λ k c p q r g one lq. h.before k c p q r g one (earlier code i c p q no_next one lq);
   number = λ p d lt g. ⊎_elim (λ (below : p < i). h.number p d below g) (λ (same : p ≡ i). absurd (cc)) (at_or_before p i lt);
-  count = (let b = not_counted code i x is_loop e l in let f = not_counted code i x is_next e n in let c = h.count in omega arith);
+  count = (let b = not_counted code i x begins_loop e l in let f = not_counted code i x is_next e n in let c = h.count in omega arith);
 }
 
 scanned_enter : (code : List Instr) (i d : ℕ) (x : Instr) (s t : List ℕ) → slice_get code i ≡ Some x →
-    loop_at code i ≡ Some d → next_at code i ≡ None → is_loop x ≡ true → is_next x ≡ false → Enters d i s t → Scanned code i s → Scanned code (i + 1) t
+    loop_at code i ≡ Some d → next_at code i ≡ None → begins_loop x ≡ true → is_next x ≡ false → Enters d i s t → Scanned code i s → Scanned code (i + 1) t
 scanned_enter code i d x s t e is no_next l n a h = rw a.last (record {
   opens = λ k p g. ⊎_elim (λ (old : slice_get s k ≡ Some p). let o = h.opens k p old in (omega (arith, o.0), o.1)) (λ (new : (k ≡ length s) × (p ≡ i)).
       let w = new.0 in let v = new.1 in let u = a.number in (omega arith, ap (loop_at code) v ∙ (is ∙ ap (λ (m : ℕ). Some m) (u ∙ sym w))))
@@ -127,7 +130,7 @@ same_start : (code : List Instr) (i d c p t : ℕ) → next_at code i ≡ Some (
 same_start code i d c p t e one = grind (arith, nat_tests, same_Some)
 
 scanned_leave : (code : List Instr) (i d t : ℕ) (x : Instr) (s r : List ℕ) → slice_get code i ≡ Some x → loop_at code i ≡ None → next_at code i ≡ Some
-    (record { number = d; back = suc t }) → is_loop x ≡ false → is_next x ≡ true → s ≡ r ++ t ∷ [] → d ≡ length r → Scanned code i s → Scanned code (i + 1) r
+    (record { number = d; back = suc t }) → begins_loop x ≡ false → is_next x ≡ true → s ≡ r ++ t ∷ [] → d ≡ length r → Scanned code i s → Scanned code (i + 1) r
 scanned_leave code i d t x s r e no_loop is l n last number h =
     let top : slice_get s d ≡ Some t = rw (last, number) (at_last r t) in
     let keep = λ (k p : ℕ) (g : slice_get r k ≡ Some p). let out : slice_get s k ≡ Some p = rw last (keep_get r t k p g) in out in
@@ -172,13 +175,29 @@ scanned_leave code i d t x s r e no_loop is l n last number h =
       count = grind (arith, nat_tests, not_counted code i x, counted code i x, length-append r (t ∷ []));
     }
 
+-- what an instruction of that transfer begins and ends
+loop_by : (code : List Instr) (i : ℕ) (x : Instr) (t : Transfer) → transfer_of x ≡ t → slice_get code i ≡ Some x → loop_at code i ≡ begun_by (Some t)
+unfolding loop_in
+loop_by code i x t is e = ap loop_in e ∙ ap (λ (u : Transfer). begun_by (Some u)) is
+
+next_by : (code : List Instr) (i : ℕ) (x : Instr) (t : Transfer) → transfer_of x ≡ t → slice_get code i ≡ Some x → next_at code i ≡ repeated_by (Some t)
+unfolding next_in
+next_by code i x t is e = ap next_in e ∙ ap (λ (u : Transfer). repeated_by (Some u)) is
+
 -- an instruction that goes on as it must keeps the scan going
+scanned_by : (code : List Instr) (i : ℕ) (x : Instr) (t : Transfer) (s r : List ℕ) → transfer_of x ≡ t → slice_get code i ≡ Some x → PassesBy i t s r →
+    Scanned code i s → Scanned code (i + 1) r
+unfolding begins_loop is_next
+scanned_by code i x (Begin d n) s r is e a h =
+    scanned_enter code i d x s r e (loop_by code i x (Begin d n) is e) (next_by code i x (Begin d n) is e) (ap begins is) (ap repeats is) a h
+scanned_by code i x (Repeat d t) s r is e a h =
+    let back = ap (λ (b : ℕ). Some (record { number = d; back = b })) a.back in
+    scanned_leave code i d a.start x s r e (loop_by code i x (Repeat d t) is e) (next_by code i x (Repeat d t) is e ∙ back) (ap begins is)
+    (ap repeats is) a.last a.number h
+scanned_by code i x t s r is e a h = rw a (scanned_plain code i x s e (loop_by code i x t is e) (next_by code i x t is e) (ap begins is) (ap repeats is) h)
+
 pub scanned_more : (code : List Instr) (i : ℕ) (x : Instr) (s r : List ℕ) → slice_get code i ≡ Some x → Passes i x s r → Scanned code i s → Scanned code (i + 1) r
-unfolding loop_in next_in is_loop is_next
-scanned_more code i (Loop d n) s r e a h = scanned_enter code i d (Loop d n) s r e (ap loop_in e) (ap next_in e) refl refl a h
-scanned_more code i (Next d t) s r e a h = scanned_leave code i d a.start
-    (Next d t) s r e (ap loop_in e) (ap next_in e ∙ ap (λ (b : ℕ). Some (record { number = d; back = b })) a.back) refl refl a.last a.number h
-scanned_more code i x s r e a h = rw a (scanned_plain code i x s e (ap loop_in e) (ap next_in e) refl refl h)
+scanned_more code i x s r e a h = scanned_by code i x (transfer_of x) s r refl e a h
 
 pub scanned_none : (code : List Instr) → Scanned code 0 []
 scanned_none code = record {
@@ -234,14 +253,17 @@ closes_top code i d t s is h nest =
     (split.0, record { start = p; last = split.1; back = back; number = number })
 
 -- where loops nest, each instruction goes on as it must
-pub must_pass : (code : List Instr) (i : ℕ) (x : Instr) (s : List ℕ) → slice_get code i ≡ Some x → Scanned code i s → LoopsNest code → (r : List ℕ) × Passes i x s r
-unfolding loop_in next_in
-must_pass code i (Loop d n) s e h nest =
-    let w = nest.number i d (ap loop_in e) in
+passes_by : (code : List Instr) (i : ℕ) (x : Instr) (t : Transfer) (s : List ℕ) → transfer_of x ≡ t → slice_get code i ≡ Some x → Scanned code i s →
+    LoopsNest code → (r : List ℕ) × PassesBy i t s r
+passes_by code i x (Begin d n) s is e h nest =
+    let w = nest.number i d (loop_by code i x (Begin d n) is e) in
     let c = h.count in
     (s ++ i ∷ [], record { number = omega arith; last = refl })
-must_pass code i (Next d t) s e h nest = closes_top code i d t s (ap next_in e) h nest
-must_pass code i x s e h nest = (s, refl)
+passes_by code i x (Repeat d t) s is e h nest = closes_top code i d t s (next_by code i x (Repeat d t) is e) h nest
+passes_by code i x t s is e h nest = (s, refl)
+
+pub must_pass : (code : List Instr) (i : ℕ) (x : Instr) (s : List ℕ) → slice_get code i ≡ Some x → Scanned code i s → LoopsNest code → (r : List ℕ) × Passes i x s r
+must_pass code i x s e h nest = passes_by code i x (transfer_of x) s refl e h nest
 
 -- where loops nest, none is open at the end
 pub none_open : (code : List Instr) (i : ℕ) (s : List ℕ) → length code ≤ i → Scanned code i s → LoopsNest code → length s ≡ 0

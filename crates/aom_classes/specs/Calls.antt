@@ -3,7 +3,9 @@ use Rattle.std.specs.Prelude.{◌≡◌, ◌<◌, ℕ, true, List, All, Option, 
 use Rattle.aom_image.specs.Image.{Image}
 use Rattle.aom_image.specs.Views.{fields_of, gives_of}
 use Rattle.aom_instructions.specs.declared.instr.Instr.{Instr}
-use Rattle.aom_instructions.specs.declared.instr.Instr.TheVariants as instrs
+use Rattle.aom_instructions.specs.Table.{action_of}
+use Rattle.aom_instructions.specs.declared.action.Action.{Action}
+use Rattle.aom_instructions.specs.declared.action.Action.TheVariants as actions
 use Rattle.aom_image.specs.declared.method.Argument.{Argument}
 use Rattle.aom_image.specs.declared.method.Argument.TheVariants as arguments
 use Rattle.aom_image.specs.declared.method.Gives.{Gives}
@@ -71,15 +73,16 @@ pub record CallsBelow (p : Image) (m called : ℕ) : Type 0 where
   pub overriders : OverridersBelow p m called
   pub gives : MentionsResult p m (gives_of p called)
 
--- what an instruction runs and mentions, in a method m of a class or of none
+-- what an action runs and mentions, in a method m of a class or of none
+abbrev pub ActsBelow : Image → ℕ → Option ℕ → Action → Type 0
+ActsBelow p m own (actions.Make c) = Mentions p m c
+ActsBelow p m own (actions.Call manner t called a r) = CallsBelow p m called
+ActsBelow p m own (actions.PushOperation a called) = called < m
+ActsBelow p m own actions.Cancel = IfSome own (MayCancel p m)
+ActsBelow p m own _ = Unit {0}
+
 abbrev pub RunsBelow : Image → ℕ → Option ℕ → Instr → Type 0
-RunsBelow p m own (instrs.New r c) = Mentions p m c
-RunsBelow p m own (instrs.NewOrLeave r c) = Mentions p m c
-RunsBelow p m own (instrs.Call t called a r) = CallsBelow p m called
-RunsBelow p m own (instrs.Trap t called a r) = CallsBelow p m called
-RunsBelow p m own (instrs.PushOperation r called) = called < m
-RunsBelow p m own instrs.Cancel = IfSome own (MayCancel p m)
-RunsBelow p m own _ = Unit {0}
+RunsBelow p m own i = ActsBelow p m own (action_of i)
 
 abbrev pub MentionsFields : Image → ℕ → Option ℕ → Type 0
 MentionsFields p m own = IfSome own (λ c. All (MentionsThing p m) (fields_of p c))

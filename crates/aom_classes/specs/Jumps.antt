@@ -1,26 +1,29 @@
 -- Where an instruction may go on, and what is asked of it.
 use Rattle.std.specs.Prelude.{ℕ, suc, ◌≡◌, ◌<◌, ◌≤◌, ◌⊎◌, Bool, true, false, List, length, Option, Some, None, IfSome, IsTrue, slice_get}
 use Rattle.aom_roles.specs.Firsts.{FirstNot}
+use Rattle.aom_instructions.specs.Table.{transfer_of}
 use Rattle.aom_instructions.specs.declared.instr.Instr.{Instr}
-use Rattle.aom_instructions.specs.declared.instr.Instr.TheVariants.{Jump, JumpEqual, JumpLess, JumpNull, JumpEmpty, JumpActive, JumpAdded, Loop, Next, Return, Leave}
+use Rattle.aom_instructions.specs.declared.transfer.Transfer.{Transfer}
+use Rattle.aom_instructions.specs.declared.transfer.Transfer.TheVariants.{Begin, Branch, Jump, Leave, Repeat, Return}
 
--- where a jump goes that is not taken back to a loop's first place
+-- where a transfer leads that does not go back to a loop's first place
+abbrev pub jumped : Transfer → Option ℕ
+jumped (Jump t) = Some t
+jumped (Branch c t) = Some t
+jumped _ = None
+
 unfoldable pub jump_of : Instr → Option ℕ
-jump_of (Jump t) = Some t
-jump_of (JumpEqual a b t) = Some t
-jump_of (JumpLess a b t) = Some t
-jump_of (JumpNull a t) = Some t
-jump_of (JumpEmpty f t) = Some t
-jump_of (JumpActive t) = Some t
-jump_of (JumpAdded t) = Some t
-jump_of _ = None
+jump_of i = jumped (transfer_of i)
 
--- whether a run may go on at the place after an instruction
+-- whether a run may go on at the next place
+abbrev pub passes : Transfer → Bool
+passes (Jump t) = false
+passes (Return r) = false
+passes (Leave r) = false
+passes _ = true
+
 unfoldable pub goes_on : Instr → Bool
-goes_on (Jump t) = false
-goes_on (Return r) = false
-goes_on (Leave r) = false
-goes_on _ = true
+goes_on i = passes (transfer_of i)
 
 -- a jump at a place goes forward within a method of so many places, and a next place is within it
 pub record KeepsWithin (count place : ℕ) (i : Instr) : Type 0 where
@@ -33,14 +36,20 @@ AllKeepWithin code = (place : ℕ) → IfSome (slice_get code place) (KeepsWithi
 
 -- ---- the bodies of loops
 
-unfoldable pub begins_loop : Instr → Bool
-begins_loop (Loop d n) = true
-begins_loop _ = false
+abbrev pub begins : Transfer → Bool
+begins (Begin d n) = true
+begins _ = false
 
--- where a next goes back to
+unfoldable pub begins_loop : Instr → Bool
+begins_loop i = begins (transfer_of i)
+
+-- where another round goes back to
+abbrev pub repeated : Transfer → Option ℕ
+repeated (Repeat d t) = Some t
+repeated _ = None
+
 unfoldable pub back_of : Instr → Option ℕ
-back_of (Next d t) = Some t
-back_of _ = None
+back_of i = repeated (transfer_of i)
 
 -- a loop at p, and a next at a later place q that goes back to the place after it
 pub record Body (code : List Instr) (p q : ℕ) : Type 0 where

@@ -1,12 +1,19 @@
 -- How the loops of a method lie.
 use Rattle.std.specs.Prelude.{◌≡◌, ◌<◌, ◌+◌, ◌⊎◌, ℕ, suc, Bool, true, false, List, Option, Some, None, IfSome, slice_get, take, count_by}
+use Rattle.aom_image.specs.Views.{transfer_in}
+use Rattle.aom_instructions.specs.Table.{transfer_of}
 use Rattle.aom_instructions.specs.declared.instr.Instr.{Instr}
-use Rattle.aom_instructions.specs.declared.instr.Instr.TheVariants.{Loop, Next}
+use Rattle.aom_instructions.specs.declared.transfer.Transfer.{Transfer}
+use Rattle.aom_instructions.specs.declared.transfer.Transfer.TheVariants.{Begin, Repeat}
+use Rattle.aom_classes.specs.Jumps.{begins_loop}
 
 -- the number of a loop
+abbrev pub begun_by : Option Transfer → Option ℕ
+begun_by (Some (Begin d n)) = Some d
+begun_by _ = None
+
 unfoldable pub loop_in : Option Instr → Option ℕ
-loop_in (Some (Loop d n)) = Some d
-loop_in _ = None
+loop_in o = begun_by (transfer_in o)
 
 -- the loop that begins at a place
 abbrev pub loop_at : List Instr → ℕ → Option ℕ
@@ -17,9 +24,12 @@ pub record Ending : Type 0 where
   pub number : ℕ
   pub back : ℕ
 
+abbrev pub repeated_by : Option Transfer → Option Ending
+repeated_by (Some (Repeat d t)) = Some (record { number = d; back = t })
+repeated_by _ = None
+
 unfoldable pub next_in : Option Instr → Option Ending
-next_in (Some (Next d t)) = Some (record { number = d; back = t })
-next_in _ = None
+next_in o = repeated_by (transfer_in o)
 
 -- the next that stands at a place
 abbrev pub next_at : List Instr → ℕ → Option Ending
@@ -46,17 +56,16 @@ pub record ClosesSome (code : List Instr) (number q : ℕ) : Type 0 where
 abbrev pub ApartOrWithin : ℕ → ℕ → ℕ → Type 0
 ApartOrWithin q r s = (q < r) ⊎ (s < q)
 
-unfoldable pub is_loop : Instr → Bool
-is_loop (Loop d n) = true
-is_loop _ = false
+abbrev pub repeats : Transfer → Bool
+repeats (Repeat d t) = true
+repeats _ = false
 
 unfoldable pub is_next : Instr → Bool
-is_next (Next d t) = true
-is_next _ = false
+is_next i = repeats (transfer_of i)
 
 -- how many loops began before a place, and how many ended
 abbrev pub begun : List Instr → ℕ → ℕ
-begun code p = count_by is_loop (take p code)
+begun code p = count_by begins_loop (take p code)
 
 abbrev pub ended : List Instr → ℕ → ℕ
 ended code p = count_by is_next (take p code)

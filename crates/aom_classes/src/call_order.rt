@@ -1,8 +1,8 @@
 //! What a method may run, and which destructors may come of what it mentions.
-ghost use Rattle.std.specs.Prelude.{◌≡◌, ◌<◌, ◌↔◌, IsTrue, All};
+ghost use Rattle.std.specs.Prelude.{◌≡◌, ◌<◌, ◌↔◌, IsTrue, IfSome, All};
 ghost use Rattle.aom_image.specs.Views.{fields_of};
 ghost use Rattle.aom_classes.specs.Orders.{IsOrders};
-ghost use Rattle.aom_classes.specs.Calls.{MentionsThing, MentionsArgument, MentionsResult, CallsBelow, RunsBelow, MentionsFields, MentionsRoot, CallsOrdered, AllCallsOrdered};
+ghost use Rattle.aom_classes.specs.Calls.{MentionsThing, MentionsArgument, MentionsResult, CallsBelow, MayCancel, RunsBelow, MentionsFields, MentionsRoot, CallsOrdered, AllCallsOrdered};
 ghost use Rattle.aom_classes.specs.Places.{PlaceOf};
 ghost use Rattle.aom_roles.specs.Firsts.{FirstOf};
 ghost use Rattle.aom_classes.specs.declared.fault.LinkFault.TheVariants as LinkFault;
@@ -11,6 +11,7 @@ use crate::orders::Orders;
 use crate::place::LinkPlace;
 use crate::roles::is_main;
 use aom_image::{Argument, ClassNumber, Gives, Image, Instr, Method, MethodNumber, Thing};
+use aom_instructions::Action;
 use aom_roles::gives_of;
 
 fn may_mention_thing(image: &Image, orders: &Orders, method: usize, thing: Thing) -> bool
@@ -55,7 +56,7 @@ fn may_call(image: &Image, orders: &Orders, method: usize, called: MethodNumber)
 
 fn may_cancel(image: &Image, orders: &Orders, method: usize, own: Option<ClassNumber>) -> bool
     requires { IsOrders image.now orders.now }
-    ensures { IsTrue result ↔ RunsBelow image.now method own Instr.Cancel }
+    ensures { IsTrue result ↔ IfSome own (MayCancel image.now method) }
 {
     match own {
         Some(class) => orders.may_cancel(method, class),
@@ -73,15 +74,11 @@ fn may_run(
     requires { IsOrders image.now orders.now }
     ensures { IsTrue result ↔ RunsBelow image.now method own instr.now }
 {
-    match *instr {
-        Instr::New(_, class) | Instr::NewOrLeave(_, class) => {
-            may_mention_thing(image, orders, method, Thing::Object(class))
-        }
-        Instr::Call(_, called, _, _) | Instr::Trap(_, called, _, _) => {
-            may_call(image, orders, method, called)
-        }
-        Instr::PushOperation(_, called) => (called.number() as usize) < method,
-        Instr::Cancel => may_cancel(image, orders, method, own),
+    match &instr.action() {
+        Action::Make(class) => may_mention_thing(image, orders, method, Thing::Object(*class)),
+        Action::Call(_, _, called, _, _) => may_call(image, orders, method, *called),
+        Action::PushOperation(_, called) => (called.number() as usize) < method,
+        Action::Cancel => may_cancel(image, orders, method, own),
         _ => true,
     }
 }

@@ -8,20 +8,15 @@ ghost use Rattle.aom_classes.specs.declared.fault.LinkFault.TheVariants as LinkF
 
 use crate::place::LinkPlace;
 use aom_image::{Image, Instr, InstrPlace, Method};
+use aom_instructions::Transfer;
 
 /// Where a jump goes that is not taken back to a loop's first place.
 #[tactic(auto, unfolding(crate::specs::Jumps::jump_of))]
 fn jump_of(instr: &Instr) -> Option<InstrPlace>
     ensures { result ≡ jump_of instr.now }
 {
-    match *instr {
-        Instr::Jump(place)
-        | Instr::JumpEqual(_, _, place)
-        | Instr::JumpLess(_, _, place)
-        | Instr::JumpNull(_, place)
-        | Instr::JumpEmpty(_, place)
-        | Instr::JumpActive(place)
-        | Instr::JumpAdded(place) => Some(place),
+    match &instr.transfer() {
+        Transfer::Jump(place) | Transfer::Branch(_, place) => Some(*place),
         _ => None,
     }
 }
@@ -30,7 +25,10 @@ fn jump_of(instr: &Instr) -> Option<InstrPlace>
 fn goes_on(instr: &Instr) -> bool
     ensures { result ≡ goes_on instr.now }
 {
-    !matches!(instr, Instr::Jump(_) | Instr::Return(_) | Instr::Leave(_))
+    !matches!(
+        instr.transfer(),
+        Transfer::Jump(_) | Transfer::Return(_) | Transfer::Leave(_)
+    )
 }
 
 /// Whether the target is past the place and below the count.
@@ -68,15 +66,15 @@ fn first_astray(code: &[Instr]) -> Option<usize>
 fn begins_loop(instr: &Instr) -> bool
     ensures { result ≡ begins_loop instr.now }
 {
-    matches!(instr, Instr::Loop(_, _))
+    matches!(instr.transfer(), Transfer::Begin(_, _))
 }
 
 #[tactic(auto, unfolding(crate::specs::Jumps::back_of))]
 fn back_of(instr: &Instr) -> Option<InstrPlace>
     ensures { result ≡ back_of instr.now }
 {
-    match *instr {
-        Instr::Next(_, place) => Some(place),
+    match &instr.transfer() {
+        Transfer::Repeat(_, place) => Some(*place),
         _ => None,
     }
 }

@@ -6,6 +6,7 @@ ghost use Rattle.aom_roles.specs.Firsts.{FirstOf};
 ghost use Rattle.aom_classes.specs.Scanning.{Enters, Leaves, Passes};
 
 use aom_image::{Image, Instr, InstrPlace, LoopDepth, Method};
+use aom_instructions::Transfer;
 use arrayvec::ArrayVec;
 
 /// The loops around a place, each by its own place, the outermost first.
@@ -39,9 +40,9 @@ fn pass(around: &mut Around, place: usize, instr: &Instr) -> bool
     ensures done { IsTrue result → Passes place instr.now around.old.items around.new.items }
     ensures refused { result ≡ false → (after : List ℕ) → ¬ Passes place instr.now around.old.items after }
 {
-    match *instr {
-        Instr::Loop(number, _) => enter(around, place, number),
-        Instr::Next(number, back) => leave(around, number, back),
+    match &instr.transfer() {
+        Transfer::Begin(number, _) => enter(around, place, *number),
+        Transfer::Repeat(number, back) => leave(around, *number, *back),
         _ => true,
     }
 }

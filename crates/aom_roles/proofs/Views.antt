@@ -1,5 +1,5 @@
 -- What a look into the lists of an image answers, and past their ends.
-use Rattle.std.proofs.Common.{◌≡◌, ◌<◌, ◌≤◌, ℕ, Bool, false, List, Option, Some, None, length, slice_index_or, refl}
+use Rattle.std.proofs.Common.{◌≡◌, ◌<◌, ◌≤◌, ℕ, false, List, Some, None, length, slice_index_or, refl}
 use Rattle.std.proofs.lemmas.Option.{slice_get_read, slice_get_past}
 use Rattle.aom_image.specs.Views.{class_at, gives_in, gives_of, method_at, role_in}
 use Rattle.aom_image.specs.declared.class.ClassDecl.{ClassDecl}

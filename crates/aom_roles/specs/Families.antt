@@ -1,5 +1,5 @@
 -- A class and those that it descends from.
-use Rattle.std.specs.Prelude.{◌≡◌, ℕ, zero, suc, Bool, true, false, ◌==◌, ◌||◌, nat_lt, cond, All, Option, Some, None, length}
+use Rattle.std.specs.Prelude.{◌≡◌, ℕ, zero, suc, Bool, false, ◌==◌, ◌||◌, nat_lt, cond, All, Option, Some, None, length}
 use Rattle.aom_image.specs.Image.{Image}
 use Rattle.aom_image.specs.Views.{class_at, method_class, fields_of}
 use Rattle.aom_image.specs.declared.class.ClassDecl.{ClassDecl}

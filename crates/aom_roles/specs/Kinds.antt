@@ -1,5 +1,5 @@
 -- What kinds of classes there are, by what their objects do.
-use Rattle.std.specs.Prelude.{Bool, true, false, not, ◌&&◌, Option, Some, None}
+use Rattle.std.specs.Prelude.{Bool, true, false, not, ◌&&◌, Option, Some}
 use Rattle.aom_image.specs.declared.class.ClassKind.{ClassKind}
 use Rattle.aom_image.specs.declared.class.ClassKind.TheVariants.{Active, Server}
 use Rattle.aom_image.specs.declared.class.Provider.TheVariants.{Native, Token}

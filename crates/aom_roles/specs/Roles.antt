@@ -1,5 +1,5 @@
 -- The roles of methods.
-use Rattle.std.specs.Prelude.{Bool, nat_eq, true, false, Option, Some, None}
+use Rattle.std.specs.Prelude.{Bool, nat_eq, true, false, Option, Some}
 use Rattle.aom_image.specs.declared.method.Role.{Role}
 use Rattle.aom_image.specs.declared.method.Role.TheVariants.{Construct, Cancel, Service}
 unfoldable pub use Rattle.aom_image.specs.Roles.{role_number}

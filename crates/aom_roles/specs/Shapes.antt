@@ -6,7 +6,10 @@ use Rattle.aom_image.specs.Views.{has, gives_of, method_role}
 use Rattle.aom_image.specs.declared.class.ClassKind.{ClassKind}
 use Rattle.aom_image.specs.declared.class.ClassKind.TheVariants as kinds
 use Rattle.aom_instructions.specs.declared.instr.Instr.{Instr}
-use Rattle.aom_instructions.specs.declared.instr.Instr.TheVariants as instrs
+use Rattle.aom_instructions.specs.Table.{action_of}
+use Rattle.aom_instructions.specs.declared.action.Action.{Action}
+use Rattle.aom_instructions.specs.declared.action.Action.TheVariants as actions
+use Rattle.aom_instructions.specs.declared.action.Manner.TheVariants.{Plain, Trapped}
 use Rattle.aom_image.specs.declared.method.Argument.{Argument}
 use Rattle.aom_image.specs.declared.method.Argument.TheVariants as arguments
 use Rattle.aom_image.specs.declared.method.Gives.{Gives}
@@ -186,12 +189,15 @@ pub record IsTrapped (p : Image) (m : ℕ) : Type 0 where
   pub role : IsTrue (has_role p m roles.Do)
   pub gives : gives_left (gives_of p m) ≡ false
 
--- an instruction names methods of the roles that it may
+-- what an instruction calls or pushes is of a role that it may have
+abbrev pub ActsOnRole : Image → Action → Type 0
+ActsOnRole p (actions.Call Plain t m a r) = IsTrue (has_role p m roles.Do || has_role p m roles.Construct)
+ActsOnRole p (actions.Call Trapped t m a r) = IsTrapped p m
+ActsOnRole p (actions.PushOperation a m) = IsTrue (has_role p m roles.Undo)
+ActsOnRole p _ = Unit {0}
+
 abbrev pub NamesRoles : Image → Instr → Type 0
-NamesRoles p (instrs.Call t m a r) = IsTrue (has_role p m roles.Do || has_role p m roles.Construct)
-NamesRoles p (instrs.Trap t m a r) = IsTrapped p m
-NamesRoles p (instrs.PushOperation r m) = IsTrue (has_role p m roles.Undo)
-NamesRoles p _ = Unit {0}
+NamesRoles p i = ActsOnRole p (action_of i)
 
 pub record IsShaped (p : Image) (m : Method) : Type 0 where
   pub flags : FlagsFit m

@@ -16,6 +16,7 @@ use aom_image::{
     Argument, ClassKind, ClassNumber, Gives, Image, Instr, Method, MethodFlags, MethodNumber, Role,
     States, Thing,
 };
+use aom_instructions::{Action, Manner};
 use bitflags::Flags;
 
 /// Whether a method may leave.
@@ -295,12 +296,12 @@ fn is_trapped(image: &Image, method: MethodNumber) -> bool
 fn names_roles(image: &Image, instr: &Instr) -> bool
     ensures { IsTrue result ↔ NamesRoles image.now instr.now }
 {
-    match *instr {
-        Instr::Call(_, method, _, _) => {
-            has_role(image, method, Role::Do) || has_role(image, method, Role::Construct)
+    match &instr.action() {
+        Action::Call(Manner::Plain, _, method, _, _) => {
+            has_role(image, *method, Role::Do) || has_role(image, *method, Role::Construct)
         }
-        Instr::Trap(_, method, _, _) => is_trapped(image, method),
-        Instr::PushOperation(_, method) => has_role(image, method, Role::Undo),
+        Action::Call(Manner::Trapped, _, method, _, _) => is_trapped(image, *method),
+        Action::PushOperation(_, method) => has_role(image, *method, Role::Undo),
         _ => true,
     }
 }

@@ -5,17 +5,18 @@ use Rattle.aom_image.specs.Image.{Image}
 use Rattle.aom_image.specs.Views.{instr_at, method_at}
 use Rattle.aom_image.specs.WellFormed.{WellFormed, MethodFits}
 use Rattle.aom_instructions.specs.Fits.{InstrFits, limits}
+use Rattle.aom_instructions.specs.Table.{action_of}
 use Rattle.aom_instructions.specs.declared.instr.Instr.{Instr}
 use Rattle.aom_instructions.specs.declared.limits.Limits.{Limits}
 use Rattle.aom_rules.proofs.ClassesLemmas.{all_there, of_method}
 use Rattle.aom_rules.proofs.ShapeLemmas.{there}
 use Rattle.aom_site.specs.Calls.{HasCallee, HasCodeRegister}
 
-has_callee : (p : Image) (n : ℕ) (i : Instr) → InstrFits (limits p.header.version (length p.classes) (length p.methods) n) i → HasCallee p i
+has_callee : (p : Image) (n : ℕ) (i : Instr) → InstrFits (limits p.header.version (length p.classes) (length p.methods) n) i → HasCallee p (action_of i)
 unfolding method_at
 has_callee p n x fits = grind (arith, nat_tests, there p.methods)
 
-pub callee_there : (p : Image) (m pc : ℕ) (i : Instr) → WellFormed p → instr_at p m pc ≡ Some i → HasCallee p i
+pub callee_there : (p : Image) (m pc : ℕ) (i : Instr) → WellFormed p → instr_at p m pc ≡ Some i → HasCallee p (action_of i)
 unfolding method_at
 callee_there p m pc i formed e =
     let w = of_method p m pc i e in
@@ -23,10 +24,10 @@ callee_there p m pc i formed e =
     has_callee p (length w.0.code) i
     (all_there (InstrFits (limits p.header.version (length p.classes) (length p.methods) (length w.0.code))) w.0.code pc i method.code w.2)
 
-code_register : (l : Limits) (i : Instr) → InstrFits l i → HasCodeRegister i
+code_register : (l : Limits) (i : Instr) → InstrFits l i → HasCodeRegister (action_of i)
 code_register l x fits = grind arith
 
-pub code_register_there : (p : Image) (m pc : ℕ) (i : Instr) → WellFormed p → instr_at p m pc ≡ Some i → HasCodeRegister i
+pub code_register_there : (p : Image) (m pc : ℕ) (i : Instr) → WellFormed p → instr_at p m pc ≡ Some i → HasCodeRegister (action_of i)
 unfolding method_at
 code_register_there p m pc i formed e =
     let w = of_method p m pc i e in

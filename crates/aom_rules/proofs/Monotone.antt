@@ -7,7 +7,6 @@ use Rattle.std.specs.Prelude.{bit_and, bit_or}
 use Rattle.aom_image.specs.Image.{Image}
 use Rattle.aom_image.specs.Views.{arguments_of, gives_of, has, leaves, method_class, method_role}
 use Rattle.aom_instructions.specs.declared.instr.Instr.{Instr}
-use Rattle.aom_instructions.specs.declared.instr.Instr.TheVariants.{Return}
 use Rattle.aom_instructions.specs.declared.instr.Target.{Target}
 use Rattle.aom_instructions.specs.declared.instr.Target.TheVariants.{This, Register, Field, Entry as On_entry}
 use Rattle.aom_image.specs.declared.method.Argument.{Argument}
@@ -18,12 +17,12 @@ use Rattle.aom_image.specs.declared.method.Thing.{Thing}
 use Rattle.aom_image.specs.declared.method.Thing.TheVariants.{Message}
 use Rattle.aom_roles.specs.Tests.{AllTrue, only_if}
 use Rattle.aom_roles.specs.Roles.{is_cancel, is_construct, is_service}
-use Rattle.aom_roles.specs.States.{active, cancel_done, idle, issued, server_states}
+use Rattle.aom_roles.specs.States.{active, active_states, cancel_done, cancel_open, idle, issued, server_states, unlisted}
 use Rattle.aom_rules.specs.Requests.{flow_in, flow_narrowed, may_begin, once_cancelled, resting, unissued}
 use Rattle.aom_site.specs.Site.{leave_point}
 use Rattle.aom_site.specs.Calls.{rule_call, rule_trap, constructs_owned, empty_by, is_destructor, is_target, age_need, awaits, brought, caught, worked_on, while_called}
 use Rattle.aom_site.specs.Calls.{argument_needs, each_argument, rule_target, rule_arguments, rule_moved, rule_trapped, fields_done, rule_ended, rule_left}
-use Rattle.aom_site.specs.Calls.{rule_result, result_moved, lasting}
+use Rattle.aom_site.specs.Calls.{rule_result, rule_return, result_moved, lasting}
 use Rattle.aom_shape.specs.Entries.{without_top, with_entry, without_entry}
 use Rattle.aom_shape.specs.Arguments.{after_of, argument_moved, arguments_moved}
 use Rattle.aom_rules.specs.Cleanup.{owns_object, entry_of, top_kind}
@@ -336,11 +335,26 @@ module _ (p : Image) (m pc : ℕ) (a b : Shape) (h : SaysNoMore a b) where
   trap_in : (target : Target) (m' first c : ℕ) → AllTrue (rule_trap p m pc a target m' first c) → AllTrue (rule_trap p m pc b target m' first c)
   trap_in target m' first c = trap_more p m pc a b target m' first c h
 
+  return_in : (r : ℕ) → AllTrue (rule_return p m pc a r) → AllTrue (rule_return p m pc b r)
+  return_in r n = grind (arith, all_true_rest, result_more p m pc a b, left_more p m pc a b r h, ended_more p m pc a b h)
+
+  ruleset told_in = (word_in, unowning_in, object_or_null_in, destroyed_in, owns_in, own_in, ready_in, declared_in, empty_in, none_in, leave_in, pushed_in)
+
   needs_in : (i : Instr) → AllTrue (rule_needs p m pc a i) → AllTrue (rule_needs p m pc b i)
-  needs_in (Return r) n = grind (arith, all_true_rest, result_more p m pc a b, left_more p m pc a b r h, ended_more p m pc a b h)
-  needs_in _ n = first_of (
-    search (call_in, trap_in, word_in, unowning_in, some_in, none_in, object_or_null_in, destroyed_in, owns_in, own_in, ready_in, declared_in, empty_in, leave_in, pushed_in, here_more a b h),
-    grind (arith, n, unowning_in, h.entries),
+  needs_in x n = grind (
+    arith,
+    call_in,
+    trap_in,
+    return_in,
+    told_in,
+    here_more a b h,
+    h.entries,
+    some_in unlisted,
+    some_in idle,
+    some_in issued,
+    some_in active_states,
+    some_in server_states,
+    some_in (bit_or cancel_open cancel_done),
   )
 
 pub needs_more : (p : Image) (m pc : ℕ) (a b : Shape) (i : Instr) → SaysNoMore a b → AllTrue (rule_needs p m pc a i) → AllTrue (rule_needs p m pc b i)

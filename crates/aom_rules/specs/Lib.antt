@@ -6,6 +6,7 @@ pub mod Natives
 pub mod Messages
 pub use Rattle.aom_site.specs.Calls
 pub mod Ways
+pub mod Finding
 pub mod Rules
 pub mod Typing
 pub mod Laws

@@ -1,11 +1,11 @@
 -- The verifier's rules: for each instruction what the abstract state must say, and which ways go on from it.
-use Rattle.std.specs.Prelude.{ℕ, ◌≡◌, List, [], Result}
+use Rattle.std.specs.Prelude.{ℕ, List, [], Result}
 use Rattle.aom_image.specs.Image.{Image}
-use Rattle.aom_roles.specs.States.{unlisted, idle, issued, active, cancel_done}
+use Rattle.aom_roles.specs.States.{idle, issued, active, cancel_done}
+use Rattle.aom_instructions.specs.Table.{transfer_of}
 use Rattle.aom_instructions.specs.declared.instr.Instr.{Instr}
 use Rattle.aom_instructions.specs.declared.instr.Instr.TheVariants.{Const, Copy, Move, Add, Sub, Mul, And, Or, Xor, Jump, JumpEqual, JumpLess, JumpNull, JumpEmpty, JumpActive, JumpAdded, Loop, Next, Print, Load, Store, Take, Put, New, NewOrLeave, Delete, Push, PushOperation, Pop, PopOperation, PopDelete, Call, Trap, Return, Leave, LeaveIf, Enlist, Issue, SetActive, Cancel, Abort, Status, Connect, Ask, Close, TakeMessage, Reply, Stop, Hand}
 use Rattle.aom_image.specs.declared.method.Thing.TheVariants.{Object}
-use Rattle.aom_shape.specs.Changes.{told}
 use Rattle.aom_shape.specs.Shape.{Shape}
 use Rattle.aom_shape.specs.Needs.{Need, Flow, judged}
 use Rattle.aom_site.specs.Site.{Site}
@@ -13,65 +13,55 @@ use Rattle.aom_rules.specs.Words.{rule_const, rule_copy, rule_combine, rule_comp
 use Rattle.aom_rules.specs.Objects.{new_age, rule_move, rule_jump_null, rule_jump_empty, rule_take, rule_put, rule_new, rule_delete}
 use Rattle.aom_site.specs.Calls.{rule_call, rule_trap, rule_return}
 use Rattle.aom_rules.specs.Cleanup.{rule_new_or_leave, rule_push, rule_push_operation, rule_pop, rule_pop_operation, rule_pop_delete, rule_leave}
-use Rattle.aom_rules.specs.Requests.{enlisted, inactive, outstanding, rule_abort, rule_cancel, rule_enlist, rule_issue, rule_jump_active, rule_jump_added, rule_set_active, rule_status}
+use Rattle.aom_rules.specs.Requests.{rule_abort, rule_cancel, rule_enlist, rule_issue, rule_jump_active, rule_jump_added, rule_set_active, rule_status}
 use Rattle.aom_rules.specs.Natives.{rule_ask, rule_close, rule_connect}
 use Rattle.aom_rules.specs.Messages.{rule_hand, rule_reply, rule_take_message}
-use Rattle.aom_rules.specs.Ways.{Ways, Ends, Goes_on, Goes_to, Branches, Goes_back, Branches_on_null, Branches_on_empty, Branches_in, As_before, Holding, Moved, Taken, Taken_message, Filled, Pushed, Pushed_operation, Popped, Dropped, Called, Caught, Left_in, Cancelled, Handed, flowing}
+use Rattle.aom_rules.specs.Finding.{Finds}
+use Rattle.aom_rules.specs.Ways.{Ways, News, As_before, Holding, Moved, Taken, Taken_message, Filled, Pushed, Pushed_operation, Popped, Dropped, Called, Caught, Left_in, Cancelled, Handed, flowing, ways_by}
 use Rattle.aom_shape.specs.declared.flow.Flow.{Flow as Answer}
 use Rattle.aom_shape.specs.declared.kind.Kind.TheVariants.{Word, Null, Own, Maybe}
 use Rattle.aom_shape.specs.declared.why.Why.{Why}
 
--- the ways on from each instruction
+-- what is known after an instruction, where it goes on at the next place, that was not known before
+abbrev pub news_of : Image → Instr → News
+news_of p (Const a w) = Holding a Word
+news_of p (Copy a b) = Holding a Word
+news_of p (Add a b c) = Holding a Word
+news_of p (Sub a b c) = Holding a Word
+news_of p (Mul a b c) = Holding a Word
+news_of p (And a b c) = Holding a Word
+news_of p (Or a b c) = Holding a Word
+news_of p (Xor a b c) = Holding a Word
+news_of p (Load a w) = Holding a Word
+news_of p (Move a b) = Moved a b
+news_of p (Take a f) = Taken a f
+news_of p (Put f b) = Filled f b
+news_of p (New a c) = Holding a (Maybe (Object c) (new_age p c))
+news_of p (Delete a) = Holding a Null
+news_of p (Call target m' first c) = Called target m' first c
+news_of p (Trap target m' first c) = Caught target m' first c
+news_of p (NewOrLeave a c) = Holding a (Own (Object c) (new_age p c))
+news_of p (Push a) = Pushed a
+news_of p (PushOperation a m') = Pushed_operation
+news_of p (Pop a) = Popped a
+news_of p PopOperation = Dropped
+news_of p PopDelete = Dropped
+news_of p (Enlist priority) = Left_in idle
+news_of p (Issue a b) = Left_in issued
+news_of p SetActive = Left_in active
+news_of p Cancel = Cancelled
+news_of p Abort = Left_in cancel_done
+news_of p (Status a) = Holding a Word
+news_of p (Connect a) = Holding a Word
+news_of p (Ask a b c) = Holding a Word
+news_of p (TakeMessage a) = Taken_message a
+news_of p (Reply a b) = Holding a Null
+news_of p (Hand a) = Handed a
+news_of p _ = As_before
+
+-- where a run may go on from an instruction
 abbrev pub ways_of : Image → Instr → Ways
-ways_of p (Const a w) = Goes_on (Holding a Word)
-ways_of p (Copy a b) = Goes_on (Holding a Word)
-ways_of p (Add a b c) = Goes_on (Holding a Word)
-ways_of p (Sub a b c) = Goes_on (Holding a Word)
-ways_of p (Mul a b c) = Goes_on (Holding a Word)
-ways_of p (And a b c) = Goes_on (Holding a Word)
-ways_of p (Or a b c) = Goes_on (Holding a Word)
-ways_of p (Xor a b c) = Goes_on (Holding a Word)
-ways_of p (Jump to) = Goes_to to
-ways_of p (JumpEqual a b to) = Branches to
-ways_of p (JumpLess a b to) = Branches to
-ways_of p (Loop depth rounds) = Goes_on As_before
-ways_of p (Next depth to) = Goes_back to
-ways_of p (Print a) = Goes_on As_before
-ways_of p (Load a w) = Goes_on (Holding a Word)
-ways_of p (Store w b) = Goes_on As_before
-ways_of p (Move a b) = Goes_on (Moved a b)
-ways_of p (JumpNull a to) = Branches_on_null a to
-ways_of p (JumpEmpty f to) = Branches_on_empty f to
-ways_of p (Take a f) = Goes_on (Taken a f)
-ways_of p (Put f b) = Goes_on (Filled f b)
-ways_of p (New a c) = Goes_on (Holding a (Maybe (Object c) (new_age p c)))
-ways_of p (Delete a) = Goes_on (Holding a Null)
-ways_of p (Call target m' first c) = Goes_on (Called target m' first c)
-ways_of p (Trap target m' first c) = Goes_on (Caught target m' first c)
-ways_of p (NewOrLeave a c) = Goes_on (Holding a (Own (Object c) (new_age p c)))
-ways_of p (Push a) = Goes_on (Pushed a)
-ways_of p (PushOperation a m') = Goes_on Pushed_operation
-ways_of p (Pop a) = Goes_on (Popped a)
-ways_of p PopOperation = Goes_on Dropped
-ways_of p PopDelete = Goes_on Dropped
-ways_of p (Leave a) = Ends
-ways_of p (LeaveIf a) = Goes_on As_before
-ways_of p (Return a) = Ends
-ways_of p (JumpActive to) = Branches_in outstanding inactive to
-ways_of p (JumpAdded to) = Branches_in enlisted unlisted to
-ways_of p (Enlist priority) = Goes_on (Left_in idle)
-ways_of p (Issue a b) = Goes_on (Left_in issued)
-ways_of p SetActive = Goes_on (Left_in active)
-ways_of p Cancel = Goes_on Cancelled
-ways_of p Abort = Goes_on (Left_in cancel_done)
-ways_of p (Status a) = Goes_on (Holding a Word)
-ways_of p (Connect a) = Goes_on (Holding a Word)
-ways_of p (Ask a b c) = Goes_on (Holding a Word)
-ways_of p Close = Goes_on As_before
-ways_of p (TakeMessage a) = Goes_on (Taken_message a)
-ways_of p (Reply a b) = Goes_on (Holding a Null)
-ways_of p Stop = Goes_on As_before
-ways_of p (Hand a) = Goes_on (Handed a)
+ways_of p i = ways_by (transfer_of i) (news_of p i)
 
 module _ (p : Image) (m : ℕ) (pc : ℕ) (sh : Shape) where
   abbrev pub rule_needs : Instr → List Need
@@ -133,4 +123,4 @@ module _ (p : Image) (m : ℕ) (pc : ℕ) (sh : Shape) where
 
 -- it is what the rule of that instruction answers at that site
 abbrev pub Tells : Site → Instr → Result Answer Why → Type 0
-Tells s i answer = told s.shape.entries answer ≡ rule s.image s.method s.place s.shape i
+Tells s i answer = Finds s (rule_needs s.image s.method s.place s.shape i) (ways_of s.image i) answer

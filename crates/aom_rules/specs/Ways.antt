@@ -2,6 +2,10 @@
 use Rattle.std.specs.Prelude.{ℕ, suc, List, [], ◌++◌}
 use Rattle.aom_image.specs.Image.{Image}
 use Rattle.aom_instructions.specs.declared.instr.Target.{Target}
+use Rattle.aom_instructions.specs.declared.transfer.Condition.TheVariants.{IsActive, IsAdded, IsEmpty, IsNull, OnWords}
+use Rattle.aom_instructions.specs.declared.transfer.Transfer.{Transfer}
+use Rattle.aom_instructions.specs.declared.transfer.Transfer.TheVariants as transfer
+use Rattle.aom_roles.specs.States.{unlisted}
 use Rattle.aom_site.specs.Calls.{called, trapped}
 use Rattle.aom_rules.specs.Cleanup.{after_pop, after_push}
 use Rattle.aom_shape.specs.Entries.{with_entry, without_entry}
@@ -9,7 +13,7 @@ use Rattle.aom_shape.specs.Kinds.{field, register, set_register}
 use Rattle.aom_shape.specs.Needs.{Flow, to_next}
 use Rattle.aom_rules.specs.Messages.{after_hand, after_take_message}
 use Rattle.aom_rules.specs.Objects.{after_move, after_put, after_take, flow_jump_empty, flow_jump_null}
-use Rattle.aom_rules.specs.Requests.{after_cancel, flow_narrowed}
+use Rattle.aom_rules.specs.Requests.{after_cancel, enlisted, flow_narrowed, inactive, outstanding}
 use Rattle.aom_shape.specs.Shape.{Shape}
 use Rattle.aom_rules.specs.Words.{flow_compare, flow_jump, flow_next}
 use Rattle.aom_shape.specs.declared.kind.CleanupEntry.TheVariants.{Operation}
@@ -52,6 +56,20 @@ pub data Ways : Type 0 where
   Branches_on_empty : (field to : ℕ) → Ways
   -- to that place in some of the states in which the object may be, to the next place in others; a way for which no state is left is none
   Branches_in : (there here to : ℕ) → Ways
+
+-- where a run may go on by a transfer, with that news where it goes on at the next place alone
+abbrev pub ways_by : Transfer → News → Ways
+ways_by transfer.Onward news = Goes_on news
+ways_by (transfer.Jump to) news = Goes_to to
+ways_by (transfer.Branch OnWords to) news = Branches to
+ways_by (transfer.Branch (IsNull a) to) news = Branches_on_null a to
+ways_by (transfer.Branch (IsEmpty f) to) news = Branches_on_empty f to
+ways_by (transfer.Branch IsActive to) news = Branches_in outstanding inactive to
+ways_by (transfer.Branch IsAdded to) news = Branches_in enlisted unlisted to
+ways_by (transfer.Begin depth rounds) news = Goes_on As_before
+ways_by (transfer.Repeat depth to) news = Goes_back to
+ways_by (transfer.Return a) news = Ends
+ways_by (transfer.Leave a) news = Ends
 
 module _ (p : Image) (m : ℕ) (pc : ℕ) (sh : Shape) where
   abbrev pub after : News → Shape

@@ -1,10 +1,13 @@
 //! The rules of the cleanup stack, and of leaves.
-ghost use Rattle.std.specs.Prelude.{◌≡◌, ◌∷◌, ℕ};
-ghost use Rattle.aom_instructions.specs.declared.instr.Instr.TheVariants.{Leave, LeaveIf, NewOrLeave, Pop, PopDelete, PopOperation, Push, PushOperation};
-ghost use Rattle.aom_rules.specs.Cleanup.{owns_object, thing_entry, entry_of, tops_object, tops_operation, top_kind};
-ghost use Rattle.aom_rules.specs.Rules.{Tells};
+ghost use Rattle.std.specs.Prelude.{◌≡◌, ◌∷◌};
+ghost use Rattle.aom_image.specs.declared.method.Thing.TheVariants.{Object};
+ghost use Rattle.aom_rules.specs.Cleanup.{owns_object, thing_entry, entry_of, tops_object, tops_operation, top_kind, rule_leave, rule_new_or_leave, rule_pop, rule_pop_delete, rule_pop_operation, rule_push, rule_push_operation};
+ghost use Rattle.aom_rules.specs.Finding.{Finds};
+ghost use Rattle.aom_rules.specs.Objects.{new_age};
+ghost use Rattle.aom_rules.specs.Ways.{As_before, Dropped, Ends, Goes_on, Holding, Popped, Pushed, Pushed_operation};
 ghost use Rattle.aom_site.specs.Site.{leave_point};
 ghost use Rattle.aom_shape.specs.Needs.{tested};
+ghost use Rattle.aom_shape.specs.declared.kind.Kind.TheVariants.{Own};
 
 use crate::objects::new_age;
 use crate::rules::Ruling;
@@ -80,7 +83,7 @@ fn judge_leave(site: &Site<'_>, need: (bool, Why), left: &Shape<'_>) -> Result<(
 }
 
 pub(crate) fn rule_new_or_leave(site: &Site<'_>, a: Register, class: ClassNumber) -> Ruling
-    ensures { Tells site.now (NewOrLeave a class) result }
+    ensures { Finds site.now (rule_new_or_leave site.now.image site.now.method site.now.place site.now.shape a) (Goes_on (Holding a (Own (Object class) (new_age site.now.image class)))) result }
 {
     let [may_leave, unowned, unissued, here] = site.leave_point(site.shape);
     let needs = [
@@ -97,7 +100,7 @@ pub(crate) fn rule_new_or_leave(site: &Site<'_>, a: Register, class: ClassNumber
 
 /// The object is on the cleanup stack before the push may leave.
 pub(crate) fn rule_push(site: &Site<'_>, a: Register) -> Ruling
-    ensures { Tells site.now (Push a) result }
+    ensures { Finds site.now (rule_push site.now.image site.now.method site.now.place site.now.shape a) (Goes_on (Pushed a)) result }
 {
     let moved = site.shape.with_register(a, Kind::Null);
     let pushed = Next::of(&moved).with_entry(entry_of(site.shape.register(a)));
@@ -109,7 +112,7 @@ pub(crate) fn rule_push(site: &Site<'_>, a: Register) -> Ruling
 }
 
 pub(crate) fn rule_push_operation(site: &Site<'_>, a: Register) -> Ruling
-    ensures { (method : ℕ) → Tells site.now (PushOperation a method) result }
+    ensures { Finds site.now (rule_push_operation site.now.image site.now.method site.now.place site.now.shape a) (Goes_on Pushed_operation) result }
 {
     let pushed = Next::of(site.shape).with_entry(CleanupEntry::Operation);
     match judge_leave(site, site.needs_word(a), site.shape) {
@@ -119,7 +122,7 @@ pub(crate) fn rule_push_operation(site: &Site<'_>, a: Register) -> Ruling
 }
 
 pub(crate) fn rule_pop(site: &Site<'_>, a: Register) -> Ruling
-    ensures { Tells site.now (Pop a) result }
+    ensures { Finds site.now (rule_pop site.now.image site.now.method site.now.place site.now.shape a) (Goes_on (Popped a)) result }
 {
     let needs = [
         site.needs_unowning(a),
@@ -131,7 +134,7 @@ pub(crate) fn rule_pop(site: &Site<'_>, a: Register) -> Ruling
 }
 
 pub(crate) fn rule_pop_operation(site: &Site<'_>) -> Ruling
-    ensures { Tells site.now PopOperation result }
+    ensures { Finds site.now (rule_pop_operation site.now.image site.now.method site.now.place site.now.shape) (Goes_on Dropped) result }
 {
     let needs = [
         site.needs_entry(),
@@ -142,14 +145,14 @@ pub(crate) fn rule_pop_operation(site: &Site<'_>) -> Ruling
 
 /// An object is destroyed, and an operation is run.
 pub(crate) fn rule_pop_delete(site: &Site<'_>) -> Ruling
-    ensures { Tells site.now PopDelete result }
+    ensures { Finds site.now (rule_pop_delete site.now.image site.now.method site.now.place site.now.shape) (Goes_on Dropped) result }
 {
     let next = Next::of(site.shape).without_entry();
     judge(&[site.needs_entry()], site.on(next))
 }
 
 pub(crate) fn rule_leave(site: &Site<'_>, a: Register) -> Ruling
-    ensures { Tells site.now (Leave a) result }
+    ensures { Finds site.now (rule_leave site.now.image site.now.method site.now.place site.now.shape a) Ends result }
 {
     match judge_leave(site, site.needs_word(a), site.shape) {
         Ok(()) => Ok(Flow::none()),
@@ -159,7 +162,7 @@ pub(crate) fn rule_leave(site: &Site<'_>, a: Register) -> Ruling
 
 /// It leaves where the word is negative.
 pub(crate) fn rule_leave_if(site: &Site<'_>, a: Register) -> Ruling
-    ensures { Tells site.now (LeaveIf a) result }
+    ensures { Finds site.now (rule_leave site.now.image site.now.method site.now.place site.now.shape a) (Goes_on As_before) result }
 {
     match judge_leave(site, site.needs_word(a), site.shape) {
         Ok(()) => Ok(site.next(site.shape)),

@@ -1,13 +1,13 @@
 //! The rules of messages.
 ghost use Rattle.std.specs.Prelude.{◌≡◌, Some};
-ghost use Rattle.aom_image.specs.declared.method.Thing.TheVariants.{Message};
-ghost use Rattle.aom_instructions.specs.declared.instr.Instr.TheVariants.{Hand, Reply, TakeMessage};
 ghost use Rattle.aom_roles.specs.Kinds.{is_token_kind};
 ghost use Rattle.aom_roles.specs.Classes.{kind_at};
 ghost use Rattle.aom_roles.specs.Shapes.{kind_of};
-ghost use Rattle.aom_rules.specs.Messages.{after_hand, after_take_message};
+ghost use Rattle.aom_rules.specs.Finding.{Finds};
+ghost use Rattle.aom_rules.specs.Messages.{after_hand, after_take_message, rule_hand, rule_reply, rule_take_message};
 ghost use Rattle.aom_rules.specs.Requests.{own_kind};
-ghost use Rattle.aom_rules.specs.Rules.{Tells};
+ghost use Rattle.aom_rules.specs.Ways.{Goes_on, Handed, Holding, Taken_message};
+ghost use Rattle.aom_shape.specs.declared.kind.Kind.TheVariants.{Null};
 ghost use Rattle.aom_shape.specs.declared.why.Why.TheVariants.{RegisterKind};
 
 use crate::requests::{needs_added, needs_states};
@@ -28,7 +28,7 @@ fn with_message<'a>(site: &Site<'a>, a: Register) -> Shape<'a>
 }
 
 pub(crate) fn rule_take_message(site: &Site<'_>, a: Register) -> Ruling
-    ensures { Tells site.now (TakeMessage a) result }
+    ensures { Finds site.now (rule_take_message site.now.image site.now.method site.now.shape a) (Goes_on (Taken_message a)) result }
 {
     let needs = [
         site.needs_unowning(a),
@@ -39,7 +39,7 @@ pub(crate) fn rule_take_message(site: &Site<'_>, a: Register) -> Ruling
 }
 
 pub(crate) fn rule_reply(site: &Site<'_>, a: Register, b: Register) -> Ruling
-    ensures { Tells site.now (Reply a b) result }
+    ensures { Finds site.now (rule_reply site.now.image site.now.method site.now.shape a b) (Goes_on (Holding a Null)) result }
 {
     let needs = [site.needs_message(a), site.needs_word(b)];
     judge(&needs, site.next(&site.shape.with_register(a, Kind::Null)))
@@ -96,7 +96,7 @@ fn with_token<'a>(site: &Site<'a>, a: Register) -> Shape<'a>
 }
 
 pub(crate) fn rule_hand(site: &Site<'_>, a: Register) -> Ruling
-    ensures { Tells site.now (Hand a) result }
+    ensures { Finds site.now (rule_hand site.now.image site.now.method site.now.shape a) (Goes_on (Handed a)) result }
 {
     let needs = [
         site.needs_unowning(a),

@@ -1,11 +1,13 @@
 //! The rules of instructions on the native that serves the method's own object.
 ghost use Rattle.std.specs.Prelude.{◌≡◌, Some};
-ghost use Rattle.aom_instructions.specs.declared.instr.Instr.TheVariants.{Ask, Close, Connect};
 ghost use Rattle.aom_roles.specs.Kinds.{is_native_kind};
 ghost use Rattle.aom_roles.specs.Classes.{kind_at};
 ghost use Rattle.aom_roles.specs.Shapes.{kind_of};
+ghost use Rattle.aom_rules.specs.Finding.{Finds};
+ghost use Rattle.aom_rules.specs.Natives.{rule_ask, rule_close, rule_connect};
 ghost use Rattle.aom_rules.specs.Requests.{own_kind};
-ghost use Rattle.aom_rules.specs.Rules.{Tells};
+ghost use Rattle.aom_rules.specs.Ways.{As_before, Goes_on, Holding};
+ghost use Rattle.aom_shape.specs.declared.kind.Kind.TheVariants.{Word};
 ghost use Rattle.aom_shape.specs.declared.why.Why.TheVariants.{RegisterKind};
 
 use crate::requests::{needs_states, server_states};
@@ -57,14 +59,14 @@ fn needs_native_kind(site: &Site<'_>) -> (bool, Why)
 }
 
 pub(crate) fn rule_connect(site: &Site<'_>, a: Register) -> Ruling
-    ensures { Tells site.now (Connect a) result }
+    ensures { Finds site.now (rule_connect site.now.image site.now.method site.now.shape a) (Goes_on (Holding a Word)) result }
 {
     let needs = [needs_native_kind(site), site.needs_unowning(a)];
     judge(&needs, with_word(site, a))
 }
 
 pub(crate) fn rule_ask(site: &Site<'_>, a: Register, b: Register, c: Register) -> Ruling
-    ensures { Tells site.now (Ask a b c) result }
+    ensures { Finds site.now (rule_ask site.now.image site.now.method site.now.shape a b c) (Goes_on (Holding a Word)) result }
 {
     let needs = [
         site.needs_word(b),
@@ -76,7 +78,7 @@ pub(crate) fn rule_ask(site: &Site<'_>, a: Register, b: Register, c: Register) -
 }
 
 pub(crate) fn rule_close(site: &Site<'_>) -> Ruling
-    ensures { Tells site.now Close result }
+    ensures { Finds site.now (rule_close site.now.image site.now.method site.now.shape) (Goes_on As_before) result }
 {
     let needs = [
         needs_native_kind(site),

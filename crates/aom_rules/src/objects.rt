@@ -1,10 +1,12 @@
 //! The rules of instructions on objects.
 ghost use Rattle.std.specs.Prelude.{◌≡◌};
-ghost use Rattle.aom_instructions.specs.declared.instr.Instr.TheVariants.{Delete, JumpEmpty, JumpNull, Move, New, Put, Take};
-ghost use Rattle.aom_rules.specs.Objects.{new_age, flow_jump_null, flow_jump_empty};
-ghost use Rattle.aom_rules.specs.Rules.{Tells};
+ghost use Rattle.aom_image.specs.declared.method.Thing.TheVariants.{Object};
+ghost use Rattle.aom_rules.specs.Finding.{Finds};
+ghost use Rattle.aom_rules.specs.Objects.{flow_jump_empty, flow_jump_null, new_age, rule_delete, rule_jump_empty, rule_jump_null, rule_move, rule_new, rule_put, rule_take};
+ghost use Rattle.aom_rules.specs.Ways.{Branches_on_empty, Branches_on_null, Filled, Goes_on, Holding, Moved, Taken};
 ghost use Rattle.aom_shape.specs.Changes.{ways_from};
 ghost use Rattle.aom_shape.specs.Kinds.{register, field};
+ghost use Rattle.aom_shape.specs.declared.kind.Kind.TheVariants.{Maybe, Null};
 
 use crate::rules::Ruling;
 use aom_image::{ClassNumber, FieldIndex, InstrPlace, Register, Role, Thing};
@@ -12,7 +14,7 @@ use aom_shape::{Age, Filling, Flow, Kind, Why, judge};
 use aom_site::Site;
 
 pub(crate) fn rule_move(site: &Site<'_>, a: Register, b: Register) -> Ruling
-    ensures { Tells site.now (Move a b) result }
+    ensures { Finds site.now (rule_move site.now.image site.now.method site.now.place site.now.shape a b) (Goes_on (Moved a b)) result }
 {
     let needs = [site.needs_object_or_null(b), site.needs_unowning(a)];
     let next = site
@@ -39,7 +41,7 @@ fn flow_jump_null(site: &Site<'_>, a: Register, to: InstrPlace) -> Flow
 }
 
 pub(crate) fn rule_jump_null(site: &Site<'_>, a: Register, to: InstrPlace) -> Ruling
-    ensures { Tells site.now (JumpNull a to) result }
+    ensures { Finds site.now (rule_jump_null site.now.image site.now.method site.now.place site.now.shape a) (Branches_on_null a to) result }
 {
     judge(&[site.needs_object_or_null(a)], flow_jump_null(site, a, to))
 }
@@ -60,13 +62,13 @@ fn flow_jump_empty(site: &Site<'_>, f: FieldIndex, to: InstrPlace) -> Flow
 }
 
 pub(crate) fn rule_jump_empty(site: &Site<'_>, f: FieldIndex, to: InstrPlace) -> Ruling
-    ensures { Tells site.now (JumpEmpty f to) result }
+    ensures { Finds site.now (rule_jump_empty site.now.image site.now.method site.now.place site.now.shape f) (Branches_on_empty f to) result }
 {
     judge(&[site.needs_field(f)], flow_jump_empty(site, f, to))
 }
 
 pub(crate) fn rule_take(site: &Site<'_>, a: Register, f: FieldIndex) -> Ruling
-    ensures { Tells site.now (Take a f) result }
+    ensures { Finds site.now (rule_take site.now.image site.now.method site.now.place site.now.shape a f) (Goes_on (Taken a f)) result }
 {
     let needs = [site.needs_field(f), site.needs_unowning(a)];
     let taken = site.shape.field(f).kind(site.declared(f));
@@ -78,7 +80,7 @@ pub(crate) fn rule_take(site: &Site<'_>, a: Register, f: FieldIndex) -> Ruling
 }
 
 pub(crate) fn rule_put(site: &Site<'_>, f: FieldIndex, b: Register) -> Ruling
-    ensures { Tells site.now (Put f b) result }
+    ensures { Finds site.now (rule_put site.now.image site.now.method site.now.place site.now.shape f b) (Goes_on (Filled f b)) result }
 {
     let needs = [
         site.needs_declared(f, b),
@@ -104,7 +106,7 @@ pub(crate) fn new_age(site: &Site<'_>, class: ClassNumber) -> Age
 }
 
 pub(crate) fn rule_new(site: &Site<'_>, a: Register, class: ClassNumber) -> Ruling
-    ensures { Tells site.now (New a class) result }
+    ensures { Finds site.now (rule_new site.now.image site.now.method site.now.place site.now.shape a) (Goes_on (Holding a (Maybe (Object class) (new_age site.now.image class)))) result }
 {
     let needs = [site.needs_unowning(a), site.needs_loud()];
     let made = Kind::Maybe(Thing::Object(class), new_age(site, class));
@@ -112,7 +114,7 @@ pub(crate) fn rule_new(site: &Site<'_>, a: Register, class: ClassNumber) -> Ruli
 }
 
 pub(crate) fn rule_delete(site: &Site<'_>, a: Register) -> Ruling
-    ensures { Tells site.now (Delete a) result }
+    ensures { Finds site.now (rule_delete site.now.image site.now.method site.now.place site.now.shape a) (Goes_on (Holding a Null)) result }
 {
     let needs = [(site.shape.register(a).may_be_destroyed(), Why::RegisterKind)];
     judge(&needs, site.next(&site.shape.with_register(a, Kind::Null)))

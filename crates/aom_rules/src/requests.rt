@@ -1,13 +1,14 @@
 //! The rules of instructions on the request of the method's own object.
-ghost use Rattle.std.specs.Prelude.{◌≡◌, ◌++◌, ◌∷◌, [], ℤ, not, suc};
+ghost use Rattle.std.specs.Prelude.{◌≡◌, ◌++◌, ◌∷◌, [], not, suc};
 ghost use Rattle.aom_image.specs.Views.{has};
-ghost use Rattle.aom_instructions.specs.declared.instr.Instr.TheVariants.{Abort, Cancel, Enlist, Issue, JumpActive, JumpAdded, SetActive, Status};
 ghost use Rattle.aom_roles.specs.Kinds.{is_active_kind, is_issuing_kind, is_listed_kind};
-ghost use Rattle.aom_roles.specs.States.{active_states, server_states, unlisted};
-ghost use Rattle.aom_rules.specs.Requests.{enlisted, flow_narrowed, inactive, once_cancelled, outstanding, own_kind, resting};
-ghost use Rattle.aom_rules.specs.Rules.{Tells};
+ghost use Rattle.aom_roles.specs.States.{active, active_states, cancel_done, idle, issued, server_states, unlisted};
+ghost use Rattle.aom_rules.specs.Finding.{Finds};
+ghost use Rattle.aom_rules.specs.Requests.{enlisted, flow_narrowed, inactive, once_cancelled, outstanding, own_kind, resting, rule_abort, rule_cancel, rule_enlist, rule_issue, rule_jump_active, rule_jump_added, rule_set_active, rule_status};
+ghost use Rattle.aom_rules.specs.Ways.{Branches_in, Cancelled, Goes_on, Holding, Left_in};
 ghost use Rattle.aom_shape.specs.Changes.{ways_from};
 ghost use Rattle.aom_shape.specs.Needs.{to_next};
+ghost use Rattle.aom_shape.specs.declared.kind.Kind.TheVariants.{Word};
 ghost use Rattle.aom_shape.specs.declared.why.Why.TheVariants.{NotAdded, NotIdle, RegisterKind};
 
 use crate::messages::needs_token_kind;
@@ -138,21 +139,21 @@ fn branches_in(site: &Site<'_>, there: States, here: States, to: InstrPlace) -> 
 }
 
 pub(crate) fn rule_jump_active(site: &Site<'_>, to: InstrPlace) -> Ruling
-    ensures { Tells site.now (JumpActive to) result }
+    ensures { Finds site.now (rule_jump_active site.now.image site.now.method site.now.shape) (Branches_in outstanding inactive to) result }
 {
     let flow = branches_in(site, outstanding(), inactive(), to);
     judge(&[needs_active_kind(site)], flow)
 }
 
 pub(crate) fn rule_jump_added(site: &Site<'_>, to: InstrPlace) -> Ruling
-    ensures { Tells site.now (JumpAdded to) result }
+    ensures { Finds site.now (rule_jump_added site.now.image site.now.method site.now.shape) (Branches_in enlisted unlisted to) result }
 {
     let flow = branches_in(site, enlisted(), States::UNLISTED, to);
     judge(&[needs_listed_kind(site)], flow)
 }
 
 pub(crate) fn rule_enlist(site: &Site<'_>) -> Ruling
-    ensures { (priority : ℤ) → Tells site.now (Enlist priority) result }
+    ensures { Finds site.now (rule_enlist site.now.image site.now.method site.now.shape) (Goes_on (Left_in idle)) result }
 {
     let needs = [
         needs_listed_kind(site),
@@ -162,7 +163,7 @@ pub(crate) fn rule_enlist(site: &Site<'_>) -> Ruling
 }
 
 pub(crate) fn rule_issue(site: &Site<'_>, a: Register, b: Register) -> Ruling
-    ensures { Tells site.now (Issue a b) result }
+    ensures { Finds site.now (rule_issue site.now.image site.now.method site.now.shape a b) (Goes_on (Left_in issued)) result }
 {
     let needs = [
         site.needs_word(a),
@@ -175,14 +176,14 @@ pub(crate) fn rule_issue(site: &Site<'_>, a: Register, b: Register) -> Ruling
 }
 
 pub(crate) fn rule_set_active(site: &Site<'_>) -> Ruling
-    ensures { Tells site.now SetActive result }
+    ensures { Finds site.now (rule_set_active site.now.image site.now.method site.now.shape) (Goes_on (Left_in active)) result }
 {
     let needs = needs_active_in(site, States::ISSUED, Why::NotIssued);
     judge(&needs, left_in(site, States::ACTIVE))
 }
 
 pub(crate) fn rule_cancel(site: &Site<'_>) -> Ruling
-    ensures { Tells site.now Cancel result }
+    ensures { Finds site.now (rule_cancel site.now.image site.now.method site.now.shape) (Goes_on Cancelled) result }
 {
     let needs = needs_active_in(site, active_states(), Why::NotIdle);
     let states = once_cancelled(site.shape.states());
@@ -191,7 +192,7 @@ pub(crate) fn rule_cancel(site: &Site<'_>) -> Ruling
 }
 
 pub(crate) fn rule_abort(site: &Site<'_>) -> Ruling
-    ensures { Tells site.now Abort result }
+    ensures { Finds site.now (rule_abort site.now.image site.now.method site.now.shape) (Goes_on (Left_in cancel_done)) result }
 {
     let cancelling = States::OPEN.union(States::DONE);
     let needs = needs_active_in(site, cancelling, Why::EntryState);
@@ -199,7 +200,7 @@ pub(crate) fn rule_abort(site: &Site<'_>) -> Ruling
 }
 
 pub(crate) fn rule_status(site: &Site<'_>, a: Register) -> Ruling
-    ensures { Tells site.now (Status a) result }
+    ensures { Finds site.now (rule_status site.now.image site.now.method site.now.shape a) (Goes_on (Holding a Word)) result }
 {
     let needs = [needs_active_kind(site), site.needs_unowning(a)];
     judge(&needs, with_word(site, a))

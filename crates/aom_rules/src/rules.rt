@@ -1,9 +1,10 @@
 //! The rule of each instruction.
 ghost use Rattle.std.specs.Prelude.{◌≡◌, suc, ◌<◌, ◌^◌, IsSome, IfSome, Some, length};
 ghost use Rattle.aom_image.specs.Views.{instr_at, method_at};
+ghost use Rattle.aom_instructions.specs.Table.{action_of};
 ghost use Rattle.aom_site.specs.Calls.{HasCallee, HasCodeRegister};
 ghost use Rattle.aom_shape.specs.Changes.{told};
-ghost use Rattle.aom_rules.specs.Rules.{rule};
+ghost use Rattle.aom_rules.specs.Rules.{Tells, rule};
 
 use crate::cleanup::{
     rule_leave, rule_leave_if, rule_new_or_leave, rule_pop, rule_pop_delete, rule_pop_operation,
@@ -36,8 +37,8 @@ fn instr_at(linked: &Linked, method: MethodNumber, place: usize) -> Instr
     ensures value { instr_at linked.now method place ≡ Some result }
     ensures method { IsSome (method_at linked.now method) }
     ensures place { suc place < 2 ^ 64 }
-    ensures callee { HasCallee linked.now result }
-    ensures code { HasCodeRegister result }
+    ensures callee { HasCallee linked.now (action_of result) }
+    ensures code { HasCodeRegister (action_of result) }
 {
     let _formed = linked.image().methods();
     linked.method(method).code.as_slice()[place]
@@ -57,9 +58,9 @@ pub fn rule(linked: &Linked, method: MethodNumber, place: usize, shape: &Shape<'
 
 /// The rule of an instruction there.
 fn rule_of(site: &Site<'_>, instr: Instr) -> Ruling
-    requires callee { HasCallee site.now.image instr }
-    requires code { HasCodeRegister instr }
-    ensures { told site.now.shape.entries result ≡ rule site.now.image site.now.method site.now.place site.now.shape instr }
+    requires callee { HasCallee site.now.image (action_of instr) }
+    requires code { HasCodeRegister (action_of instr) }
+    ensures { Tells site.now instr result }
 {
     match instr {
         Instr::Const(a, _) => rule_const(site, a),

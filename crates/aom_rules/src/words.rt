@@ -1,9 +1,10 @@
 //! The rules of instructions on words, of jumps and of loops.
-ghost use Rattle.std.specs.Prelude.{◌≡◌, ℕ, ℤ};
-ghost use Rattle.aom_instructions.specs.declared.instr.Instr.TheVariants.{Add, Const, Copy, Jump, JumpEqual, Load, Loop, Next, Print, Stop, Store};
-ghost use Rattle.aom_rules.specs.Rules.{Tells};
-ghost use Rattle.aom_rules.specs.Words.{flow_word};
+ghost use Rattle.std.specs.Prelude.{◌≡◌, []};
+ghost use Rattle.aom_rules.specs.Finding.{Finds};
+ghost use Rattle.aom_rules.specs.Ways.{As_before, Branches, Goes_back, Goes_on, Goes_to, Holding};
+ghost use Rattle.aom_rules.specs.Words.{flow_word, rule_combine, rule_compare, rule_const, rule_copy, rule_load, rule_print, rule_store};
 ghost use Rattle.aom_shape.specs.Changes.{ways_from};
+ghost use Rattle.aom_shape.specs.declared.kind.Kind.TheVariants.{Word};
 
 use crate::rules::Ruling;
 use aom_image::{InstrPlace, Register, WordIndex};
@@ -18,13 +19,13 @@ pub(crate) fn with_word(site: &Site<'_>, a: Register) -> Flow
 }
 
 pub(crate) fn rule_const(site: &Site<'_>, a: Register) -> Ruling
-    ensures { (w : ℤ) → Tells site.now (Const a w) result }
+    ensures { Finds site.now (rule_const site.now.place site.now.shape a) (Goes_on (Holding a Word)) result }
 {
     judge(&[site.needs_unowning(a)], with_word(site, a))
 }
 
 pub(crate) fn rule_copy(site: &Site<'_>, a: Register, b: Register) -> Ruling
-    ensures { Tells site.now (Copy a b) result }
+    ensures { Finds site.now (rule_copy site.now.place site.now.shape a b) (Goes_on (Holding a Word)) result }
 {
     let needs = [site.needs_word(b), site.needs_unowning(a)];
     judge(&needs, with_word(site, a))
@@ -32,7 +33,7 @@ pub(crate) fn rule_copy(site: &Site<'_>, a: Register, b: Register) -> Ruling
 
 /// The rule of the six operations on two words.
 pub(crate) fn rule_combine(site: &Site<'_>, a: Register, b: Register, c: Register) -> Ruling
-    ensures { Tells site.now (Add a b c) result }
+    ensures { Finds site.now (rule_combine site.now.place site.now.shape a b c) (Goes_on (Holding a Word)) result }
 {
     let needs = [
         site.needs_word(b),
@@ -43,27 +44,27 @@ pub(crate) fn rule_combine(site: &Site<'_>, a: Register, b: Register, c: Registe
 }
 
 pub(crate) fn rule_jump(site: &Site<'_>, to: InstrPlace) -> Ruling
-    ensures { Tells site.now (Jump to) result }
+    ensures { Finds site.now [] (Goes_to to) result }
 {
     judge(&[], Flow::to(to.number() as usize, site.shape))
 }
 
 /// The rule of the two jumps that compare words.
 pub(crate) fn rule_compare(site: &Site<'_>, a: Register, b: Register, to: InstrPlace) -> Ruling
-    ensures { Tells site.now (JumpEqual a b to) result }
+    ensures { Finds site.now (rule_compare site.now.place site.now.shape a b) (Branches to) result }
 {
     let needs = [site.needs_word(a), site.needs_word(b)];
     judge(&needs, site.fork(site.shape, to, site.shape))
 }
 
 pub(crate) fn rule_loop(site: &Site<'_>) -> Ruling
-    ensures { (depth rounds : ℕ) → Tells site.now (Loop depth rounds) result }
+    ensures { Finds site.now [] (Goes_on As_before) result }
 {
     judge(&[], site.next(site.shape))
 }
 
 pub(crate) fn rule_next(site: &Site<'_>, to: InstrPlace) -> Ruling
-    ensures { (depth : ℕ) → Tells site.now (Next depth to) result }
+    ensures { Finds site.now [] (Goes_back to) result }
 {
     let to = to.number() as usize;
     let flow = Flow::to_either(to, site.shape, site.place + 1, site.shape);
@@ -71,27 +72,27 @@ pub(crate) fn rule_next(site: &Site<'_>, to: InstrPlace) -> Ruling
 }
 
 pub(crate) fn rule_print(site: &Site<'_>, a: Register) -> Ruling
-    ensures { Tells site.now (Print a) result }
+    ensures { Finds site.now (rule_print site.now.place site.now.shape a) (Goes_on As_before) result }
 {
     judge(&[site.needs_word(a)], site.next(site.shape))
 }
 
 pub(crate) fn rule_load(site: &Site<'_>, a: Register, w: WordIndex) -> Ruling
-    ensures { Tells site.now (Load a w) result }
+    ensures { Finds site.now (rule_load site.now.image site.now.method site.now.shape a w) (Goes_on (Holding a Word)) result }
 {
     let needs = [site.needs_word_of_object(w), site.needs_unowning(a)];
     judge(&needs, with_word(site, a))
 }
 
 pub(crate) fn rule_store(site: &Site<'_>, w: WordIndex, b: Register) -> Ruling
-    ensures { Tells site.now (Store w b) result }
+    ensures { Finds site.now (rule_store site.now.image site.now.method site.now.shape w b) (Goes_on As_before) result }
 {
     let needs = [site.needs_word_of_object(w), site.needs_word(b)];
     judge(&needs, site.next(site.shape))
 }
 
 pub(crate) fn rule_stop(site: &Site<'_>) -> Ruling
-    ensures { Tells site.now Stop result }
+    ensures { Finds site.now [] (Goes_on As_before) result }
 {
     judge(&[], site.next(site.shape))
 }

@@ -2,8 +2,9 @@
 use Rattle.std.specs.Prelude.{ℕ, zero, suc, ◌+◌, ◌≤◌, Bool, true, false, not, ◌&&◌, ◌==◌, nat_le, nat_lt, List, [], ◌∷◌, ◌++◌, length, replicate, IsSome, Option, Some, None}
 use Rattle.aom_image.specs.Image.{Image}
 use Rattle.aom_image.specs.Views.{arguments_of, fields_of, gives_of, has, is_quiet, leaves, method_at, method_class, method_role}
-use Rattle.aom_instructions.specs.declared.instr.Instr.{Instr}
-use Rattle.aom_instructions.specs.declared.instr.Instr.TheVariants.{Call, Trap, PushOperation}
+use Rattle.aom_instructions.specs.declared.action.Action.{Action}
+use Rattle.aom_instructions.specs.declared.action.Action.TheVariants as action
+use Rattle.aom_instructions.specs.declared.action.Manner.TheVariants.{Trapped}
 use Rattle.aom_instructions.specs.declared.instr.Target.{Target}
 use Rattle.aom_instructions.specs.declared.instr.Target.TheVariants.{This, Register, Field, Entry as On_entry}
 use Rattle.aom_image.specs.declared.method.Argument.{Argument}
@@ -19,7 +20,7 @@ use Rattle.aom_roles.specs.Tests.{only_if}
 use Rattle.aom_roles.specs.Roles.{is_cancel, is_construct, is_service}
 use Rattle.aom_roles.specs.Tables.{is_among}
 use Rattle.aom_classes.specs.Roles.{role_of}
-use Rattle.aom_roles.specs.Families.{parent_of, parent_by, parent_above, fields_above}
+use Rattle.aom_roles.specs.Families.{parent_of, parent_above, fields_above}
 use Rattle.aom_roles.specs.States.{active, cancel_done}
 use Rattle.aom_site.specs.Requests.{may_begin, resting, unissued}
 use Rattle.aom_roles.specs.Things.{Holder, Nobody, Program, Member, field_thing, stands_for, holder_of}
@@ -180,16 +181,15 @@ rule_given p m sh target m' d first =
     rule_target p m sh target m' d.class (is_construct (Some d.role)) first (length d.arguments)
     ++ rule_arguments p sh d.arguments first
 
--- the method that an instruction calls is one of the image
-abbrev pub HasCallee : Image → Instr → Type 0
-HasCallee p (Call target m' first c) = IsSome (method_at p m')
-HasCallee p (Trap target m' first c) = IsSome (method_at p m')
-HasCallee p (PushOperation a m') = IsSome (method_at p m')
+-- the method that is called or pushed is one of the image
+abbrev pub HasCallee : Image → Action → Type 0
+HasCallee p (action.Call manner target m' first c) = IsSome (method_at p m')
+HasCallee p (action.PushOperation a m') = IsSome (method_at p m')
 HasCallee p _ = Unit {0}
 
 -- a trap's code has a register after that of the result
-abbrev pub HasCodeRegister : Instr → Type 0
-HasCodeRegister (Trap target m' first c) = c ≤ 14
+abbrev pub HasCodeRegister : Action → Type 0
+HasCodeRegister (action.Call Trapped target m' first c) = c ≤ 14
 HasCodeRegister _ = Unit {0}
 
 module _ (p : Image) (m : ℕ) (pc : ℕ) (sh : Shape) where

@@ -1,9 +1,7 @@
 -- What rules say of request states, and in which states a method begins.
-use Rattle.std.specs.Prelude.{ℕ, Bool, true, false, not, Option, Some, None}
+use Rattle.std.specs.Prelude.{ℕ, Bool, true, not, Option, Some, None}
 use Rattle.aom_image.specs.Image.{Image}
 use Rattle.aom_image.specs.Views.{has, method_class, method_role}
-use Rattle.aom_image.specs.declared.method.Role.{Role}
-use Rattle.aom_image.specs.declared.method.Role.TheVariants.{Cancel, Construct, Service}
 use Rattle.aom_instructions.specs.declared.instr.Target.{Target}
 use Rattle.aom_instructions.specs.declared.instr.Target.TheVariants.{This, Register, Field, Entry as On_entry}
 use Rattle.aom_roles.specs.Tests.{only_if}

@@ -1,5 +1,4 @@
 -- What one pass finds is the price: what a place costs in the body of the innermost loop round it, and what follows that loop, add up to what is found there.
-use Rattle.std.proofs.lemmas.Bool.Decides.{nat_tests}
 use Rattle.std.proofs.Common.{◌≡◌, ◌<◌, ◌≤◌, ◌+◌, ◌-◌, ◌*◌, ◌∙◌, ℕ, zero, suc, Bool, true, false, cond, List, [], ◌∷◌, length, Some, None, inl, inr, ⊎_elim}
 use Rattle.std.proofs.Common.{refl, sym, ap, arith, subst}
 use Rattle.std.proofs.Math.Nat.{mul-le-mul_left}
@@ -27,7 +26,8 @@ use Rattle.aom_typings.proofs.Going.{ruled_of}
 use Rattle.aom_typings.proofs.At.{IsSweptAt, place_of}
 use Rattle.aom_typings.proofs.Paths.{GoesOn, Rounds, ends_or_goes, outside_cost, rounds_of}
 use Rattle.aom_typings.proofs.Regions.{by_kind, here_is_inside, innermost, innermost_first, innermost_of_body, innermost_of_next, innermost_on, innermost_out}
-use Rattle.aom_typings.proofs.Regions.{BeginsLoop, EndsRound, next_is_no_loop, no_next_here, no_way_back, one_end, out_of_both, past_is_outside}
+use Rattle.aom_instructions.specs.declared.transfer.Transfer.TheVariants.{Begin, Repeat}
+use Rattle.aom_typings.proofs.Regions.{BeginsLoop, EndsRound, begins_on, next_is_no_loop, repeats_costs, stands_as, there, no_next_here, no_way_back, one_end, out_of_both, past_is_outside}
 use Rattle.aom_typings.proofs.Ways.{IsReached, JumpsForward, led_to, way_of}
 use Rattle.aom_typings.proofs.Among.{by_flow, either_cond, either_max}
 use Rattle.aom_typings.proofs.Regions.{Past, passed}
@@ -128,7 +128,7 @@ module _ (p : Image) (t : Typing) (c : Prices) (a : Afters) (m : ℕ) (looped : 
       -- ---- a loop
       module _ (sh : Shape) (d n to : ℕ) (at : LoopStands p t m place sh d n) (some : 0 < n) (body : Body p m place to d n) where
         reached : IsReached t m (suc place)
-        reached = leads_on p t m typed place (suc place) sh _ at (inl refl)
+        reached = let i = there p t m place sh (Begin d n) at in leads_on p t m typed place (suc place) sh i.0 i.1 (begins_on p t m place sh i.0 d n i.2)
 
         round : Adds p t c a m (Round place to) (suc place)
         round = later (suc place) (Round place to) (omega arith) reached (innermost_of_body p looped m place to d n body)
@@ -198,17 +198,21 @@ module _ (p : Image) (t : Typing) (c : Prices) (a : Afters) (m : ℕ) (looped : 
       -- ---- the end of a round
       module _ (sh : Shape) (d from n : ℕ) (at : NextStands p t m place sh d (suc from)) (body : Body p m from place d n) where
         after_own : after a m r ≡ a m from
-        after_own = let own_body = innermost_of_next p looped m place d from n r at.instr body w in ap (λ x. after a m x) own_body.1
+        after_own = let own_body = innermost_of_next p looped m place d from n r at.goes body w in ap (λ x. after a m x) own_body.1
 
         next_adds : Adds p t c a m r place
         next_adds =
-            let none = next_is_no_loop _ d (suc from) refl in
+            let i = there p t m place sh (Repeat d (suc from)) at in
+            let none = next_is_no_loop i.0 d (suc from) i.2 in
             let found = (swept place).nexts d from sh at in
+            let one = repeats_costs p t m place sh c i.0 d (suc from) i.2 in
             record {
-              cost = 1;
-              met = ends w.inside at none;
-              sum = omega (arith, found, after_own);
-              most = grind (arith, no_next_here);
+              cost = own p m c sh i.0;
+              met = ends w.inside i.1 none;
+              sum = omega (arith, found, after_own, one);
+              most = λ k path. ⊎_elim (λ (stops : k ≡ own p m c sh i.0). omega (arith, stops))
+                  (λ (on : GoesOn p t c m r place k sh i.0). absurd (no_next_here i.0 d (suc from) on.plain i.2))
+                  (ends_or_goes p t c m r place k path sh i.0 i.1 none w.inside);
             }
 
       -- ---- any
@@ -216,12 +220,15 @@ module _ (p : Image) (t : Typing) (c : Prices) (a : Afters) (m : ℕ) (looped : 
       place_adds sh i at = by_kind (Adds p t c a m r place) i (λ l n. plain_adds sh i at l n) loop next
         where
           loop : (d n : ℕ) → BeginsLoop i d n → Adds p t c a m r place
-          loop d n e = grind (arith, nat_tests, looped.begins m place d n, loop_adds sh d n)
+          loop d n is =
+              let here = stands_as p t m place sh (Begin d n) i at is in
+              let b = looped.begins m place d n here.goes in
+              loop_adds sh d n b.1 here b.0 b.2
 
           next : (d to : ℕ) → EndsRound i d to → Adds p t c a m r place
-          next d to e =
-              let here = subst (λ j. Stands p t m place sh j) e at in
-              let closes = looped.closes m place d to here.instr in
+          next d to is =
+              let here = stands_as p t m place sh (Repeat d to) i at is in
+              let closes = looped.closes m place d to here.goes in
               next_adds sh d closes.0 closes.1 (subst (λ x. NextStands p t m place sh d x) closes.3 here) closes.2
 
     -- from the last place down

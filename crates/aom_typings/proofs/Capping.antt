@@ -1,6 +1,7 @@
 -- What one pass finds with each sum kept up to a limit is, up to the limit, what it finds with whole sums.
 use Rattle.std.proofs.lemmas.Bool.Decides.{nat_tests}
-use Rattle.std.proofs.Common.{◌≡◌, ◌<◌, ◌≤◌, ◌∙◌, ℕ, zero, suc, length, Some, None, inl, ⊎_elim, refl, sym, ap, arith, subst}
+use Rattle.std.proofs.Common.{◌≡◌, ◌<◌, ◌≤◌, ◌∙◌, ℕ, zero, suc, length, Some, None, ⊎_elim, refl, sym, ap, arith, subst}
+use Rattle.aom_typings.proofs.ImageLemmas.{transfer_there}
 use Rattle.aom_typings.proofs.ImageLemmas.{some_given}
 use Rattle.std.specs.Prelude.{IsSome, max, min}
 use Rattle.std.proofs.lemmas.Bool.{cases_lt}
@@ -25,7 +26,8 @@ use Rattle.aom_typings.proofs.Going.{going_alike}
 use Rattle.aom_typings.proofs.Making.{Found, are_prices, found_prices}
 use Rattle.aom_typings.proofs.Methods.{destructs_within}
 use Rattle.aom_typings.proofs.Typings.{method_within, within_method}
-use Rattle.aom_typings.proofs.Regions.{BeginsLoop, EndsRound, by_kind, ends_after, innermost}
+use Rattle.aom_instructions.specs.declared.transfer.Transfer.TheVariants.{Begin, Repeat}
+use Rattle.aom_typings.proofs.Regions.{BeginsLoop, EndsRound, begins_on, by_kind, ends_after, innermost, stands_as}
 use Rattle.aom_typings.proofs.Related.{most_related, own_related}
 use Rattle.aom_typings.proofs.Ways.{IsReached, JumpsForward}
 use Rattle.aom_typings.proofs.Among.{each_below}
@@ -99,10 +101,10 @@ module _ (limit : ℕ) (p : Image) (t : Typing) (looped : IsLooped p) (typed : I
 
           loop : (d n : ℕ) → BeginsLoop i d n → Alike limit (c.from m k) (e.from m k)
           loop d n same =
-              let here = subst (λ j. Stands p t m k sh j) same at in
-              let begins = looped.begins m k d n here.instr in
+              let here = stands_as p t m k sh (Begin d n) i at same in
+              let begins = looped.begins m k d n here.goes in
               let body = begins.2 in
-              let next = leads_on p t m typed k (suc k) sh _ here (inl refl) in
+              let next = leads_on p t m typed k (suc k) sh i at (begins_on p t m k sh i d n same) in
               let some = reached_is_some t m (suc k) next in
               let one = (place_of (λ n. min limit n) p t c a capped m k).loops d n sh here in
               let other = (place_of (λ n. n) p t e b whole m k).loops d n sh here in
@@ -114,8 +116,8 @@ module _ (limit : ℕ) (p : Image) (t : Typing) (looped : IsLooped p) (typed : I
 
           next : (d to : ℕ) → EndsRound i d to → Alike limit (c.from m k) (e.from m k)
           next d to same =
-              let here = subst (λ j. Stands p t m k sh j) same at in
-              let closes = looped.closes m k d to here.instr in
+              let here = stands_as p t m k sh (Repeat d to) i at same in
+              let closes = looped.closes m k d to here.goes in
               let there = subst (λ x. NextStands p t m k sh d x) closes.3 here in
               let one = (place_of (λ n. min limit n) p t c a capped m k).nexts d closes.0 sh there in
               let other = (place_of (λ n. n) p t e b whole m k).nexts d closes.0 sh there in
@@ -140,7 +142,7 @@ module _ (limit : ℕ) (p : Image) (t : Typing) (looped : IsLooped p) (typed : I
     agrees_from : (count : ℕ) → ((place : ℕ) (i : Instr) → instr_at p m place ≡ Some i → place < count) → Agrees 0
     agrees_from count within = agrees_down count (record {
       from = λ place le reached. let passes = typed.each m place reached.0 reached.1 in absurd (omega (arith, le, within place passes.instr passes.stands));
-      after = λ from to d n le body. absurd (omega (arith, le, within to _ body.ends));
+      after = λ from to d n le body. let next = transfer_there (instr_at p m to) _ body.ends in absurd (omega (arith, le, within to next.0 next.1));
     })
 
   -- ---- the methods
@@ -174,10 +176,13 @@ module _ (limit : ℕ) (p : Image) (t : Typing) (looped : IsLooped p) (typed : I
           plain l n = let region = innermost p looped m 0 in kept _ _ ((place_of (λ n. min limit n) p t c a capped m 0).plain sh _ region.0 at l n region.1)
 
           loop : (d n : ℕ) → BeginsLoop passes.instr d n → price c m ≤ limit
-          loop d n same = kept _ _ ((place_of (λ n. min limit n) p t c a capped m 0).loops d n sh (subst (λ j. Stands p t m 0 sh j) same at))
+          loop d n same = kept _ _ ((place_of (λ n. min limit n) p t c a capped m 0).loops d n sh (stands_as p t m 0 sh (Begin d n) passes.instr at same))
 
           next : (d to : ℕ) → EndsRound passes.instr d to → price c m ≤ limit
-          next d to same = grind (arith, nat_tests, kept, place_of)
+          next d to same =
+              let here = stands_as p t m 0 sh (Repeat d to) passes.instr at same in
+              let closes = looped.closes m 0 d to here.goes in
+              absurd (omega (arith, closes.2.later))
 
 -- ---- the law
 

@@ -27,6 +27,7 @@ mod Within
 pub mod TypingsLemmas
 pub use Rattle.aom_classes.proofs.ClassesLemmas
 pub use Rattle.aom_image.proofs.ImageLemmas
+pub use Rattle.aom_instructions.proofs.InstructionsLemmas
 pub use Rattle.aom_roles.proofs.RolesLemmas
 pub use Rattle.aom_rules.proofs.RulesLemmas
 pub use Rattle.aom_shape.proofs.ShapeLemmas

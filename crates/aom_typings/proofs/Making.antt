@@ -32,7 +32,7 @@ use Rattle.aom_typings.proofs.Moving.{AreSameFrom, most_same, own_same, swept_sa
 use Rattle.aom_typings.proofs.Places.{loop_there, next_there, nothing_there, pays_after, plain_there}
 use Rattle.aom_typings.proofs.Outs.{body_out, exit_most}
 use Rattle.aom_typings.proofs.Paying.{law_pays}
-use Rattle.aom_typings.proofs.Regions.{BeginsLoop, EndsRound, LoopIn, NextIn, by_kind, innermost, innermost_of_body, one_end, one_innermost}
+use Rattle.aom_typings.proofs.Regions.{BeginsLoop, EndsRound, LoopIn, NextIn, by_kind, innermost, innermost_of_body, one_end, one_innermost, stands_so}
 use Rattle.aom_typings.proofs.Among.{below_next, either_max}
 use Rattle.aom_typings.proofs.ImageLemmas.{none_given, some_given}
 use Rattle.aom_typings.specs.Costs.{GoesOut}
@@ -220,7 +220,9 @@ module _ (p : Image) (t : Typing) (looped : IsLooped p) (typed : IsTyped p t) (l
 
       next_loops : (f to e l : ℕ) → k < to → Body p m f to e l → afters m f ≡ w.after m f
       unfolding afters
-      next_loops f to e l lt other = grind (arith, nat_tests, set_place, from, follow, one_end)
+      next_loops f to e l lt other = set_place w.after m from follow m f (λ same.
+          let ends = one_end p looped m from k to d n e l body (subst (λ x. Body p m x to e l) same other) in
+          omega (arith, lt, ends))
 
       abbrev table : Prices
       table = new (1 + follow) 0 afters next_others next_loops
@@ -263,11 +265,11 @@ module _ (p : Image) (t : Typing) (looped : IsLooped p) (typed : IsTyped p t) (l
         plain l n = grind (arith, nat_tests, at_unreached i there l n, at_plain i there l n)
 
         loop : (d n : ℕ) → BeginsLoop i d n → Made p t m k
-        loop d n e = at_loop d n (there ∙ ap (λ x. Some x) e)
+        loop d n e = at_loop d n (stands_so _ i _ there e)
 
         next : (d to : ℕ) → EndsRound i d to → Made p t m k
         next d to e =
-            let here = there ∙ ap (λ x. Some x) e in
+            let here = stands_so _ i _ there e in
             let closes = looped.closes m k d to here in
             at_next d closes.0 closes.1 (subst (λ x. NextIn (instr_at p m k) d x) closes.3 here) closes.2
 

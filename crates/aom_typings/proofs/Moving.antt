@@ -86,7 +86,7 @@ module _ (keep : ℕ → ℕ) (p : Image) (t : Typing) (c c' : Prices) (a a' : A
         let next = same.from (suc place) (omega arith) in
         same.from place (omega arith) ∙ (swept.loops d n sh at ∙ ap keep (omega (arith, rounds, next)));
     nexts = λ d from sh at.
-        let closes = looped.closes m place d (suc from) at.instr in
+        let closes = looped.closes m place d (suc from) at.goes in
         let one : closes.0 ≡ from = omega (arith, closes.3) in
         let follows = same.after closes.0 place d closes.1 (omega arith) closes.2 in
         let named = subst (λ x. a' m x ≡ a m x) one follows in

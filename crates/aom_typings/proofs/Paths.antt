@@ -1,17 +1,21 @@
 -- What the paths from a place cost, by the instruction that stands there.
 use Rattle.std.proofs.lemmas.Option.{same_Some}
-use Rattle.std.proofs.Common.{⊎_elim, ◌≡◌, ◌+◌, ◌*◌, ◌∙◌, ℕ, suc, Some, None, inl, inr, refl, sym, arith}
+use Rattle.std.proofs.Common.{⊎_elim, subst, ap, ◌≡◌, ◌+◌, ◌*◌, ◌∙◌, ℕ, suc, Some, None, inl, inr, refl, sym, arith}
 use Rattle.std.specs.Prelude.{◌⊎◌}
 use Rattle.aom_image.specs.Image.{Image}
 use Rattle.aom_instructions.specs.declared.instr.Instr.{Instr}
-use Rattle.aom_instructions.specs.declared.instr.Instr.TheVariants.{Loop}
+use Rattle.aom_image.specs.Views.{instr_at, transfer_in}
+use Rattle.aom_instructions.specs.Table.{transfer_of}
+use Rattle.aom_instructions.specs.declared.transfer.Transfer.{Transfer}
+use Rattle.aom_instructions.specs.declared.transfer.Transfer.TheVariants.{Begin}
 use Rattle.aom_classes.specs.Bodies.{Body}
-use Rattle.aom_classes.specs.Loops.{loop_in, next_in}
+use Rattle.aom_classes.specs.Loops.{begun_by, loop_in, next_in}
 use Rattle.aom_rules.specs.Rules.{flows}
 use Rattle.aom_shape.specs.Shape.{Shape}
 use Rattle.aom_rules.specs.Typing.{Typing}
-use Rattle.aom_typings.specs.Prices.{Prices, Stands, own}
+use Rattle.aom_typings.specs.Prices.{LoopStands, Prices, Stands, own}
 use Rattle.aom_typings.specs.Costs.{AmongFlows, Costs, GoesOut, Inside, Region, Round}
+use Rattle.aom_typings.proofs.ImageLemmas.{transfer_there}
 use Rattle.aom_typings.specs.Costs.Costs.{outside, ends, goes, loops, loops_in}
 
 module _ (p : Image) (t : Typing) (c : Prices) (m : ℕ) where
@@ -38,19 +42,32 @@ module _ (p : Image) (t : Typing) (c : Prices) (m : ℕ) where
     pub rest : (k ≡ 1 + n * round) ⊎ ((out : ℕ) × (e : ℕ) × GoesOut p t m place to out × Costs p t c m r out e × (k ≡ 1 + n * round + e))
 
   -- from a loop all its rounds, and from another instruction it ends or goes on
+  abbrev StepsBy : Region → (place k : ℕ) → Shape → Instr → Transfer → Type 0
+  StepsBy r place k sh i (Begin d n) = Rounds r place k d n
+  StepsBy r place k sh i _ = (k ≡ own p m c sh i) ⊎ GoesOn r place k sh i
+
   abbrev Steps : Region → (place k : ℕ) → Shape → Instr → Type 0
-  Steps r place k sh (Loop d n) = Rounds r place k d n
-  Steps r place k sh i = (k ≡ own p m c sh i) ⊎ GoesOn r place k sh i
+  Steps r place k sh i = StepsBy r place k sh i (transfer_of i)
+
+  steps_by : (r : Region) (place k : ℕ) (sh : Shape) (i : Instr) (u : Transfer) → begun_by (Some u) ≡ None →
+      (((k ≡ own p m c sh i) ⊎ GoesOn r place k sh i) → StepsBy r place k sh i u) × (StepsBy r place k sh i u → (k ≡ own p m c sh i) ⊎ GoesOn r place k sh i)
+  steps_by r place k sh i u none = grind arith
 
   plain_steps : (r : Region) (place k : ℕ) (sh : Shape) (i : Instr) → loop_in (Some i) ≡ None →
       (((k ≡ own p m c sh i) ⊎ GoesOn r place k sh i) → Steps r place k sh i) × (Steps r place k sh i → (k ≡ own p m c sh i) ⊎ GoesOn r place k sh i)
   unfolding loop_in
-  plain_steps r place k sh i none = grind arith
+  plain_steps r place k sh i none = steps_by r place k sh i (transfer_of i) none
 
   -- one thing alone stands there
   stepped : (r : Region) (place k : ℕ) (sh sh' : Shape) (i i' : Instr) → Stands p t m place sh i → Stands p t m place sh' i' →
       Steps r place k sh i → Steps r place k sh' i'
   stepped r place k sh sh' i i' a b s = grind arith
+
+  all_stepped : (r : Region) (place k d n : ℕ) (sh sh' : Shape) (i : Instr) → LoopStands p t m place sh d n → Stands p t m place sh' i →
+      Rounds r place k d n → Steps r place k sh' i
+  all_stepped r place k d n sh sh' i a b all =
+      let same : Begin d n ≡ transfer_of i = same_Some _ _ (sym a.goes ∙ ap transfer_in b.instr) in
+      subst (λ u. StepsBy r place k sh' i u) same all
 
   -- a path begins outside, or takes a step
   begins : (r : Region) (place k : ℕ) → Costs p t c m r place k →
@@ -62,10 +79,10 @@ module _ (p : Image) (t : Typing) (c : Prices) (m : ℕ) where
       inr (inside, λ sh' i' at. stepped r place k sh sh' i i' it at ((plain_steps r place k sh i none).0 (inr on)))
   begins r place k (loops {to = to} {d = d} {rounds = n} {b = b} {e = e} {out = out} {sh = sh} inside it body round goes_out rest) =
       let all : Rounds r place _ d n = record { to = to; body = body; round = b; path = round; rest = inr (out, e, goes_out, rest, refl) } in
-      inr (inside, λ sh' i' at. stepped r place k sh sh' (Loop d n) i' it at all)
+      inr (inside, λ sh' i' at. all_stepped r place k d n sh sh' i' it at all)
   begins r place k (loops_in {to = to} {d = d} {rounds = n} {b = b} {sh = sh} inside it body round) =
       let all : Rounds r place _ d n = record { to = to; body = body; round = b; path = round; rest = inl refl } in
-      inr (inside, λ sh' i' at. stepped r place k sh sh' (Loop d n) i' it at all)
+      inr (inside, λ sh' i' at. all_stepped r place k d n sh sh' i' it at all)
 
   -- a path from a place outside costs nothing
   pub outside_cost : (r : Region) (place k : ℕ) → Costs p t c m r place k → (Inside r place → ⊥) → k ≡ 0
@@ -78,6 +95,9 @@ module _ (p : Image) (t : Typing) (c : Prices) (m : ℕ) where
       Inside r place → (k ≡ own p m c sh i) ⊎ GoesOn r place k sh i
   ends_or_goes r place k path sh i at none inside = (plain_steps r place k sh i none).1 (first_step r place k path sh i at inside)
 
-  pub rounds_of : (r : Region) (place k : ℕ) → Costs p t c m r place k → (sh : Shape) (d n : ℕ) → Stands p t m place sh (Loop d n) →
+  pub rounds_of : (r : Region) (place k : ℕ) → Costs p t c m r place k → (sh : Shape) (d n : ℕ) → LoopStands p t m place sh d n →
       Inside r place → Rounds r place k d n
-  rounds_of r place k path sh d n at inside = first_step r place k path sh (Loop d n) at inside
+  rounds_of r place k path sh d n at inside =
+      let w = transfer_there (instr_at p m place) (Begin d n) at.goes in
+      let step = first_step r place k path sh w.0 (record { shape = at.shape; instr = w.1 }) inside in
+      subst (λ u. StepsBy r place k sh w.0 u) w.2 step

@@ -1,5 +1,4 @@
 -- What one pass finds pays for each move.
-use Rattle.std.proofs.lemmas.Bool.Decides.{nat_tests}
 use Rattle.std.proofs.Common.{◌≡◌, ◌≤◌, ◌+◌, ℕ, suc, true, List, [], ◌∷◌, Some, None, inl, inr, refl, ap, arith, subst}
 use Rattle.aom_image.specs.Image.{Image}
 use Rattle.aom_image.specs.WellFormed.{WellFormed}
@@ -23,7 +22,8 @@ use Rattle.aom_typings.specs.Sweeping.{Afters, IsInnermost, IsSwept, after, is_p
 use Rattle.aom_typings.proofs.At.{place_of}
 use Rattle.aom_typings.proofs.Going.{by_rule, ruled_of}
 use Rattle.aom_typings.proofs.Adding.{by_past, leads_on, reached_is_some, within_most}
-use Rattle.aom_typings.proofs.Regions.{BeginsLoop, EndsRound, by_kind, innermost}
+use Rattle.aom_instructions.specs.declared.transfer.Transfer.TheVariants.{Begin, Repeat}
+use Rattle.aom_typings.proofs.Regions.{BeginsLoop, EndsRound, begins_costs, by_kind, innermost, repeats_at, repeats_costs, repeats_on, stands_as, there}
 use Rattle.aom_typings.proofs.Ways.{IsReached}
 use Rattle.aom_typings.proofs.Regions.{Past, passed}
 use Rattle.aom_typings.proofs.Regions.Past.{past_end}
@@ -65,21 +65,31 @@ module _ (p : Image) (t : Typing) (c : Prices) (a : Afters) (looped : IsLooped p
   -- a next and its loop
   module _ (m place d to : ℕ) (sh : Shape) (at : NextStands p t m place sh d to) where
     closing : (from : ℕ) × (n : ℕ) × Body p m from place d n × (to ≡ suc from)
-    closing = looped.closes m place d to at.instr
+    closing = looped.closes m place d to at.goes
 
     found : c.from m place ≡ 1 + a m closing.0
     found = (place_of (λ n. n) p t c a swept m place).nexts d closing.0 sh (subst (λ x. NextStands p t m place sh d x) closing.3 at)
 
     on_paid : 1 + c.from m (suc place) ≤ c.from m place
     on_paid =
+        let i = there p t m place sh (Repeat d to) at in
         let round_it = innermost p looped m closing.0 in
         let out = ((place_of (λ n. n) p t c a swept m place).afters closing.0 d closing.1 round_it.0 closing.2 round_it.1).out (suc place)
-        (record { place = place; inside = (closing.2.later, omega arith); shape = sh; instr = _; stands = at; flow = inr (inl refl); outside = omega arith }) in
+        (record {
+          place = place;
+          inside = (closing.2.later, omega arith);
+          shape = sh;
+          instr = i.0;
+          stands = i.1;
+          flow = repeats_on p t m place sh i.0 d to i.2;
+          outside = omega arith;
+        }) in
         omega (arith, found, out)
 
     round_paid : 1 + c.from m to ≤ c.from m place + c.round m closing.0
     round_paid =
-        let reached = leads_on p t m typed place to sh _ at (inl refl) in
+        let i = there p t m place sh (Repeat d to) at in
+        let reached = leads_on p t m typed place to sh i.0 i.1 (repeats_at p t m place sh i.0 d to i.2) in
         let there = subst (λ x. IsReached t m x) closing.3 reached in
         let round = (place_of (λ n. n) p t c a swept m closing.0).rounds place d closing.1 closing.2 (reached_is_some t m (suc closing.0) there) in
         let e = ap (λ x. c.from m x) closing.3 in
@@ -99,13 +109,12 @@ module _ (p : Image) (t : Typing) (c : Prices) (a : Afters) (looped : IsLooped p
       plain l n = let w = innermost p looped m place in omega (arith, (place_of (λ n. n) p t c a swept m place).plain sh i w.0 at l n w.1)
 
       loop : (d n : ℕ) → BeginsLoop i d n → own p m c sh i ≤ c.from m place
-      loop d n e =
-          let found = (place_of (λ n. n) p t c a swept m place).loops d n sh (subst (λ j. Stands p t m place sh j) e at) in
-          let one = ap (λ j. own p m c sh j) e in
-          omega (arith, found, one)
+      loop d n is =
+          let found = (place_of (λ n. n) p t c a swept m place).loops d n sh (stands_as p t m place sh (Begin d n) i at is) in
+          omega (arith, found, begins_costs p t m place sh c i d n is)
 
       next : (d to : ℕ) → EndsRound i d to → own p m c sh i ≤ c.from m place
-      next d to e = grind (arith, nat_tests, on_paid m place d to sh)
+      next d to is = omega (arith, on_paid m place d to sh (stands_as p t m place sh (Repeat d to) i at is), repeats_costs p t m place sh c i d to is)
 
   ruled : (x : Thing) → c.destruction x ≡ most_standing p (by_rule p c) x
   ruled = ruled_of p formed linked c swept.classes

@@ -1,18 +1,24 @@
 -- How paths stay in the body of the innermost loop, and how they leave it: from what linking promises of loops and jumps.
 use Rattle.std.proofs.lemmas.Bool.Decides.{nat_tests}
-use Rattle.std.proofs.lemmas.Option.{same_Some}
 use Rattle.std.proofs.Common.{◌≡◌, ◌<◌, ◌≤◌, ◌∙◌, ℕ, zero, suc, true, false, Option, Some, None, inl, inr, ⊎_elim, refl, sym, ap, arith, subst}
 use Rattle.std.specs.Prelude.{◌⊎◌}
 use Rattle.std.proofs.lemmas.Bool.{cases_lt, ltb-true, ltb-false}
 use Rattle.aom_image.specs.Image.{Image}
-use Rattle.aom_image.specs.Views.{instr_at}
+use Rattle.aom_image.specs.Views.{instr_at, transfer_at, transfer_in}
 use Rattle.aom_instructions.specs.declared.instr.Instr.{Instr}
-use Rattle.aom_instructions.specs.declared.instr.Instr.TheVariants.{Loop, Next}
+use Rattle.aom_instructions.specs.Table.{transfer_of}
+use Rattle.aom_instructions.specs.declared.transfer.Transfer.{Transfer}
+use Rattle.aom_instructions.specs.declared.transfer.Transfer.TheVariants.{Begin, Repeat}
 use Rattle.aom_classes.specs.Bodies.{Body, IsIn, IsLooped}
-use Rattle.aom_classes.specs.Jumps.{back_of, jump_of}
-use Rattle.aom_classes.specs.Loops.{loop_in, next_in}
+use Rattle.aom_classes.specs.Jumps.{back_of, jump_of, jumped, repeated}
+use Rattle.aom_classes.specs.Loops.{begun_by, loop_in, next_in, repeated_by}
+use Rattle.aom_shape.specs.Shape.{Shape}
+use Rattle.aom_rules.specs.Rules.{flows}
 use Rattle.aom_rules.specs.Typing.{Typing}
-use Rattle.aom_typings.specs.Costs.{GoesOut, Inside, Region, Round, Whole}
+use Rattle.aom_typings.specs.Costs.{AmongFlows, GoesOut, Inside, Region, Round, Whole}
+use Rattle.aom_typings.specs.Prices.{Prices, Stands, StandsAs, own}
+use Rattle.aom_typings.proofs.ImageLemmas.{transfer_there}
+use Rattle.aom_typings.proofs.InstructionsLemmas.{loop_is, next_is}
 use Rattle.aom_typings.specs.Sweeping.{BeginsBefore, IsInnermost, is_past}
 use Rattle.aom_typings.proofs.Ways.{Way, way_of}
 use Rattle.aom_typings.proofs.Ways.Way.{back, jump, on}
@@ -21,62 +27,99 @@ use Rattle.aom_typings.proofs.Ways.Way.{back, jump, on}
 
 -- an instruction begins a loop of that number with so many rounds, or ends a round of that number and goes back there
 abbrev pub BeginsLoop : Instr → (number rounds : ℕ) → Type 0
-BeginsLoop i d n = i ≡ Loop d n
+BeginsLoop i d n = transfer_of i ≡ Begin d n
 
 abbrev pub EndsRound : Instr → (number back : ℕ) → Type 0
-EndsRound i d to = i ≡ Next d to
+EndsRound i d to = transfer_of i ≡ Repeat d to
 
 -- so the instruction does that stands somewhere
 abbrev pub LoopIn : Option Instr → (number rounds : ℕ) → Type 0
-LoopIn o d n = o ≡ Some (Loop d n)
+LoopIn o d n = transfer_in o ≡ Some (Begin d n)
 
 abbrev pub NextIn : Option Instr → (number back : ℕ) → Type 0
-NextIn o d to = o ≡ Some (Next d to)
+NextIn o d to = transfer_in o ≡ Some (Repeat d to)
 
--- it does one of the two, or neither
+pub stands_so : (o : Option Instr) (i : Instr) (t : Transfer) → o ≡ Some i → transfer_of i ≡ t → transfer_in o ≡ Some t
+stands_so o i t at is = ap transfer_in at ∙ ap (λ u. Some u) is
+
+-- the instruction of a transfer, and the other way round
+module _ (p : Image) (t : Typing) (m place : ℕ) (sh : Shape) where
+  pub there : (u : Transfer) → StandsAs p t m place sh u → (i : Instr) × Stands p t m place sh i × (transfer_of i ≡ u)
+  there u at = let w = transfer_there (instr_at p m place) u at.goes in (w.0, record { shape = at.shape; instr = w.1 }, w.2)
+
+  pub stands_as : (u : Transfer) (i : Instr) → Stands p t m place sh i → transfer_of i ≡ u → StandsAs p t m place sh u
+  stands_as u i at is = record { shape = at.shape; goes = stands_so (instr_at p m place) i u at.instr is }
+
+  -- a loop goes on at its body, and a next where it goes back to or at the next place
+  pub begins_on : (i : Instr) (d n : ℕ) → BeginsLoop i d n → AmongFlows (suc place) (flows p m place sh i)
+  begins_on i d n is = subst (λ j. AmongFlows (suc place) (flows p m place sh j)) (sym (loop_is i d n is)) (inl refl)
+
+  pub repeats_at : (i : Instr) (d to : ℕ) → EndsRound i d to → AmongFlows to (flows p m place sh i)
+  repeats_at i d to is = subst (λ j. AmongFlows to (flows p m place sh j)) (sym (next_is i d to is)) (inl refl)
+
+  pub repeats_on : (i : Instr) (d to : ℕ) → EndsRound i d to → AmongFlows (suc place) (flows p m place sh i)
+  repeats_on i d to is = subst (λ j. AmongFlows (suc place) (flows p m place sh j)) (sym (next_is i d to is)) (inr (inl refl))
+
+  -- both cost a step
+  pub begins_costs : (c : Prices) (i : Instr) (d n : ℕ) → BeginsLoop i d n → own p m c sh i ≡ 1
+  begins_costs c i d n is = ap (λ j. own p m c sh j) (loop_is i d n is)
+
+  pub repeats_costs : (c : Prices) (i : Instr) (d to : ℕ) → EndsRound i d to → own p m c sh i ≡ 1
+  repeats_costs c i d to is = ap (λ j. own p m c sh j) (next_is i d to is)
+
+-- an instruction does one of the two, or neither
+by_transfer : (P : Type 0) (i : Instr) (t : Transfer) → transfer_of i ≡ t → (loop_in (Some i) ≡ None → next_in (Some i) ≡ None → P) →
+    ((d n : ℕ) → BeginsLoop i d n → P) → ((d to : ℕ) → EndsRound i d to → P) → P
+unfolding loop_in next_in
+by_transfer P i (Begin d n) is plain loop next = loop d n is
+by_transfer P i (Repeat d to) is plain loop next = next d to is
+by_transfer P i t is plain loop next = plain (ap (λ u. begun_by (Some u)) is) (ap (λ u. repeated_by (Some u)) is)
+
 pub by_kind : (P : Type 0) (i : Instr) → (loop_in (Some i) ≡ None → next_in (Some i) ≡ None → P) → ((d n : ℕ) → BeginsLoop i d n → P) →
     ((d to : ℕ) → EndsRound i d to → P) → P
-unfolding loop_in next_in
-by_kind P (Loop d n) plain loop next = loop d n refl
-by_kind P (Next d to) plain loop next = next d to refl
-by_kind P i plain loop next = plain refl refl
+by_kind P i plain loop next = by_transfer P i (transfer_of i) refl plain loop next
 
-goes_back : (i : Instr) (to : ℕ) → back_of i ≡ Some to → (d : ℕ) × (i ≡ Next d to)
+goes_back : (i : Instr) (to : ℕ) → back_of i ≡ Some to → (d : ℕ) × EndsRound i d to
 unfolding back_of
-goes_back i to e = grind arith
+goes_back i to e = back (transfer_of i) e
+  where
+    back : (t : Transfer) → repeated t ≡ Some to → (d : ℕ) × (t ≡ Repeat d to)
+    back t e = grind arith
 
 -- a loop goes on at its body
-loop_way : (place d n to : ℕ) → Way place (Loop d n) to → to ≡ suc place
+loop_way : (place d n to : ℕ) (i : Instr) → BeginsLoop i d n → Way place i to → to ≡ suc place
 unfolding jump_of back_of
-loop_way place d n to x = grind arith
+loop_way place d n _ i is on = refl
+loop_way place d n to i is (jump j) = let clash : None ≡ Some to = sym (ap jumped is) ∙ j in cc
+loop_way place d n to i is (back b) = let clash : None ≡ Some to = sym (ap repeated is) ∙ b in cc
 
-pub no_loop_here : (i : Instr) (d n : ℕ) → loop_in (Some i) ≡ None → i ≡ Loop d n → ⊥
+pub no_loop_here : (i : Instr) (d n : ℕ) → loop_in (Some i) ≡ None → BeginsLoop i d n → ⊥
 unfolding loop_in
-no_loop_here i d n none e = let clash : Some d ≡ None = sym (ap (λ x. loop_in (Some x)) e) ∙ none in cc
+no_loop_here i d n none e = let clash : Some d ≡ None = sym (ap (λ t. begun_by (Some t)) e) ∙ none in cc
 
-pub no_next_here : (i : Instr) (d to : ℕ) → next_in (Some i) ≡ None → i ≡ Next d to → ⊥
+pub no_next_here : (i : Instr) (d to : ℕ) → next_in (Some i) ≡ None → EndsRound i d to → ⊥
 unfolding next_in
-no_next_here i d to none e = let clash : next_in (Some (Next d to)) ≡ None = sym (ap (λ x. next_in (Some x)) e) ∙ none in cc
+no_next_here i d to none e = let clash : repeated_by (Some (Repeat d to)) ≡ None = sym (ap (λ t. repeated_by (Some t)) e) ∙ none in cc
 
 pub no_way_back : (i : Instr) (to : ℕ) → next_in (Some i) ≡ None → back_of i ≡ Some to → ⊥
 no_way_back i to none e = let next = goes_back i to e in no_next_here i next.0 to none next.1
 
-pub not_both : (i : Instr) (d n e to : ℕ) → i ≡ Loop d n → i ≡ Next e to → ⊥
-not_both i d n e to a b = let clash : Loop d n ≡ Next e to = sym a ∙ b in cc
+pub not_both : (i : Instr) (d n e to : ℕ) → BeginsLoop i d n → EndsRound i e to → ⊥
+not_both i d n e to a b = let clash : Begin d n ≡ Repeat e to = sym a ∙ b in cc
 
 -- what stands there does one of them, once
 pub not_both_in : (o : Option Instr) (d n e to : ℕ) → LoopIn o d n → NextIn o e to → ⊥
-not_both_in o d n e to a b = let clash : Some (Loop d n) ≡ Some (Next e to) = sym a ∙ b in cc
+not_both_in o d n e to a b = let clash : Some (Begin d n) ≡ Some (Repeat e to) = sym a ∙ b in cc
 
 pub same_rounds : (o : Option Instr) (d n e l : ℕ) → LoopIn o d n → LoopIn o e l → n ≡ l
-same_rounds o d n e l a b = let one : Some (Loop d n) ≡ Some (Loop e l) = sym a ∙ b in cc
+same_rounds o d n e l a b = let one : Some (Begin d n) ≡ Some (Begin e l) = sym a ∙ b in cc
 
 pub same_back : (o : Option Instr) (d to e other : ℕ) → NextIn o d to → NextIn o e other → to ≡ other
-same_back o d to e other a b = let one : Some (Next d to) ≡ Some (Next e other) = sym a ∙ b in cc
+same_back o d to e other a b = let one : Some (Repeat d to) ≡ Some (Repeat e other) = sym a ∙ b in cc
 
-pub next_is_no_loop : (i : Instr) (d to : ℕ) → i ≡ Next d to → loop_in (Some i) ≡ None
+pub next_is_no_loop : (i : Instr) (d to : ℕ) → EndsRound i d to → loop_in (Some i) ≡ None
 unfolding loop_in
-next_is_no_loop i d to e = ap (λ x. loop_in (Some x)) e
+next_is_no_loop i d to e = ap (λ t. begun_by (Some t)) e
 
 -- ---- past a region
 
@@ -117,9 +160,9 @@ module _ (p : Image) (looped : IsLooped p) (m : ℕ) where
   came_from place to i stands none (jump j) f e k l body inside = looped.jumps m place to i stands j f e k l body inside
   came_from place to i stands none (back b) f e k l body inside =
       let next = goes_back i to b in
-      looped.nexts m place next.0 to (stands ∙ ap (λ x. Some x) next.1) f e k l body inside
+      looped.nexts m place next.0 to (stands_so _ i _ stands next.1) f e k l body inside
 
-  pub first_same : (place e d k from f : ℕ) → instr_at p m place ≡ Some (Next d (suc from)) → instr_at p m e ≡ Some (Next k (suc f)) → e ≡ place → f ≡ from
+  pub first_same : (place e d k from f : ℕ) → transfer_at p m place ≡ Some (Repeat d (suc from)) → transfer_at p m e ≡ Some (Repeat k (suc f)) → e ≡ place → f ≡ from
   first_same place e d k from f at closes here = grind (arith, nat_tests)
 
   -- the body round a loop ends after it
@@ -140,7 +183,7 @@ module _ (p : Image) (looped : IsLooped p) (m : ℕ) where
   begun_there from x before = grind (arith, nat_tests, begun)
 
   -- that of a next's loop, at the next
-  pub innermost_of_next : (place d from n : ℕ) (r : Region) → instr_at p m place ≡ Some (Next d (suc from)) → Body p m from place d n →
+  pub innermost_of_next : (place d from n : ℕ) (r : Region) → transfer_at p m place ≡ Some (Repeat d (suc from)) → Body p m from place d n →
       IsInnermost p m place r → (end : ℕ) × (r ≡ Round from end)
   innermost_of_next place d from n r at body w = grind (arith, begun_there from r, nested from place d n)
 
@@ -173,8 +216,13 @@ module _ (p : Image) (looped : IsLooped p) (m : ℕ) where
     out_from : (from to d n out : ℕ) → Body p m from to d n → (g : GoesOut p t m from to out) → loop_in (Some g.instr) ≡ None
     out_from from to d n out body g = by_kind (loop_in (Some g.instr) ≡ None) g.instr (λ none next. none) loop (λ k back e. next_is_no_loop g.instr k back e)
       where
-        loop : (k l : ℕ) → g.instr ≡ Loop k l → loop_in (Some g.instr) ≡ None
-        loop k l e = grind (arith, nat_tests, loop_way, Way, way_of, not_both, same_Some)
+        loop : (k l : ℕ) → BeginsLoop g.instr k l → loop_in (Some g.instr) ≡ None
+        loop k l e =
+            let next : out ≡ suc g.place = loop_way g.place k l out g.instr e (way_of p m g.place out g.shape g.instr g.flow) in
+            let last : g.place ≡ to = omega (arith, g.inside.1, g.outside, next) in
+            let here = stands_so _ g.instr _ g.stands.instr e in
+            let ends = subst (λ x. NextIn (instr_at p m x) d (suc from)) (sym last) body.ends in
+            absurd (not_both_in (instr_at p m g.place) k l d (suc from) here ends)
 
     -- a body that has the place to which another body goes out has that body's loop
     out_around : (from to d n out : ℕ) → Body p m from to d n → GoesOut p t m from to out → (f e k l : ℕ) → Body p m f e k l → IsIn f e out → IsIn f e from
@@ -216,9 +264,9 @@ module _ (p : Image) (looped : IsLooped p) (m : ℕ) where
 
   around_or : (place k : ℕ) → Around place k ⊎ Misses place k
   unfolding Around Misses
-  around_or place k = go (instr_at p m k) refl
+  around_or place k = go (transfer_at p m k) refl
     where
-      loop : (d n : ℕ) → instr_at p m k ≡ Some (Loop d n) → Around place k ⊎ Misses place k
+      loop : (d n : ℕ) → transfer_at p m k ≡ Some (Begin d n) → Around place k ⊎ Misses place k
       loop d n begins =
           let found = looped.begins m k d n begins in
           let body = found.2 in
@@ -226,10 +274,10 @@ module _ (p : Image) (looped : IsLooped p) (m : ℕ) where
           to' d n d' n' body other in absurd (omega (arith, same, inside.1, past)))) (λ (within : place ≤ found.1). inl (found.1, d, n, body, (lt, within)))
           (cases_lt found.1 place)) (λ (ge : place ≤ k). inr (λ to' d' n' other inside. absurd (omega (arith, ge, inside.0)))) (cases_lt k place)
 
-      go : (o : Option Instr) → instr_at p m k ≡ o → Around place k ⊎ Misses place k
-      go None e = inr (λ to d n body inside. let clash : None ≡ Some (Loop d n) = sym e ∙ body.begins in cc)
-      go (Some (Loop d n)) e = loop d n e
-      go (Some i) e = inr (λ to d n body inside. let clash : Some i ≡ Some (Loop d n) = sym e ∙ body.begins in cc)
+      go : (o : Option Transfer) → transfer_at p m k ≡ o → Around place k ⊎ Misses place k
+      go None e = inr (λ to d n body inside. let clash : None ≡ Some (Begin d n) = sym e ∙ body.begins in cc)
+      go (Some (Begin d n)) e = loop d n e
+      go (Some t) e = inr (λ to d n body inside. let clash : Some t ≡ Some (Begin d n) = sym e ∙ body.begins in cc)
 
   Found : ℕ → Type 0
   Found place = (r : Region) × IsInnermost p m place r

@@ -2,7 +2,7 @@
 use Rattle.std.proofs.lemmas.Bool.Decides.{nat_tests}
 use Rattle.std.proofs.Common.{◌≡◌, ◌≤◌, ◌+◌, ◌*◌, ◌∙◌, ℕ, suc, Some, None, inl, inr, ⊎_elim, refl, sym, arith, subst}
 use Rattle.std.specs.Prelude.{◌⊎◌}
-use Rattle.aom_image.specs.Views.{class_at, class_in, instr_at, instr_in, method_at}
+use Rattle.aom_image.specs.Views.{class_at, class_in, instr_in, method_at, transfer_at, transfer_in}
 use Rattle.aom_instructions.specs.declared.instr.Instr.{Instr}
 use Rattle.aom_instructions.specs.declared.instr.Instr.TheVariants.{Jump, JumpEqual, Loop, Next, Print, Return}
 use Rattle.aom_roles.specs.Classes.{kind_in}
@@ -13,7 +13,8 @@ use Rattle.aom_rules.specs.Rules.{flows}
 use Rattle.aom_typings.specs.Cases.{PriceNeedsFail, a_word, worked, worked_typing}
 use Rattle.aom_typings.specs.Costs.{AmongFlows, Costs, GoesOut, Inside, Region, Round, Whole}
 use Rattle.aom_typings.specs.Costs.Costs.{ends, goes, loops}
-use Rattle.aom_typings.specs.Prices.{Prices, Stands, own}
+use Rattle.aom_instructions.specs.declared.transfer.Transfer.TheVariants.{Repeat}
+use Rattle.aom_typings.specs.Prices.{LoopStands, Prices, Stands, own}
 use Rattle.aom_typings.proofs.Paths.{GoesOn, Rounds, ends_or_goes, outside_cost, rounds_of}
 use Rattle.aom_typings.proofs.Regions.{no_next_here}
 use Rattle.std.specs.Prelude.{◌==◌, cond}
@@ -35,24 +36,27 @@ at_each : There 0 (Loop 0 3) × There 1 (Loop 1 5) × There 2 (JumpEqual 0 0 7) 
 unfolding method_at instr_in
 at_each = search (arith, nat_tests)
 
+looped : (place d n : ℕ) → There place (Loop d n) → LoopStands worked worked_typing 0 place a_word d n
+looped place d n at = record { shape = at.shape; goes = ap transfer_in at.instr }
+
 outer : Body worked 0 0 5 0 3
-outer = record { begins = at_each.0.instr; later = omega arith; ends = at_each.5.instr }
+outer = record { begins = ap transfer_in at_each.0.instr; later = omega arith; ends = ap transfer_in at_each.5.instr }
 
 inner : Body worked 0 1 4 1 5
-inner = record { begins = at_each.1.instr; later = omega arith; ends = at_each.4.instr }
+inner = record { begins = ap transfer_in at_each.1.instr; later = omega arith; ends = ap transfer_in at_each.4.instr }
 
-same_depth : (d t e u : ℕ) → Some (Next d t) ≡ Some (Next e u) → d ≡ e
+same_depth : (d t e u : ℕ) → Some (Repeat d t) ≡ Some (Repeat e u) → d ≡ e
 same_depth d t e u same = cc
 
 -- where the nexts stand: that of depth 1 at 4, and that of depth 0 at 5
-next_place : (to d back : ℕ) → instr_at worked 0 to ≡ Some (Next d back) → to + d ≡ 5
+next_place : (to d back : ℕ) → transfer_at worked 0 to ≡ Some (Repeat d back) → to + d ≡ 5
 unfolding method_at instr_in
 next_place x d back e = grind (arith, nat_tests, same_depth)
 
-inner_end : (to : ℕ) → instr_at worked 0 to ≡ Some (Next 1 2) → to ≡ 4
+inner_end : (to : ℕ) → transfer_at worked 0 to ≡ Some (Repeat 1 2) → to ≡ 4
 inner_end to e = omega (arith, next_place to 1 2 e)
 
-outer_end : (to : ℕ) → instr_at worked 0 to ≡ Some (Next 0 1) → to ≡ 5
+outer_end : (to : ℕ) → transfer_at worked 0 to ≡ Some (Repeat 0 1) → to ≡ 5
 outer_end to e = omega (arith, next_place to 0 1 e)
 
 -- ---- where the bodies go out
@@ -95,8 +99,11 @@ module _ (c : Prices) where
   to_one r a n to most among = ⊎_elim (λ e. subst (λ x. Most r x n) e most) (λ none. absurd none) among
 
   -- a next ends the round
+  ends_here : (d to : ℕ) → next_in (Some (Next d to)) ≡ None → ⊥
+  ends_here d to plain = no_next_here (Next d to) d to plain refl
+
   round_end : (r : Region) (place d to : ℕ) → There place (Next d to) → loop_in (Some (Next d to)) ≡ None → Inside r place → Most r place 1
-  round_end r place d to at none inside k path = grind (arith, no_next_here (Next d to) d to)
+  round_end r place d to at none inside k path = grind (arith, ends_here d to)
 
   from_9 : Most Whole 9 1
   unfolding loop_in
@@ -142,7 +149,7 @@ module _ (c : Prices) where
   loop_line : (r : Region) (place end d n b e : ℕ) →
       There place (Loop d n) → Inside r place → ((to : ℕ) → Body worked 0 place to d n → to ≡ end) → Most (Round place end) (suc place) b →
       ((out : ℕ) → GoesOut worked worked_typing 0 place end out → Most r out e) → (k : ℕ) → Path r place k → (x : ℕ) × (x ≤ b) × (k ≤ 1 + n * x + e)
-  loop_line r place end d n b e at inside is_end most exits k path = go (rounds_of worked worked_typing c 0 r place k path a_word d n at inside)
+  loop_line r place end d n b e at inside is_end most exits k path = go (rounds_of worked worked_typing c 0 r place k path a_word d n (looped place d n at) inside)
     where
       go : Rounds worked worked_typing c 0 r place k d n → (x : ℕ) × (x ≤ b) × (k ≤ 1 + n * x + e)
       go v = grind (arith, nat_tests)
@@ -183,10 +190,10 @@ module _ (c : Prices) where
 
   outer_round : Path (Round 0 5) 1 17
   unfolding loop_in
-  outer_round = loops (omega arith, omega arith) at_each.1 inner inner_round inner_exit (ends (omega arith, omega arith) at_each.5 refl)
+  outer_round = loops (omega arith, omega arith) (looped 1 1 5 at_each.1) inner inner_round inner_exit (ends (omega arith, omega arith) at_each.5 refl)
 
   worked_path : Path Whole 0 55
-  worked_path = loops tt at_each.0 outer outer_round outer_exit exit_path
+  worked_path = loops tt (looped 0 0 3 at_each.0) outer outer_round outer_exit exit_path
 
 pub price_needs_fail : PriceNeedsFail
 unfolding class_at kind_in method_at class_in role_of plays role_number leads_in over_in descends_in parent_in own_role keeper_in

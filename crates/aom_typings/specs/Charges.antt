@@ -1,7 +1,9 @@
 -- What an instruction sets going, now or as it leaves the cleanup stack: what it is charged for, and what it may call.
 use Rattle.std.specs.Prelude.{ℕ}
+use Rattle.aom_instructions.specs.Table.{action_of}
+use Rattle.aom_instructions.specs.declared.action.Action.{Action}
+use Rattle.aom_instructions.specs.declared.action.Action.TheVariants as actions
 use Rattle.aom_instructions.specs.declared.instr.Instr.{Instr}
-use Rattle.aom_instructions.specs.declared.instr.Instr.TheVariants.{Call, Cancel, Delete, Push, PushOperation, Trap}
 
 pub data Charge : Type 0 where
   No_charge : Charge
@@ -14,11 +16,13 @@ pub data Charge : Type 0 where
   -- the request of what the method works on is cancelled
   A_cancel : Charge
 
+abbrev pub charged : Action → Charge
+charged (actions.Call manner target k first c) = A_call k
+charged (actions.PushOperation a k) = An_operation k
+charged (actions.Push a) = A_destruction a
+charged (actions.Destroy a) = A_destruction a
+charged actions.Cancel = A_cancel
+charged _ = No_charge
+
 abbrev pub charge_of : Instr → Charge
-charge_of (Call target k first c) = A_call k
-charge_of (Trap target k first c) = A_call k
-charge_of (PushOperation a k) = An_operation k
-charge_of (Push a) = A_destruction a
-charge_of (Delete a) = A_destruction a
-charge_of Cancel = A_cancel
-charge_of _ = No_charge
+charge_of i = charged (action_of i)

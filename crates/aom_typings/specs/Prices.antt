@@ -1,9 +1,10 @@
 -- Tables of prices, and when a table pays for each move of a typing.
 use Rattle.std.specs.Prelude.{ℕ, suc, ◌+◌, ◌-◌, ◌*◌, ◌≡◌, ◌≤◌, true, List, [], ◌∷◌, Option, Some, None}
 use Rattle.aom_image.specs.Image.{Image}
-use Rattle.aom_image.specs.Views.{instr_at, method_class}
+use Rattle.aom_image.specs.Views.{instr_at, method_class, transfer_at}
 use Rattle.aom_instructions.specs.declared.instr.Instr.{Instr}
-use Rattle.aom_instructions.specs.declared.instr.Instr.TheVariants.{Loop, Next}
+use Rattle.aom_instructions.specs.declared.transfer.Transfer.{Transfer}
+use Rattle.aom_instructions.specs.declared.transfer.Transfer.TheVariants.{Begin, Repeat}
 use Rattle.aom_image.specs.declared.class.ClassKind.{ClassKind}
 use Rattle.aom_image.specs.declared.class.ClassKind.TheVariants.{Server}
 use Rattle.aom_image.specs.declared.method.Role.TheVariants as roles
@@ -92,12 +93,17 @@ pub record Stands (p : Image) (t : Typing) (m place : ℕ) (sh : Shape) (i : Ins
   pub shape : shape_at t m place ≡ Some sh
   pub instr : instr_at p m place ≡ Some i
 
+-- or one of that transfer
+pub record StandsAs (p : Image) (t : Typing) (m place : ℕ) (sh : Shape) (transfer : Transfer) : Type 0 where
+  pub shape : shape_at t m place ≡ Some sh
+  pub goes : transfer_at p m place ≡ Some transfer
+
 -- so a loop of that number and so many rounds stands there, or a next of that number that goes back there
 abbrev pub LoopStands : Image → Typing → (m place : ℕ) → Shape → (number rounds : ℕ) → Type 0
-LoopStands p t m place sh d n = Stands p t m place sh (Loop d n)
+LoopStands p t m place sh d n = StandsAs p t m place sh (Begin d n)
 
 abbrev pub NextStands : Image → Typing → (m place : ℕ) → Shape → (number back : ℕ) → Type 0
-NextStands p t m place sh d to = Stands p t m place sh (Next d to)
+NextStands p t m place sh d to = StandsAs p t m place sh (Repeat d to)
 
 -- each reached place pays for what may follow it
 pub record IsPriced (p : Image) (t : Typing) (c : Prices) : Type 0 where

@@ -10,6 +10,5 @@ returns-in-Err c =
     let site = c.args.site.now in
     let there = ap (λ (s : Site). s.shape) c.site.view_is in
     let failed = rw (c.needs_word.ensures, there) at (sym c.judge_leave.ensures ∙ c.in-Err.is) in
-    λ method.
     let needs = rule_push_operation site.image site.method site.place site.shape c.args.a in
     sym (all_failed needs _ c.in-Err.why failed)
