@@ -8,12 +8,10 @@ use Rattle.aom_image.specs.Image.{Image}
 use Rattle.aom_image.specs.Views.{instr_at, transfer_at, transfer_in}
 use Rattle.aom_instructions.specs.declared.instr.Instr.{Instr}
 use Rattle.aom_instructions.specs.declared.transfer.Transfer.TheVariants.{Begin, Repeat}
-use Rattle.aom_safety.proofs.ImageLemmas.{transfer_there}
-use Rattle.aom_safety.proofs.InstructionsLemmas.{loop_is, next_is}
 use Rattle.aom_safety.proofs.ClassesLemmas.{linked_is_looped}
 use Rattle.aom_classes.specs.Bodies.{Body, IsIn, IsLooped}
 use Rattle.aom_classes.specs.Jumps.{jump_of}
-use Rattle.aom_classes.specs.Loops.{loop_in}
+use Rattle.aom_classes.specs.Loops.{begun_by, loop_in}
 use Rattle.aom_safety.proofs.SemanticsLemmas.{at-put_at}
 use Rattle.aom_safety.proofs.Preserving.{Kept, keeps, turn_keeps_it}
 use Rattle.aom_semantics.specs.Calls.{entered}
@@ -36,7 +34,8 @@ module _ (p : Image) (looped_so : IsLooped p) (fr : Frame) (i : Instr) (at : ins
       ⊎_elim (λ lt. rounds from to d n body (lt, omega (arith, inside.1))) (λ le. absurd (begins (omega (arith, inside.0)))) (cases_lt from fr.place)
     where
       begins : from ≡ fr.place → ⊥
-      begins e = let clash : None ≡ Some d = sym straight ∙ ap loop_in (sym at ∙ ap (λ x. instr_at p fr.method x) (sym e) ∙ body.begins) in cc
+      begins e =
+          let clash : None ≡ Some d = sym straight ∙ ap begun_by (sym (ap transfer_in at) ∙ ap (λ x. transfer_at p fr.method x) (sym e) ∙ body.begins) in cc
 
   -- where it jumps
   goes_to : (t : ℕ) → jump_of i ≡ Some t → RoundsAt p fr t
@@ -65,11 +64,11 @@ module _ (p : Image) (looped_so : IsLooped p) (fr : Frame) (rounds : RoundsAt p 
   begins_rounds e k at from to d n body inside = same_or from fr.place _ own other
     where
       here_begins : (0 < k) × (end : ℕ) × Body p fr.method fr.place end e k
-      here_begins = let w = transfer_there _ _ at in looped_so.begins fr.method fr.place e k (w.1 ∙ ap Some (loop_is w.0 e k w.2))
+      here_begins = looped_so.begins fr.method fr.place e k at
 
       own : from ≡ fr.place → (0 < counter (set_counter fr e k) d) × (counter (set_counter fr e k) d ≤ n)
       own same =
-          let one = one_loop fr.method from d n e k (ap transfer_in body.begins) (ap (λ x. transfer_at p fr.method x) same ∙ at) in
+          let one = one_loop fr.method from d n e k body.begins (ap (λ x. transfer_at p fr.method x) same ∙ at) in
           let is = own_counter e k d (sym one.0) in
           (subst (λ x. 0 < x) (sym is) here_begins.0, subst (λ x. x ≤ n) (sym is) (subst (λ x. k ≤ x) (sym one.1) (omega arith)))
 
@@ -84,7 +83,7 @@ module _ (p : Image) (looped_so : IsLooped p) (fr : Frame) (rounds : RoundsAt p 
 
   module _ (e t : ℕ) (at : transfer_at p fr.method fr.place ≡ Some (Repeat e t)) where
     closing : (from : ℕ) × (n : ℕ) × Body p fr.method from fr.place e n × (t ≡ suc from)
-    closing = let w = transfer_there _ _ at in looped_so.closes fr.method fr.place e t (w.1 ∙ ap Some (next_is w.0 e t w.2))
+    closing = looped_so.closes fr.method fr.place e t at
 
     -- of another loop whose body has the place of the next
     aside : (k from to d n : ℕ) → Body p fr.method from to d n → from ≢ closing.0 → IsIn from to fr.place →
@@ -98,18 +97,34 @@ module _ (p : Image) (looped_so : IsLooped p) (fr : Frame) (rounds : RoundsAt p 
     -- the last round is over
     ends_rounds : RoundsAt p (set_counter fr e 0) (suc fr.place)
     ends_rounds from to d n body inside =
-        grind (arith, nat_tests, same_or from closing.0, aside 0 from to d n body, cases_lt from fr.place, one_loop fr.method from d n e closing.1 (ap transfer_in body.begins))
+        same_or from closing.0 _ own (λ differs. aside 0 from to d n body differs (before, omega (arith, inside.1)))
+      where
+        -- no loop begins at the place of a next
+        not_here : from ≡ fr.place → ⊥
+        not_here same = let clash : Some (Begin d n) ≡ Some (Repeat e t) = sym body.begins ∙ ap (λ x. transfer_at p fr.method x) same ∙ at in cc
+
+        before : from < fr.place
+        before = ⊎_elim (λ lt. lt) (λ le. absurd (not_here (omega (arith, inside.0)))) (cases_lt from fr.place)
+
+        -- nor does another next close the one that this one closes
+        own : from ≡ closing.0 → (0 < counter (set_counter fr e 0) d) × (counter (set_counter fr e 0) d ≤ n)
+        own same =
+            let one = one_loop fr.method from d n e closing.1 body.begins (ap (λ x. transfer_at p fr.method x) same ∙ closing.2.begins) in
+            let its : Body p fr.method from fr.place d n = subst (λ x. Body p fr.method x fr.place d n) (sym same)
+            (subst (λ x. Body p fr.method closing.0 fr.place x n) (sym one.0) (subst (λ x. Body p fr.method closing.0 fr.place e x) (sym one.1) closing.2)) in
+            let end : to ≡ fr.place = looped_so.once fr.method from to fr.place d n body its in
+            absurd (omega (arith, inside.1, end))
 
     -- another round begins
     next_round : (k : ℕ) → (counter fr e - 1) ≡ suc k → RoundsAt p (set_counter fr e (suc k)) t
     next_round k left from to d n body inside = same_or from closing.0 _ own (λ differs. aside (suc k) from to d n body differs here_is)
       where
         here_is : IsIn from to fr.place
-        here_is = let w = transfer_there _ _ at in looped_so.nexts fr.method fr.place e t (w.1 ∙ ap Some (next_is w.0 e t w.2)) from to d n body inside
+        here_is = looped_so.nexts fr.method fr.place e t at from to d n body inside
 
         own : from ≡ closing.0 → (0 < counter (set_counter fr e (suc k)) d) × (counter (set_counter fr e (suc k)) d ≤ n)
         own same =
-            let one = one_loop fr.method from d n e closing.1 (ap transfer_in body.begins) (ap (λ x. transfer_at p fr.method x) same ∙ ap transfer_in closing.2.begins) in
+            let one = one_loop fr.method from d n e closing.1 body.begins (ap (λ x. transfer_at p fr.method x) same ∙ closing.2.begins) in
             let is = own_counter e (suc k) d (sym one.0) in
             let old = rounds from to d n body here_is in
             let before : counter fr e ≤ n = subst (λ x. counter fr x ≤ n) one.0 old.1 in
