@@ -5,7 +5,7 @@ use Rattle.std.proofs.lemmas.Bool.{eq-eqb, ne_eqb}
 use Rattle.std.specs.Prelude.{is_some, ◌++◌}
 use Rattle.aom_image.specs.Image.{Image}
 use Rattle.aom_image.specs.Views.{action_at, gives_of, instr_at}
-use Rattle.aom_instructions.specs.declared.action.Action.TheVariants.{Call}
+use Rattle.aom_instructions.specs.declared.action.Action.TheVariants.{Call, Push}
 use Rattle.aom_instructions.specs.declared.action.Manner.TheVariants.{Trapped as Under_trap}
 use Rattle.aom_instructions.specs.declared.instr.Instr.{Instr}
 use Rattle.aom_instructions.specs.declared.instr.Target.{Target}
@@ -25,16 +25,16 @@ use Rattle.aom_safety.proofs.SemanticsLemmas.{at-put_at, held_moved, same_place-
 use Rattle.aom_safety.proofs.Straight.{claim_register, fits_unowning}
 use Rattle.aom_semantics.specs.Calls.{callee_of, called, given_by, result_of, result_register}
 use Rattle.aom_safety.specs.Claims.{Dispatching, Form, Layer, Mark, Mark_form, Method, Unwinding, declared, forms, items_of, objects, tasks_of}
-use Rattle.aom_semantics.specs.Cleanup.{arrival, arrived, code_told, destroyed, has_trap, operation_frame, pushed_cells, to_trap, unwound}
+use Rattle.aom_semantics.specs.Cleanup.{arrival, arrived, code_told, destroyed, has_trap, operation_frame, to_trap, unwound}
 use Rattle.aom_safety.specs.Laws.{IsWired}
 use Rattle.aom_safety.specs.Leaves.{AreEntries, AreMethods, Arrives, ArrivesAt, Begins, HasMoved}
-use Rattle.aom_safety.specs.Leaves.{HasPushed, Hears, IsBegun, IsLeaving, IsOver, LeavesWith}
+use Rattle.aom_safety.specs.Leaves.{HasPushed, Hears, IsBegun, IsLeaving, IsOver, LeavesWith, PushedBy}
 use Rattle.aom_semantics.specs.Moves.{announcement, counted, does, needs, step, written_task}
 use Rattle.aom_semantics.specs.Places.{Cell, Entry, Going, Object, Place, Register, held, moved, named, same_place, seen}
 use Rattle.aom_semantics.specs.State.{A_mark, An_object, An_operation, Choice, Dispatch, Dispatched, Frame}
 use Rattle.aom_semantics.specs.State.{Goes, Item, Main_left, Run, State, Task, Trapped, Unwind, next, set_word, word}
 use Rattle.aom_safety.specs.WellTyped.{AllUndo, Awaits, EndsDispatch, Fits, Good, Leaves, Now, Stack, WellTyped}
-use Rattle.aom_semantics.specs.Effects.{Leaves, Update, applied}
+use Rattle.aom_semantics.specs.Effects.{Leaves, Pushed, Update, applied}
 use Rattle.aom_transcript.specs.declared.line.Ending.TheVariants.{MainLeft}
 use Rattle.aom_safety.proofs.Steps.{step_keeps}
 
@@ -133,16 +133,16 @@ module _ (p : Image) (t : Typing) (c : Choice) (fr : Frame) (ts : List Task) (s 
       }
 
   -- the object of a register comes to an entry over all others
-  pushed_there : (a : ℕ) → is_some (held s.cells (Register (length ts) a)) ≡ true →
-      (o : Object) × HasMoved o (Register (length ts) a) (Entry (length s.items)) s.cells (pushed_cells fr ts (counted p s) a) × (An_object ∷ s.items ≡ An_object ∷ s.items)
-  pushed_there a some =
+  object_pushed : (a : ℕ) (code : ℤ) → is_some (held s.cells (Register (length ts) a)) ≡ true →
+      PushedBy fr (length ts) (Push a) s (applied p fr ts (counted p s) (Leaves code (Pushed a)))
+  object_pushed a code some =
       let o = is_there (held s.cells (Register (length ts) a)) some in
       (o.0, has_moved s.cells (Register (length ts) a) (Entry (length s.items)) o.0 o.1 (none_pushed_yet p t s w) refl, refl)
 
   -- what was to be pushed is pushed
   pushes : (i : Instr) (code : ℤ) → AllTrue (needs p c fr ts (counted p s) i) →
       HasPushed fr (length ts) i s (applied p fr ts (counted p s) (Leaves code (off_of p c fr ts (counted p s) i)))
-  pushes x code n = grind (arith, nat_tests, is_there, pushed_there)
+  pushes x code n = grind (arith, nat_tests, is_there, object_pushed)
 
   pub begins_by : (i : Instr) (code : ℤ) → LeavesWith c fr i code → AllTrue (needs p c fr ts (counted p s) i) → does p c fr ts (counted p s) i ≡ u →
       Begins p code fr (length ts) i s u
