@@ -4,7 +4,7 @@ use Rattle.std.proofs.Common.{arith, Bool, List, Option, [], ap, cond, length, r
 use Rattle.std.specs.Prelude.{option_map}
 use Rattle.aom_image.specs.Image.{Image}
 use Rattle.aom_instructions.specs.declared.instr.Instr.{Instr}
-use Rattle.aom_instructions.specs.declared.instr.Instr.TheVariants.{Loop}
+use Rattle.aom_instructions.specs.declared.instr.Instr.TheVariants.{Stop}
 use Rattle.aom_instructions.specs.declared.instr.Target.{Target}
 use Rattle.aom_instructions.specs.declared.instr.Target.TheVariants.{Entry as On_entry, Field as On_field, Register as On_register, This}
 use Rattle.aom_image.specs.declared.method.Gives.{Gives}
@@ -280,7 +280,8 @@ module _ (names : ℕ → ℕ) (one_to_one : IsOneToOne names) (p : Image) (c : 
   deletes_renamed x a = grind arith
 
   effect_renamed : (i : Instr) → effect p c' fr' ts' s' i ≡ renamed_effect names (effect p c fr ts s i)
-  effect_renamed (Loop depth rounds) = refl
+  effect_renamed Stop = refl
+  -- the others too, each a case of its own
   effect_renamed _ = first_of (
     simp (
       register_renamed names one_to_one s.cells ts,
@@ -305,7 +306,7 @@ module _ (names : ℕ → ℕ) (one_to_one : IsOneToOne names) (p : Image) (c : 
   -- ---- what an instruction needs
 
   pub needs_kept : (i : Instr) → needs p c' fr' ts' s' i ≡ needs p c fr ts s i
-  needs_kept (Loop depth rounds) = refl
+  needs_kept Stop = refl
   needs_kept _ = first_of (
     simp (
       free_at names one_to_one s.cells ts,

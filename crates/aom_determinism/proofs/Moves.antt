@@ -12,7 +12,7 @@ use Rattle.std.specs.Prelude.{not}
 use Rattle.aom_image.specs.Image.{Image}
 use Rattle.aom_image.specs.Views.{gives_of, instr_at}
 use Rattle.aom_instructions.specs.declared.instr.Instr.{Instr}
-use Rattle.aom_instructions.specs.declared.instr.Instr.TheVariants.{Cancel, Reply, Return}
+use Rattle.aom_instructions.specs.declared.instr.Instr.TheVariants.{Or}
 use Rattle.aom_determinism.proofs.Calls.{IsAlive, Told, abort_told, alive_in, at_it, found, ask_told, asked_same, close_told, connect_told, ended_same}
 use Rattle.aom_determinism.proofs.Calls.{issue_told, sessions_after, sessions_along, taken_off, told_along, told_before, told_none, still}
 use Rattle.aom_determinism.proofs.Cells.{Unchanged, meets_gone, owes_gone, served_none, unchanged_along, unchanged_itself}
@@ -22,10 +22,10 @@ use Rattle.aom_determinism.proofs.Requests.{cancelling_owed, none_owed, rests_ow
 use Rattle.aom_determinism.specs.Laws.{FollowsCall, MovesFollowCalls}
 use Rattle.aom_determinism.specs.Owed.{SessionsHold, meets, owes, serves, serves_object}
 use Rattle.aom_rules.specs.Typing.{Typing}
-use Rattle.aom_semantics.specs.Calls.{returned}
+use Rattle.aom_semantics.specs.Calls.{needs_return, returned}
 use Rattle.aom_safety.specs.Claims.{Dispatching, Layer}
 use Rattle.aom_semantics.specs.Destruction.{vanished, gone, is_at_rest, needs_gone}
-use Rattle.aom_semantics.specs.Effects.{Effect, Leaves, Same, applied, cancels_if, deals, deletes, effect}
+use Rattle.aom_semantics.specs.Effects.{Effect, Leaves, Replied, Same, applied, cancels_if, deals, deletes, effect}
 use Rattle.aom_semantics.specs.Effects.{makes_unless, round, sets, unless_refused, updates, cells_after, hands_unless}
 use Rattle.aom_semantics.specs.Requests.{cancel_method, ended_cells, in_phase, is_active, next_timer}
 use Rattle.aom_semantics.specs.Requests.{own_request, thing_kind, home_kind, rerequested}
@@ -39,7 +39,7 @@ use Rattle.aom_safety.specs.Steps.{Empties, Acts, Arrives, Clears, Comes_out, En
 use Rattle.aom_semantics.specs.Wanted.{Exchange, Nothing, exchange, exchange_at, Closes, wanted, wanted_by, wanted_going, wanted_gone, wanted_if, wanted_task}
 use Rattle.aom_safety.specs.WellTyped.{Good, WellTyped}
 use Rattle.aom_semantics.specs.Servers.{without_queue}
-use Rattle.aom_semantics.specs.Words.{here, read}
+use Rattle.aom_semantics.specs.Words.{here}
 use Rattle.aom_semantics.specs.Objects.{is_thing}
 use Rattle.aom_image.specs.declared.method.Thing.TheVariants.{Message}
 use Rattle.aom_roles.specs.Tests.{AllTrue}
@@ -109,7 +109,7 @@ module _ (p : Image) (t : Typing) (c : Choice) (fr : Frame) (ts : List Task) (s 
       Unchanged p s.cells (applied p fr ts (counted p s) (cancels_if fr b m)).cells
   cancels x e m = grind (arith, nat_tests, asked_same p c.answer s fr.home, cancelling_owed, unchanged_itself p s.cells)
 
-  returns : (a : ℕ) → AllTrue (needs p c fr ts (counted p s) (Return a)) →
+  returns : (a : ℕ) → AllTrue (needs_return p fr ts (counted p s) a) →
       Unchanged p s.cells (returned p fr ts (record (counted p s) { cells = ended_cells p fr s.cells }) (gives_of p fr.method) a ts).cells
   returns a met = grind (arith, nat_tests, all_parts, unchanged_along p s.cells, ended_same p c.answer s fr ts, returned_unchanged p fr ts)
 
@@ -134,21 +134,25 @@ module _ (p : Image) (t : Typing) (c : Choice) (fr : Frame) (ts : List Task) (s 
     unchanged_alike p,
   )
 
-  silently : (i : Instr) → exchange i ≡ Nothing → AllTrue (needs p c fr ts (counted p s) i) → Tells Nothing i
-  silently Cancel none met = silent Cancel (cancels (in_phase is_active (own_request s.cells fr.home)) refl (cancel_method p fr))
-  silently (Return a) none met = silent (Return a) (returns a met)
-  silently (Reply a b) none met =
+  -- the message that a reply completes was held by a register
+  replies : (a : ℕ) (code : ℤ) → is_thing p Message (held s.cells (here fr ts (counted p s) a)) ≡ true →
+      Unchanged p s.cells (cells_after p fr ts (counted p s) (Replied a code))
+  replies a code thing =
       let order = token_of s.cells (held s.cells (here fr ts (counted p s) a)) in
-      let code = read fr ts (counted p s) b in
       let cs = redeemed_by order code s.cells in
-      silent (Reply a b) (unchanged_along p s.cells cs _ (unchanged_redeemed p t s.cells ls good order code)
+      unchanged_along p s.cells cs _ (unchanged_redeemed p t s.cells ls good order code)
       (unchanged_completed p t cs ls (redeemed_good p t order code s.cells ls good) (here fr ts (counted p s) a)
-      (λ x there. is_message a x (sym ((redeemed_by_alike order code s.cells).held_so (here fr ts (counted p s) a)) ∙ there) met.1.1.0)))
+      (λ x there. is_message a x (sym ((redeemed_by_alike order code s.cells).held_so (here fr ts (counted p s) a)) ∙ there) thing))
+
+  silently : (i : Instr) → exchange i ≡ Nothing → AllTrue (needs p c fr ts (counted p s) i) → Tells Nothing i
+  silently (Or a b x) none met = aside (Or a b x) tt
+  -- the others too, each a case of its own
   silently i none met = first_of (
     -- most leave all as it is, whatever a test of theirs decides
     grind (arith, nat_tests, aside i, round_aside, deletes_aside, deals_aside, makes_aside, refused_aside, leaves_aside),
     -- and some change a request that no native owes an answer
     grind (arith, nat_tests, silent i, asked_same p c.answer s fr.home, none_owed, waits_owed, hands (is_crowded p s.cells)),
+    search (silent i, cancels (in_phase is_active (own_request s.cells fr.home)) refl (cancel_method p fr), returns, replies),
   )
 
   tells : (i : Instr) → AllTrue (needs p c fr ts (counted p s) i) → Tells (exchange i) i

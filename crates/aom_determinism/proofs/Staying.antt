@@ -1,22 +1,21 @@
 -- What clients and the dispatch at hand say stays of cells that are there: as a run begins, in each move by the task at hand, and in each turn.
 use Rattle.std.proofs.lemmas.Bool.Decides.{nat_tests}
-use Rattle.aom_determinism.proofs.SafetyLemmas.{Alike, IsFit, IsFound, IsUsual, Polled, Steady, answers, commanded_kept, fine_effect, fit_steady, goes_same}
+use Rattle.aom_determinism.proofs.SafetyLemmas.{Alike, IsAnswer, IsCompleting, IsFit, IsFound, Polled, Steady, answers, commanded_kept, fine_effect, fit_steady, goes_same}
 use Rattle.aom_determinism.proofs.SafetyLemmas.{guarded_goes, guarded_met, message_plain, nothing, on_none, polled_so, redeemed_by_alike, same_bereaved}
 use Rattle.aom_determinism.proofs.SafetyLemmas.{same_requested, serving_plain, stands_message, steady_redeemed, turning_found, waiting_well}
 use Rattle.aom_semantics.specs.Places.{Elsewhere, Session}
 use Rattle.aom_semantics.specs.Tokens.{redeemed_by, token_of}
-use Rattle.std.proofs.Common.{arith, List, None, Option, Some, [], ap, false, length, refl, subst, sym, ℕ, ◌∙◌, ◌∷◌, ◌≡◌}
+use Rattle.std.proofs.Common.{arith, List, None, Option, Some, [], ap, false, length, refl, subst, sym, true, ℕ, ℤ, ⊎_elim, ◌∙◌, ◌∷◌, ◌≡◌}
 use Rattle.aom_image.specs.Image.{Image}
 use Rattle.aom_image.specs.Views.{instr_at}
 use Rattle.aom_image.specs.declared.method.Gives.{Gives}
 use Rattle.aom_image.specs.declared.method.Thing.TheVariants.{Message}
 use Rattle.aom_clients.specs.declared.client.Client.{Client}
 use Rattle.aom_instructions.specs.declared.instr.Instr.{Instr}
-use Rattle.aom_instructions.specs.declared.instr.Instr.TheVariants as instrs
 use Rattle.aom_roles.specs.Tests.{AllTrue}
 use Rattle.aom_rules.specs.Typing.{Typing}
 use Rattle.aom_semantics.specs.Destruction.{gone, needs_gone, vanished}
-use Rattle.aom_semantics.specs.Effects.{Returns, applied, effect, needs}
+use Rattle.aom_semantics.specs.Effects.{Change, Effect, Goes_on, Replied, Returns, Update, applied, effect, needs}
 use Rattle.aom_semantics.specs.Requests.{completed_with, recorded, timed_out}
 use Rattle.aom_safety.specs.Kept.{IsKept}
 use Rattle.aom_safety.specs.Laws.{IsWired}
@@ -27,7 +26,7 @@ use Rattle.aom_semantics.specs.Places.{Cell, Going, Object, Request, held, named
 use Rattle.aom_semantics.specs.Servers.{is_server, without_queue}
 use Rattle.aom_semantics.specs.State.{Choice, Closing, Destroy, Dispatched, Frame, Goes, Run, State, Task, Trapped, Unwind}
 use Rattle.aom_safety.specs.WellTyped.{WellTyped}
-use Rattle.aom_semantics.specs.Words.{here, read}
+use Rattle.aom_semantics.specs.Words.{here}
 use Rattle.aom_semantics.specs.World.{Completes, Kills, Obeys, Picks, Polls, Strays, Turning, heard_one, turned, turning, with_request}
 use Rattle.aom_determinism.proofs.Remaining.{AllWait, all_wait, closing_there, dispatch_there, gone_apart, plain_there}
 use Rattle.aom_determinism.proofs.Keeping.{calm_ended, there_by, Calm, calm_along, calm_steady}
@@ -48,24 +47,24 @@ module _ (p : Image) (t : Typing) (wired : IsWired p) (c : Choice) (s : State) (
     below = subst (λ l. AreThere s.clients s.cells (dispatch_of l)) tasks there
 
     -- a message is completed
-    reply_there : (a b : ℕ) → AllTrue (needs p c fr ts (counted p s) (instrs.Reply a b)) →
-        AllThere (applied p fr ts (counted p s) (effect p c fr ts (counted p s) (instrs.Reply a b)))
-    reply_there a b met = there_by s.clients s.cells (dispatch_of ts) s.clients _ _ refl calm refl below
+    reply_there : (ch : Change) (a : ℕ) (code : ℤ) → is_thing p Message (held s.cells (here fr ts s a)) ≡ true →
+        AllThere (applied p fr ts (counted p s) (Goes_on (record ch { update = Replied a code })))
+    reply_there ch a code met = there_by s.clients s.cells (dispatch_of ts) s.clients _ _ refl calm refl below
       where
         plain : (o : Object) → held s.cells (here fr ts s a) ≡ Some o → is_server p o.thing ≡ false
-        plain o e = message_plain p o.thing (stands_message p o.thing (sym (ap (is_thing p Message) e) ∙ met.1.1.0))
+        plain o e = message_plain p o.thing (stands_message p o.thing (sym (ap (is_thing p Message) e) ∙ met))
 
         order : Option ℕ
         order = token_of s.cells (held s.cells (here fr ts s a))
 
         cs : List Cell
-        cs = redeemed_by order (read fr ts (counted p s) b) s.cells
+        cs = redeemed_by order code s.cells
 
         like : Alike s.cells cs
-        like = redeemed_by_alike order (read fr ts (counted p s) b) s.cells
+        like = redeemed_by_alike order code s.cells
 
         still : Steady s.cells cs
-        still = steady_redeemed order (read fr ts (counted p s) b) s.cells
+        still = steady_redeemed order code s.cells
 
         calm : Calm s.cells (without (here fr ts s a) cs)
         calm = calm_along s.cells cs (without (here fr ts s a) cs) (calm_steady s.cells cs still (λ n c. like.held_so (Elsewhere (Session n c))))
@@ -76,8 +75,19 @@ module _ (p : Image) (t : Typing) (wired : IsWired p) (c : Choice) (s : State) (
     returns_there : (g : Gives) (a : ℕ) → AllThere (applied p fr ts (counted p s) (Returns g a))
     returns_there g a = grind (arith, nat_tests, there_by s.clients s.cells, calm_ended p fr s.cells, below, returned_there p fr ts)
 
+    completed_there : (ch : Change) (u : Update) → IsCompleting p fr ts (counted p s) u → AllThere (applied p fr ts (counted p s) (Goes_on (record ch { update = u })))
+    completed_there ch (Replied a code) met = reply_there ch a code met
+    completed_there ch _ met = absurd met
+
+    answer_there : (e : Effect) → IsAnswer p fr ts (counted p s) e → AllThere (applied p fr ts (counted p s) e)
+    answer_there (Goes_on ch) met = completed_there ch ch.update met
+    answer_there (Returns g a) met = returns_there g a
+    answer_there _ met = absurd met
+
     act_there : (i : Instr) → AllTrue (needs p c fr ts (counted p s) i) → AllThere (applied p fr ts (counted p s) (effect p c fr ts (counted p s) i))
-    act_there i met = grind (arith, nat_tests, reply_there, returns_there, IsUsual i, effect_there p fr ts, below, fine_effect p c fr ts)
+    act_there i met =
+        ⊎_elim (effect_there p fr ts (counted p s) below (effect p c fr ts (counted p s) i)) (answer_there (effect p c fr ts (counted p s) i))
+        (fine_effect p c fr ts (counted p s) free i met)
 
     run_there : (i : Option Instr) (u : State) → step_instr p c fr ts (counted p s) i ≡ Goes u → AllThere u
     run_there None u e = cc

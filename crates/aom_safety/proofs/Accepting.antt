@@ -9,7 +9,6 @@ use Rattle.aom_image.specs.Views.{gives_of}
 use Rattle.aom_image.specs.declared.method.Gives.{Gives}
 use Rattle.aom_image.specs.declared.method.Gives.TheVariants.{Own as An_own}
 use Rattle.aom_image.specs.declared.method.Thing.{Thing}
-use Rattle.aom_instructions.specs.declared.instr.Instr.TheVariants.{Return}
 use Rattle.aom_roles.specs.Tests.{AllTrue}
 use Rattle.aom_rules.specs.Calls.{entries_done, result_moved, rule_result}
 use Rattle.aom_rules.specs.Typing.{Typing}
@@ -19,14 +18,14 @@ use Rattle.aom_shape.specs.declared.kind.Age.TheVariants.{Ready}
 use Rattle.aom_shape.specs.declared.kind.Kind.{Kind}
 use Rattle.aom_shape.specs.declared.kind.Kind.TheVariants.{Null, Own}
 use Rattle.aom_safety.proofs.Claimed.{claim-set_register, claim_rel, fits_age, keep_fits, mark_claims}
-use Rattle.aom_safety.proofs.Finishing.{Returnable, ended, ended_plainly, return_needs, returnable, same_items}
+use Rattle.aom_safety.proofs.Finishing.{ReturnLaw, Returnable, ended, ended_plainly, return_needs, same_items}
 use Rattle.aom_safety.proofs.Items.{forms_below, mark_on_top, undos_below}
 use Rattle.aom_safety.proofs.SemanticsLemmas.{held_moved, named_moved, requested_moved, same_place-true, tidy_moved}
 use Rattle.aom_safety.proofs.Returning.{held_thing}
 use Rattle.aom_safety.proofs.Widening.{Widens, own_widens}
 use Rattle.aom_safety.proofs.Seats.{first_kept, sits_kept}
 use Rattle.aom_safety.proofs.Services.{held_served, named_served, requested_served, service_here, service_moved, service_there, sits_lives, tidy_served}
-use Rattle.aom_safety.proofs.Straight.{At, Law, claim_register, fits_unowning, register_fits, word_of_object}
+use Rattle.aom_safety.proofs.Straight.{At, claim_register, fits_unowning, register_fits, word_of_object}
 use Rattle.aom_safety.proofs.Suiting.{all_returned, known_resting, rests_there, suits_rests}
 use Rattle.aom_semantics.specs.Calls.{result_needs}
 use Rattle.aom_safety.specs.Claims.{Dispatching, Layer, Mark, Mark_form, Method, claim, declared, declared_field, tasks_of}
@@ -168,9 +167,8 @@ module _ (p : Image) (t : Typing) (c : Choice) (s : State) (fr : Frame) (sh : Sh
         let h = held_thing p s thing (held cs q) (given.fits (seen cs) (held cs q) (register_fits p cs fr sh below at_hand.good.fits a)) in
         (ap is_none (word_of_object (word fr a) (register sh a) given.object (at_hand.good.stack.1.words a)), (h.0, (h.1, tt)))
 
-  pub law_return_accepted : Law p t c s fr sh below at_hand (Return a)
-  law_return_accepted needed leads =
-      let r = returnable p fr sh a needed in
+  pub law_return_accepted : ReturnLaw p t s fr sh below a
+  law_return_accepted r =
       let items = same_items p t c s fr sh below at_hand (entries r) in (
         return_needs p t c s fr sh below at_hand a r (rw gives (needs_met r)) (mark_on_top s.items _ items, (ap is_none free, tt)),
         grind (arith, nat_tests, ended_plainly p t c s fr sh, forms_below s.items Mark_form, undos_below p s.items at_hand.undos, good_then r),

@@ -2,7 +2,7 @@
 use Rattle.std.proofs.lemmas.Bool.Decides.{nat_tests}
 use Rattle.std.proofs.Common.{[], IsTrue, List, None, Option, Some, ap, arith, false, inl, length, refl, subst, suc, sym, true, ℕ, ◌<◌, ◌∙◌, ◌∷◌, ◌≡◌}
 use Rattle.aom_image.specs.Image.{Image}
-use Rattle.aom_image.specs.Views.{arguments_of, gives_of, has, instr_at, is_quiet, method_class, method_role}
+use Rattle.aom_image.specs.Views.{action_in, arguments_of, gives_of, has, instr_at, is_quiet, method_class, method_role}
 use Rattle.aom_instructions.specs.declared.instr.Instr.TheVariants.{Call, Trap}
 use Rattle.aom_instructions.specs.declared.instr.Target.{Target}
 use Rattle.aom_image.specs.declared.method.Gives.{Gives}
@@ -57,7 +57,7 @@ module _ (p : Image) (t : Typing) (wired : IsWired p) (typed : IsTyped p t) (c :
       Law p t c s fr sh ls at_hand (Call target m first x)
   law_call target m first x here n leads =
       let ended = after_of p m in
-      let called_so = wired.called fr.method fr.place target m first x here in
+      let called_so = wired.called fr.method fr.place target m first x (ap action_in here) in
       let parts = all_parts (rule_target p fr.method sh target m (method_class p m) (is_construct (method_role p m)) first (length (arguments_of p m))) _ n in
       let more = all_parts (each_argument p sh (arguments_of p m) first) _ parts.1.1 in
       let deep : length (tasks_of ls) < suc (length (tasks_of ls)) = omega arith in
@@ -112,7 +112,7 @@ module _ (p : Image) (t : Typing) (wired : IsWired p) (typed : IsTyped p t) (c :
       Law p t c s fr sh ls at_hand (Trap target m first x)
   law_trap target m first x here n leads =
       let ended = resting p (method_class p m) in
-      let trapped = wired.trapped fr.method fr.place target m first x here in
+      let trapped = wired.trapped fr.method fr.place target m first x (ap action_in here) in
       let called_so : IsCalled p m = record { there = trapped.there; role = inl trapped.role; ends = trapped.ends; begins = grind (arith, nat_tests) } in
       let parts = all_parts (rule_target p fr.method sh target m (method_class p m) (is_construct (method_role p m)) first (length (arguments_of p m))) _ n.1 in
       let more = all_parts (each_argument p sh (arguments_of p m) first) _ parts.1.1 in

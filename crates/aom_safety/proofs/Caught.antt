@@ -4,9 +4,10 @@ use Rattle.std.proofs.Common.{[], List, None, Option, Some, ap, arith, cond, fal
 use Rattle.std.proofs.lemmas.Bool.{eq-eqb, ne_eqb}
 use Rattle.std.specs.Prelude.{is_some, ◌++◌}
 use Rattle.aom_image.specs.Image.{Image}
-use Rattle.aom_image.specs.Views.{gives_of, instr_at}
+use Rattle.aom_image.specs.Views.{action_at, gives_of, instr_at}
+use Rattle.aom_instructions.specs.declared.action.Action.TheVariants.{Call, Push}
+use Rattle.aom_instructions.specs.declared.action.Manner.TheVariants.{Trapped as Under_trap}
 use Rattle.aom_instructions.specs.declared.instr.Instr.{Instr}
-use Rattle.aom_instructions.specs.declared.instr.Instr.TheVariants.{Push, Trap}
 use Rattle.aom_instructions.specs.declared.instr.Target.{Target}
 use Rattle.aom_image.specs.declared.method.Gives.{Gives}
 use Rattle.aom_image.specs.declared.method.Gives.TheVariants.{Maybe as A_maybe, Own as An_own, Word as A_word}
@@ -22,18 +23,18 @@ use Rattle.aom_safety.proofs.Items.{length_forms, no_mark}
 use Rattle.aom_safety.proofs.Guarded.{acts_at, goes_same, guarded_goes, guarded_met}
 use Rattle.aom_safety.proofs.SemanticsLemmas.{at-put_at, held_moved, same_place-true, same_place_refl}
 use Rattle.aom_safety.proofs.Straight.{claim_register, fits_unowning}
-use Rattle.aom_semantics.specs.Calls.{called, result_register}
+use Rattle.aom_semantics.specs.Calls.{callee_of, called, given_by, result_of, result_register}
 use Rattle.aom_safety.specs.Claims.{Dispatching, Form, Layer, Mark, Mark_form, Method, Unwinding, declared, forms, items_of, objects, tasks_of}
 use Rattle.aom_semantics.specs.Cleanup.{arrival, arrived, code_told, destroyed, has_trap, operation_frame, to_trap, unwound}
 use Rattle.aom_safety.specs.Laws.{IsWired}
 use Rattle.aom_safety.specs.Leaves.{AreEntries, AreMethods, Arrives, ArrivesAt, Begins, HasMoved}
-use Rattle.aom_safety.specs.Leaves.{HasPushed, Hears, IsBegun, IsLeaving, IsOver, LeavesWith}
+use Rattle.aom_safety.specs.Leaves.{HasPushed, Hears, IsBegun, IsLeaving, IsOver, LeavesWith, PushedBy}
 use Rattle.aom_semantics.specs.Moves.{announcement, counted, does, needs, step, written_task}
 use Rattle.aom_semantics.specs.Places.{Cell, Entry, Going, Object, Place, Register, held, moved, named, same_place, seen}
 use Rattle.aom_semantics.specs.State.{A_mark, An_object, An_operation, Choice, Dispatch, Dispatched, Frame}
 use Rattle.aom_semantics.specs.State.{Goes, Item, Main_left, Run, State, Task, Trapped, Unwind, next, set_word, word}
 use Rattle.aom_safety.specs.WellTyped.{AllUndo, Awaits, EndsDispatch, Fits, Good, Leaves, Now, Stack, WellTyped}
-use Rattle.aom_semantics.specs.Effects.{Leaves, Update, applied}
+use Rattle.aom_semantics.specs.Effects.{Leaves, Pushed, Update, applied}
 use Rattle.aom_transcript.specs.declared.line.Ending.TheVariants.{MainLeft}
 use Rattle.aom_safety.proofs.Steps.{step_keeps}
 
@@ -131,14 +132,17 @@ module _ (p : Image) (t : Typing) (c : Choice) (fr : Frame) (ts : List Task) (s 
         pushed = subst (λ x. HasPushed fr (length ts) i s x) e on;
       }
 
+  -- the object of a register comes to an entry over all others
+  object_pushed : (a : ℕ) (code : ℤ) → is_some (held s.cells (Register (length ts) a)) ≡ true →
+      PushedBy fr (length ts) (Push a) s (applied p fr ts (counted p s) (Leaves code (Pushed a)))
+  object_pushed a code some =
+      let o = is_there (held s.cells (Register (length ts) a)) some in
+      (o.0, has_moved s.cells (Register (length ts) a) (Entry (length s.items)) o.0 o.1 (none_pushed_yet p t s w) refl, refl)
+
   -- what was to be pushed is pushed
   pushes : (i : Instr) (code : ℤ) → AllTrue (needs p c fr ts (counted p s) i) →
       HasPushed fr (length ts) i s (applied p fr ts (counted p s) (Leaves code (off_of p c fr ts (counted p s) i)))
-  pushes (Push a) code n =
-      let o = is_there (held s.cells (Register (length ts) a)) n.1.0 in
-      let goes = has_moved s.cells (Register (length ts) a) (Entry (length s.items)) o.0 o.1 (none_pushed_yet p t s w) refl in
-      (o.0, goes, refl)
-  pushes x code n = grind (arith, nat_tests, is_there)
+  pushes x code n = grind (arith, nat_tests, is_there, object_pushed)
 
   pub begins_by : (i : Instr) (code : ℤ) → LeavesWith c fr i code → AllTrue (needs p c fr ts (counted p s) i) → does p c fr ts (counted p s) i ≡ u →
       Begins p code fr (length ts) i s u
@@ -251,11 +255,11 @@ module _ (p : Image) (t : Typing) (s u : State) (code : ℤ) (items : List Item)
           Awaits gv (result_register (instr_at p fr.method fr.place)) sh
       waits = (good.stack.1.1.0.0, good.stack.1.1.0.1, good.stack.1.1.0.2)
 
-      by_trap : (target : Target) (m first c : ℕ) → instr_at p fr.method fr.place ≡ Some (Trap target m first c) → Hears code (gives_of p m) c s.cells
+      by_trap : (target : Target) (m first c : ℕ) → action_at p fr.method fr.place ≡ Some (Call Under_trap target m first c) → Hears code (gives_of p m) c s.cells
           (length (tasks_of ls)) fr (next (code_told (called p (instr_at p fr.method fr.place)) (result_register (instr_at p fr.method fr.place)) code fr))
       by_trap target m first c there = let w =
-          subst (λ i. (called p i ≡ gv) × (is_unowning (register sh (suc (result_register i))) ≡ true) × Awaits gv (result_register i) sh) there waits in
-          subst (λ i. Hears code (gives_of p m) c s.cells (length (tasks_of ls)) fr (next (code_told (called p i) (result_register i) code fr))) (sym there)
+          subst (λ a. (given_by p (callee_of a) ≡ gv) × (is_unowning (register sh (suc (result_of a))) ≡ true) × Awaits gv (result_of a) sh) there waits in
+          subst (λ a. Hears code (gives_of p m) c s.cells (length (tasks_of ls)) fr (next (code_told (given_by p (callee_of a)) (result_of a) code fr))) (sym there)
           (hears c code fr (gives_of p m) s.cells (length (tasks_of ls)) sh (subst (λ g. Awaits g c sh) (sym w.0) w.2) w.1 free)
 
   below_trap : (ls : List Layer) (gv : Gives) (es : List CleanupEntry) → Good p t s.cells (Unwinding code es ∷ Mark gv ∷ ls) →

@@ -1,23 +1,28 @@
 -- What is kept of clients stays so in each effect of an instruction: by the cells that it changes, and the tasks below it.
-use Rattle.std.proofs.Common.{Bool, List, None, Option, Some, cond, false, length, refl, subst, suc, sym, true, ℕ, ℤ, ◌∷◌, ◌≡◌, arith}
+use Rattle.std.specs.Prelude.{◌⊎◌}
+use Rattle.std.proofs.Common.{Bool, List, None, Option, Some, cond, false, inl, inr, length, refl, subst, suc, sym, true, ℕ, ℤ, ◌∷◌, ◌≡◌, arith}
 use Rattle.std.proofs.lemmas.Option.{none-some}
 use Rattle.aom_image.specs.Image.{Image}
 use Rattle.aom_image.specs.Views.{arguments_of}
 use Rattle.aom_image.specs.declared.class.ClassKind.{ClassKind}
+use Rattle.aom_image.specs.declared.method.Thing.TheVariants.{Message}
 use Rattle.aom_clients.specs.declared.client.Client.{Client}
 use Rattle.aom_instructions.specs.declared.instr.Instr.{Instr}
-use Rattle.aom_instructions.specs.declared.instr.Instr.TheVariants as instrs
+use Rattle.aom_instructions.specs.declared.instr.Instr.TheVariants.{Xor}
+use Rattle.aom_roles.specs.Tests.{AllTrue}
 use Rattle.aom_safety.proofs.ClientsFit.{IsFit}
 use Rattle.aom_safety.proofs.ClientsSteady.{Steady, fit_steady}
 use Rattle.aom_safety.proofs.ClientsMoves.{Fewer, IsSteady, steady_asked, steady_moved, steady_passed, steady_update, tasks_steady}
 use Rattle.aom_safety.proofs.ClientsTurn.{tasks_begun, on_none}
 use Rattle.aom_semantics.specs.Cleanup.{to_trap, top_place}
-use Rattle.aom_semantics.specs.Effects.{Calls, Cancels, Destroys, Destroys_last, Effect, Goes_on, Leaves, Requested, Returns, Same as Unchanged, Sets_trap}
-use Rattle.aom_semantics.specs.Effects.{applied, asking_with, cancels_if, deals, deletes, effect, hands_unless, jumps_unless, makes_unless, round}
+use Rattle.aom_semantics.specs.Effects.{Calls, Cancels, Destroys, Destroys_last, Effect, Goes_on, Leaves, Replied, Requested, Returns}
+use Rattle.aom_semantics.specs.Effects.{Same as Unchanged, Sets_trap, Update}
+use Rattle.aom_semantics.specs.Effects.{applied, asking_with, cancels_if, deals, deletes, effect, hands_unless, jumps_unless, makes_unless, needs, round}
 use Rattle.aom_semantics.specs.Requests.{Asking, aborted, cancelling, completed_at_once, first_request, home_kind, issued_of, on_request, own_request, waits}
 use Rattle.aom_semantics.specs.Tokens.{busy, is_crowded}
 use Rattle.aom_safety.specs.Kept.{ClientsFit, TasksKept}
-use Rattle.aom_semantics.specs.Places.{Cell, Going, Object, Request, named}
+use Rattle.aom_semantics.specs.Objects.{is_thing}
+use Rattle.aom_semantics.specs.Places.{Cell, Going, Object, Request, held, named}
 use Rattle.aom_semantics.specs.State.{Choice, Frame, Item, Run, State, Task}
 use Rattle.aom_semantics.specs.Words.{here, read}
 
@@ -39,10 +44,17 @@ module _ (fr : Frame) (s : State) where
   Fine (Returns g a) = ⊥
   Fine _ = Unit {0}
 
-abbrev pub IsUsual : Instr → Type 0
-IsUsual (instrs.Reply a b) = ⊥
-IsUsual (instrs.Return a) = ⊥
-IsUsual _ = Unit {0}
+module _ (p : Image) (fr : Frame) (ts : List Task) (s : State) where
+  -- an update completes a message, which is there
+  abbrev pub IsCompleting : Update → Type 0
+  IsCompleting (Replied a code) = is_thing p Message (held s.cells (here fr ts s a)) ≡ true
+  IsCompleting _ = ⊥
+
+  -- an answer is given: a message is completed, or a method returns
+  abbrev pub IsAnswer : Effect → Type 0
+  IsAnswer (Goes_on ch) = IsCompleting ch.update
+  IsAnswer (Returns g a) = Unit {0}
+  IsAnswer _ = ⊥
 
 module _ (p : Image) (c : Choice) (fr : Frame) (ts : List Task) (s : State) (free : named s.cells c.name ≡ None) where
   fine_cond : (b : Bool) (x y : Effect) → Fine fr s x → Fine fr s y → Fine fr s (cond b x y)
@@ -88,11 +100,18 @@ module _ (p : Image) (c : Choice) (fr : Frame) (ts : List Task) (s : State) (fre
   fine_enlisted : (priority : ℤ) → IsSteady fr s (Requested (Some (first_request s.cells priority)))
   fine_enlisted priority = (λ e. cc, λ k e. absurd (none-some k e))
 
-  pub fine_effect : (i : Instr) → IsUsual i → Fine fr s (effect p c fr ts s i)
-  fine_effect (instrs.Reply a b) usual = absurd usual
-  fine_effect (instrs.Return a) usual = absurd usual
-  -- the others by the form of their effects
-  fine_effect _ usual = search (
+  is_fine : (e : Effect) → Fine fr s e → Fine fr s e ⊎ IsAnswer p fr ts s e
+  is_fine e f = inl f
+
+  answers : (e : Effect) → IsAnswer p fr ts s e → Fine fr s e ⊎ IsAnswer p fr ts s e
+  answers e f = inr f
+
+  pub fine_effect : (i : Instr) → AllTrue (needs p c fr ts s i) → Fine fr s (effect p c fr ts s i) ⊎ IsAnswer p fr ts s (effect p c fr ts s i)
+  fine_effect (Xor a b x) met = inl tt
+  -- the others too, each a case of its own
+  fine_effect _ met = search (
+    is_fine,
+    answers,
     free,
     fine_waits,
     fine_aborted,

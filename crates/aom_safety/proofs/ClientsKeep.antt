@@ -1,17 +1,15 @@
 -- Clients, and what they have at servers, say the same in each state of a run, and tokens stay apart: as it boots, in each move and in each turn.
 use Rattle.std.proofs.lemmas.Bool.Decides.{nat_tests}
-use Rattle.std.proofs.Common.{arith, [], Bool, List, None, Option, Some, ap, false, length, refl, subst, sym, true, ℕ, ℤ, ◌∙◌, ◌∷◌, ◌≡◌}
+use Rattle.std.proofs.Common.{arith, [], Bool, List, None, Option, Some, ap, false, length, refl, subst, sym, true, ℕ, ℤ, ⊎_elim, ◌∙◌, ◌∷◌, ◌≡◌}
 use Rattle.std.specs.List.{list_any}
 use Rattle.aom_image.specs.Image.{Image}
-use Rattle.aom_image.specs.Views.{gives_of}
 use Rattle.aom_instructions.specs.declared.instr.Instr.{Instr}
-use Rattle.aom_instructions.specs.declared.instr.Instr.TheVariants as instrs
 use Rattle.aom_image.specs.declared.method.Role.TheVariants.{Error as Answers}
 use Rattle.aom_image.specs.declared.method.Thing.TheVariants.{Message}
 use Rattle.aom_classes.specs.Roles.{main_of}
 use Rattle.aom_clients.specs.declared.client.Client.{Client}
 use Rattle.aom_rules.specs.Typing.{Typing}
-use Rattle.aom_safety.proofs.ClientsEffects.{IsUsual, effect_kept, fine_effect}
+use Rattle.aom_safety.proofs.ClientsEffects.{IsAnswer, IsCompleting, effect_kept, fine_effect}
 use Rattle.aom_safety.proofs.ClientsFacts.{IsAt, goes_apart, queued_well, server_lives, serving_plain, waiting_well}
 use Rattle.aom_safety.proofs.ClientsFit.{IsFit, fit_parted}
 use Rattle.aom_safety.proofs.ClientsGone.{fit_gone, stage_gone}
@@ -28,13 +26,13 @@ use Rattle.aom_image.specs.declared.method.Gives.{Gives}
 use Rattle.aom_semantics.specs.Calls.{returned}
 use Rattle.aom_semantics.specs.Objects.{is_thing}
 use Rattle.aom_semantics.specs.Tokens.{TokensApart, redeemed_by, token_of}
-use Rattle.aom_semantics.specs.Words.{here, read}
+use Rattle.aom_semantics.specs.Words.{here}
 use Rattle.aom_safety.proofs.Moving.{steps_are_moves}
 use Rattle.aom_safety.specs.Steps.{Acts, Arrives, Clears, Comes_out, Empties, Ends, Move, Rests, Undoes, Vanishes}
 use Rattle.aom_safety.proofs.Guarded.{acts_at}
 use Rattle.aom_semantics.specs.Cleanup.{ended_by}
 use Rattle.aom_semantics.specs.Destruction.{begun, parting, vanished, first_session}
-use Rattle.aom_semantics.specs.Effects.{applied, effect, needs}
+use Rattle.aom_semantics.specs.Effects.{Change, Effect, Goes_on, Replied, Returns, Update, applied, effect, needs}
 use Rattle.aom_semantics.specs.Requests.{ended_cells, part_of}
 use Rattle.aom_safety.specs.Kept.{ClientsFit, IsKept, StageKept, TasksKept, is_message_of}
 use Rattle.aom_safety.specs.Laws.{ClientsKeep, IsWired}
@@ -170,18 +168,18 @@ module _ (p : Image) (t : Typing) (wired : IsWired p) (c : Choice) (s : State) (
     stage_below = subst (λ l. TasksKept p s.clients s.cells l) tasks kept.stage
 
     -- a message is completed
-    reply_kept : (a b : ℕ) → AllTrue (needs p c fr ts (counted p s) (instrs.Reply a b)) →
-        IsFit p (applied p fr ts (counted p s) (effect p c fr ts (counted p s) (instrs.Reply a b)))
-    reply_kept a b met = go (held s.cells (here fr ts (counted p s) a)) refl met.1.1.0
+    reply_kept : (ch : Change) (a : ℕ) (code : ℤ) → is_thing p Message (held s.cells (here fr ts (counted p s) a)) ≡ true →
+        IsFit p (applied p fr ts (counted p s) (Goes_on (record ch { update = Replied a code })))
+    reply_kept ch a code met = go (held s.cells (here fr ts (counted p s) a)) refl met
       where
         cs : List Cell
-        cs = redeemed_by (token_of s.cells (held s.cells (here fr ts (counted p s) a))) (read fr ts (counted p s) b) s.cells
+        cs = redeemed_by (token_of s.cells (held s.cells (here fr ts (counted p s) a))) code s.cells
 
         like : Alike s.cells cs
-        like = redeemed_by_alike (token_of s.cells (held s.cells (here fr ts (counted p s) a))) (read fr ts (counted p s) b) s.cells
+        like = redeemed_by_alike (token_of s.cells (held s.cells (here fr ts (counted p s) a))) code s.cells
 
         still : Steady s.cells cs
-        still = steady_redeemed (token_of s.cells (held s.cells (here fr ts (counted p s) a))) (read fr ts (counted p s) b) s.cells
+        still = steady_redeemed (token_of s.cells (held s.cells (here fr ts (counted p s) a))) code s.cells
 
         fit : ClientsFit p s.clients cs
         fit = fit_steady p s.clients s.cells cs still kept.fit
@@ -194,7 +192,7 @@ module _ (p : Image) (t : Typing) (wired : IsWired p) (c : Choice) (s : State) (
             (x.0, like.held_so (Elsewhere (Queued n m)) ∙ x.1)
 
         go : (o : Option Object) → held s.cells (here fr ts (counted p s) a) ≡ o → is_thing p Message (held s.cells (here fr ts (counted p s) a)) ≡ true →
-            IsFit p (applied p fr ts (counted p s) (effect p c fr ts (counted p s) (instrs.Reply a b)))
+            IsFit p (applied p fr ts (counted p s) (Goes_on (record ch { update = Replied a code })))
         go None e thing = record {
           fit = subst (λ l. ClientsFit p s.clients l) (sym (without_none cs (here fr ts (counted p s) a) (like.held_so (here fr ts (counted p s) a) ∙ e))) fit;
           stage = subst (λ l. TasksKept p s.clients l ts) (sym (without_none cs (here fr ts (counted p s) a) (like.held_so (here fr ts (counted p s) a) ∙ e))) stage;
@@ -220,13 +218,19 @@ module _ (p : Image) (t : Typing) (wired : IsWired p) (c : Choice) (s : State) (
         )) tasks (tasks_steady p s.clients s.cells (ended_cells p fr s.cells) still ts stage_below)
         (tasks_steady p s.clients s.cells (ended_cells p fr s.cells) still ts stage_below)
 
+    completed_kept : (ch : Change) (u : Update) → IsCompleting p fr ts (counted p s) u → IsFit p (applied p fr ts (counted p s) (Goes_on (record ch { update = u })))
+    completed_kept ch (Replied a code) met = reply_kept ch a code met
+    completed_kept ch _ met = absurd met
+
+    answer_kept : (e : Effect) → IsAnswer p fr ts (counted p s) e → IsFit p (applied p fr ts (counted p s) e)
+    answer_kept (Goes_on ch) met = completed_kept ch ch.update met
+    answer_kept (Returns g a) met = returns_kept g a
+    answer_kept _ met = absurd met
+
     act_kept : (i : Instr) → AllTrue (needs p c fr ts (counted p s) i) → IsFit p (applied p fr ts (counted p s) (effect p c fr ts (counted p s) i))
-    act_kept (instrs.Reply a b) met = reply_kept a b met
-    act_kept (instrs.Return a) met = returns_kept (gives_of p fr.method) a
-    act_kept i met = usual i tt
-      where
-        usual : (i : Instr) → IsUsual i → IsFit p (applied p fr ts (counted p s) (effect p c fr ts (counted p s) i))
-        usual i u = effect_kept p fr ts (counted p s) kept.fit stage_below (effect p c fr ts (counted p s) i) (fine_effect p c fr ts (counted p s) free i u)
+    act_kept i met =
+        ⊎_elim (effect_kept p fr ts (counted p s) kept.fit stage_below (effect p c fr ts (counted p s) i)) (answer_kept (effect p c fr ts (counted p s) i))
+        (fine_effect p c fr ts (counted p s) free i met)
 
   stage_at : (ts : List Task) → s.tasks ≡ ts → TasksKept p s.clients s.cells ts
   stage_at ts at = subst (λ l. TasksKept p s.clients s.cells l) at kept.stage

@@ -17,7 +17,6 @@ use Rattle.std.proofs.lemmas.Bool.{and_parts, eqb-true}
 use Rattle.std.specs.Prelude.{slice_get, nat_le}
 use Rattle.aom_image.specs.Image.{Image}
 use Rattle.aom_image.specs.Views.{fields_of, has, method_role}
-use Rattle.aom_instructions.specs.declared.instr.Instr.TheVariants.{Return}
 use Rattle.aom_image.specs.declared.method.Thing.{Thing}
 use Rattle.aom_image.specs.declared.method.Thing.TheVariants.{Object as An_object_of}
 use Rattle.aom_shape.specs.Kinds.{all_empty, field, filled, is_empty, no_entry, none_owns, register}
@@ -33,9 +32,9 @@ use Rattle.aom_shape.specs.declared.kind.Filling.{Filling}
 use Rattle.aom_shape.specs.declared.kind.Filling.TheVariants.{Perhaps}
 use Rattle.aom_shape.specs.declared.kind.Kind.TheVariants.{Null}
 use Rattle.aom_safety.proofs.Claimed.{claim_unclaimed, claim_register_above}
-use Rattle.aom_safety.proofs.Finishing.{ended_plainly, no_entries, none_left, none_owns_at, return_needs, returnable, same_items}
+use Rattle.aom_safety.proofs.Finishing.{ReturnLaw, ended_plainly, no_entries, none_left, none_owns_at, return_needs, same_items}
 use Rattle.aom_safety.proofs.Going.{past_by}
-use Rattle.aom_safety.proofs.Straight.{At, Law, fits_unowning}
+use Rattle.aom_safety.proofs.Straight.{At, fits_unowning}
 use Rattle.aom_safety.specs.Claims.{forms, declared_field, Dying, Layer, claim, declared, items_of, own_field, tasks_of}
 use Rattle.aom_semantics.specs.Places.{Queued, Session, Request, Cell, Sight, In_service, Elsewhere, Entry}
 use Rattle.aom_semantics.specs.Places.{Field, Going, Object, Place, Register, Root, held, seen}
@@ -237,9 +236,8 @@ module _ (p : Image) (t : Typing) (c : Choice) (s : State) (fr : Frame) (sh : Sh
       next_well : WellTyped p t (Then (next_destructor p fr.method))
       next_well = grind (arith, nat_tests, of_parent)
 
-  pub law_destructor : IsWired p → IsTyped p t → (a : ℕ) → Law p t c s fr sh (Dying o ∷ ls) at_hand (Return a)
-  law_destructor wired typed a n leads =
-      let r = returnable p fr sh a n in
+  pub law_destructor : IsWired p → IsTyped p t → (a : ℕ) → ReturnLaw p t s fr sh (Dying o ∷ ls) a
+  law_destructor wired typed a r =
       let its = at_hand.good.stack.4.1 in
       let done : fields_done p true (Member line.class) sh.fields ≡ true =
       ap (λ k. fields_done p true k sh.fields) (sym holder) ∙ ap (λ b. fields_done p b (holder_of p fr.method) sh.fields) (sym destructs) ∙ r.fields in

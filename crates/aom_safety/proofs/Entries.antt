@@ -3,7 +3,7 @@ use Rattle.std.proofs.lemmas.Bool.Decides.{nat_tests}
 use Rattle.std.proofs.Common.{Bool, List, None, Option, Some, [], ap, arith, cond, false, length, refl, subst, suc, sym, true, ℕ, ℤ, ◌∙◌, ◌∷◌, ◌≡◌}
 use Rattle.std.specs.Prelude.{is_none, is_some, not}
 use Rattle.aom_image.specs.Image.{Image}
-use Rattle.aom_image.specs.Views.{instr_at}
+use Rattle.aom_image.specs.Views.{action_in, instr_at}
 use Rattle.aom_instructions.specs.declared.instr.Instr.TheVariants.{NewOrLeave, Pop, PopDelete, PopOperation, Push, PushOperation}
 use Rattle.aom_image.specs.declared.method.Thing.TheVariants.{Object as An_object_of}
 use Rattle.aom_rules.specs.Cleanup.{entry_of, owns_object, top_kind, tops_object as tops_object_entry, tops_operation as tops_operation_entry}
@@ -178,7 +178,7 @@ module _ (p : Image) (t : Typing) (c : Choice) (s : State) (fr : Frame) (sh : Sh
       items = ap (λ fs. Operation_form ∷ fs) at_hand.items
 
       undos : AllUndo p (An_operation m (read fr (tasks_of ls) s a) ∷ s.items)
-      undos = (wired.pushed fr.method fr.place a m here, at_hand.undos)
+      undos = (wired.pushed fr.method fr.place a m (ap action_in here), at_hand.undos)
 
       needed : (b : Bool) → AllTrue (cond b (leave_needs s.cells (Run fr ∷ tasks_of ls)) [])
       needed true = leave_is_met p t s.cells (next fr) fr with_operation ls operation_fitted n.1.0 n.1.1.0

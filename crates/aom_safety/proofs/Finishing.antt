@@ -6,14 +6,12 @@ use Rattle.std.proofs.lemmas.Bool.{and_from, and_parts, cases_Bool, eq-eqb, eqb-
 use Rattle.std.specs.Prelude.{is_some, not, ◌++◌}
 use Rattle.aom_image.specs.Image.{Image}
 use Rattle.aom_image.specs.Views.{gives_of, has, method_role}
-use Rattle.aom_instructions.specs.declared.instr.Instr.TheVariants.{Return}
 use Rattle.aom_image.specs.declared.method.Gives.{Gives}
 use Rattle.aom_image.specs.declared.method.Gives.TheVariants.{Maybe as A_maybe, Nothing, Own as An_own}
 use Rattle.aom_image.specs.declared.method.Thing.{Thing}
 use Rattle.aom_image.specs.declared.method.Thing.TheVariants.{Object as An_object_of}
-use Rattle.aom_rules.specs.Calls.{entries_done, fields_done, is_destructor, leaves_one, result_moved, rule_ended, rule_left, rule_result}
+use Rattle.aom_rules.specs.Calls.{entries_done, fields_done, is_destructor, leaves_one, result_moved, rule_ended, rule_left, rule_result, rule_return}
 use Rattle.aom_shape.specs.Kinds.{is_here, field, filled, is_unowning, no_entry, none_owns}
-use Rattle.aom_rules.specs.Rules.{rule_needs}
 use Rattle.aom_shape.specs.Shape.{Shape}
 use Rattle.aom_roles.specs.Tables.{at}
 use Rattle.aom_roles.specs.Things.{field_thing, holder_of, stands_for}
@@ -30,10 +28,10 @@ use Rattle.aom_safety.proofs.Destroying.{eqb_comm}
 use Rattle.aom_safety.proofs.Items.{length_forms}
 use Rattle.aom_safety.proofs.SemanticsLemmas.{at-put_at, front_free}
 use Rattle.aom_safety.proofs.Straight.{At, fits_unowning, free_register, top}
-use Rattle.aom_semantics.specs.Calls.{end_needs, is_level, is_register_but, leaves_object, none_owns_but, result_needs, result_source, returned}
+use Rattle.aom_semantics.specs.Calls.{end_needs, is_level, is_register_but, leaves_object, needs_return, none_owns_but, result_needs, result_source, returned}
 use Rattle.aom_safety.specs.Claims.{own_field, serves, delivered, Dispatching, Layer, Method, Object_form, claim}
 use Rattle.aom_safety.specs.Claims.{declared, declared_field, entry_claim, forms, home_claim, items_of, objects, tasks_of}
-use Rattle.aom_semantics.specs.Moves.{does, needs}
+use Rattle.aom_semantics.specs.Effects.{Returns, applied}
 use Rattle.aom_semantics.specs.Objects.{is_thing}
 use Rattle.aom_semantics.specs.Places.{In_service, Cell, Elsewhere, Entry, Field, Object, Place, Register, Root, Sight, held, requested, same_place, seen}
 use Rattle.aom_semantics.specs.State.{home_holder, An_object, AtRoot, Choice, Frame, Home, Inside, Item, State, Static, thing_holder}
@@ -155,11 +153,20 @@ pub record Returnable (p : Image) (fr : Frame) (sh : Shape) (a : ℕ) : Type 0 w
   pub ends : IsTrue (has (after_of p fr.method) sh.states)
   pub message : only_if (serves p fr.method) (not (is_here sh.delivery)) ≡ true
 
-pub returnable : (p : Image) (fr : Frame) (sh : Shape) (a : ℕ) → AllTrue (rule_needs p fr.method fr.place sh (Return a)) → Returnable p fr sh a
+pub returnable : (p : Image) (fr : Frame) (sh : Shape) (a : ℕ) → AllTrue (rule_return p fr.method fr.place sh a) → Returnable p fr sh a
 returnable p fr sh a n = let parts =
     all_parts (rule_result p fr.method fr.place sh (gives_of p fr.method) a) (rule_left p fr.method fr.place sh a ++ rule_ended p fr.method fr.place sh) n in
     let left = all_parts (rule_left p fr.method fr.place sh a) (rule_ended p fr.method fr.place sh) parts.1 in
     record { result = parts.0; entries = left.0.0; free = left.0.1.0; fields = left.1.1.1.1.0; settled = left.1.0; cancels = left.1.1.0; ends = left.1.1.1.1.1.0; message = left.1.1.1.1.1.1.0 }
+
+-- a return has its needs met, and leads to a well-typed state
+abbrev pub IsReturned : Image → Typing → State → Frame → List Layer → ℕ → Type 0
+IsReturned p t s fr ls a =
+    AllTrue (needs_return p fr (tasks_of ls) s a) × WellTyped p t (applied p fr (tasks_of ls) s (Returns (gives_of p fr.method) a))
+
+-- what each layer has to give to which a method may return
+abbrev pub ReturnLaw : Image → Typing → State → Frame → Shape → List Layer → ℕ → Type 0
+ReturnLaw p t s fr sh ls a = Returnable p fr sh a → IsReturned p t s fr ls a
 
 -- a method that served has taken its message
 pub message_gone : (p : Image) (fr : Frame) (sh : Shape) (a : ℕ) → Returnable p fr sh a → serves p fr.method ≡ true → sh.delivery ≡ Gone
@@ -263,10 +270,10 @@ module _ (p : Image) (t : Typing) (c : Choice) (s : State) (fr : Frame) (sh : Sh
   after_return cs = returned p fr (tasks_of ls) (record s { cells = cs }) (gives_of p fr.method) a (tasks_of ls)
 
   -- the end of a method that does not cancel changes no request
-  pub ended_plainly : is_cancel (method_role p fr.method) ≡ false → WellTyped p t (after_return s.cells) → WellTyped p t (does p c fr (tasks_of ls) s (Return a))
+  pub ended_plainly : is_cancel (method_role p fr.method) ≡ false → WellTyped p t (after_return s.cells) → WellTyped p t (applied p fr (tasks_of ls) s (Returns (gives_of p fr.method) a))
   ended_plainly e w = grind (arith, nat_tests)
 
   -- the needs of a return, from those of its result and of what it returns to
   pub return_needs : AllTrue (result_needs p fr (tasks_of ls) s (gives_of p fr.method) a) → AllTrue (end_needs p fr (tasks_of ls) s (tasks_of ls)) →
-      AllTrue (needs p c fr (tasks_of ls) s (Return a))
+      AllTrue (needs_return p fr (tasks_of ls) s a)
   return_needs result end = grind (arith, nat_tests, all_join, result, level p t c s fr sh ls at_hand, none_owns_from s.cells, spared, answered)

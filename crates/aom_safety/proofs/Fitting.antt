@@ -1,25 +1,30 @@
 -- Each instruction may have its effect, and the registers that the effect names are among those of a method.
 use Rattle.std.proofs.lemmas.Bool.Decides.{nat_tests}
-use Rattle.std.proofs.Common.{Bool, List, Option, Some, [], ap, cond, inl, length, refl, sym, true, ℕ, ℤ, negsuc, arith, ◌-◌, ◌∙◌, ◌∷◌, ◌≡◌, ◌≤◌}
+use Rattle.std.proofs.Common.{Bool, List, Option, Some, [], ap, cond, inl, length, refl, sym, true, ℕ, ℤ, negsuc, arith, ◌∙◌, ◌∷◌, ◌≡◌, ◌≤◌}
 use Rattle.std.proofs.lemmas.Bool.{leb-true}
 use Rattle.std.specs.Prelude.{is_some}
 use Rattle.aom_image.specs.Image.{Image}
 use Rattle.aom_instructions.specs.Operands.{IsRegister}
 use Rattle.aom_image.specs.Views.{arguments_of}
 use Rattle.aom_instructions.specs.Fits.{InstrFits}
+use Rattle.aom_instructions.specs.Table.{action_of, transfer_of}
+use Rattle.aom_instructions.specs.declared.action.Action.{Action}
+use Rattle.aom_instructions.specs.declared.action.Action.TheVariants.{Call, Push, PushOperation}
+use Rattle.aom_instructions.specs.declared.action.Manner.TheVariants.{Plain, Trapped}
 use Rattle.aom_instructions.specs.declared.instr.Instr.{Instr}
-use Rattle.aom_instructions.specs.declared.instr.Instr.TheVariants.{Loop, Push, PushOperation}
+use Rattle.aom_instructions.specs.declared.instr.Instr.TheVariants.{Xor}
 use Rattle.aom_instructions.specs.declared.instr.Target.{Target}
 use Rattle.aom_instructions.specs.declared.limits.Limits.{Limits}
+use Rattle.aom_instructions.specs.declared.transfer.Transfer.TheVariants.{Begin}
 use Rattle.aom_roles.specs.Tests.{AllTrue}
 use Rattle.aom_classes.specs.Jumps.{jump_of}
 use Rattle.aom_classes.specs.Loops.{loop_in}
 use Rattle.aom_safety.proofs.Finishing.{all_parts}
-use Rattle.aom_semantics.specs.Calls.{below_top, needs_entering}
+use Rattle.aom_semantics.specs.Calls.{below_top, needs_entering, result_register}
 use Rattle.aom_semantics.specs.Cleanup.{has_trap, leave_needs, no_memory, tops_operation}
-use Rattle.aom_semantics.specs.Effects.{Calls, Cancels, Carried, Destroys, Destroys_last, Effect, Goes_on, In_register}
+use Rattle.aom_semantics.specs.Effects.{Calls, Cancels, Carried, Counts, Destroys, Destroys_last, Effect, Goes_on, In_register}
 use Rattle.aom_semantics.specs.Effects.{Leaves, Handed, Made, Operates, Popped, Pushed, Pushed_operation, Same, Sets_trap, Spot, Update}
-use Rattle.aom_semantics.specs.Effects.{effect}
+use Rattle.aom_semantics.specs.Effects.{effect, updates}
 use Rattle.aom_safety.specs.Leaves.{LeavesWith}
 use Rattle.aom_semantics.specs.Moves.{needs}
 use Rattle.aom_semantics.specs.Places.{Cell}
@@ -72,21 +77,50 @@ module _ (p : Image) (c : Choice) (fr : Frame) (ts : List Task) (s : State) wher
   few_arguments : (target : Target) (m first : ℕ) (more : List Need) → AllTrue (needs_entering p fr ts s target m first more) → length (arguments_of p m) ≤ 16
   few_arguments target m first more n = grind (arith, nat_tests, all_parts, leb-true)
 
+  -- where a loop begins, it may
+  may_begin : (i : Instr) (depth rounds : ℕ) → transfer_of i ≡ Begin depth rounds → May i (Counts depth rounds)
+  may_begin i depth rounds e = (inl e, λ l f. tt)
+
+  -- a method is called, plainly or under a trap
+  may_call : (i : Instr) (target : Target) (m first : ℕ) → action_of i ≡ Call Plain target m first (result_register (Some i)) → length (arguments_of p m) ≤ 16 →
+      May i (Calls target m first)
+  may_call i target m first e few = ((result_register (Some i), e), λ l f. few)
+
+  may_trap : (i : Instr) (target : Target) (m first : ℕ) → action_of i ≡ Call Trapped target m first (result_register (Some i)) → length (arguments_of p m) ≤ 16 →
+      May i (Sets_trap target m first)
+  may_trap i target m first e few = ((result_register (Some i), e), λ l f. few)
+
+  -- an operation is pushed over a trap, also where that leaves
+  pushes_operation : (i : Instr) (a m : ℕ) → action_of i ≡ PushOperation a m → IsStraight i → has_trap ts ≡ true →
+      May i (updates fr (Pushed_operation m (read fr ts s a)))
+  pushes_operation i a m e straight trap = ((straight, (a, e, trap)), λ l f. tt)
+
+  leaves_pushed : (i : Instr) (a m : ℕ) (code : ℤ) → action_of i ≡ PushOperation a m → LeavesWith c fr i code → has_trap ts ≡ true →
+      May i (Leaves code (Pushed_operation m (read fr ts s a)))
+  leaves_pushed i a m code e leaves trap = ((trap, leaves, (a, e, trap)), λ l f. tt)
+
   pub fits : (i : Instr) → AllTrue (needs p c fr ts s i) → May i (effect p c fr ts s i)
   unfolding jump_of loop_in
-  fits (Loop depth rounds) n = (inl refl, λ l f. tt)
-  -- the others go on, jump or leave, whatever a test of theirs decides
+  -- most go on, jump or leave, whatever a test of theirs decides
+  fits (Xor a b x) n = ((refl, tt), λ l f. tt)
+  -- the others too, each a case of its own
   fits _ n = first_of (
     grind arith,
+    search may_begin,
     grind (arith, nat_tests, either, may_leave, read_word),
-    grind (arith, nat_tests, operation_on_top, few_arguments),
+    search (arith, either, pushes_operation, leaves_pushed),
+    search (arith, may_call, may_trap, few_arguments),
+    grind (arith, nat_tests, operation_on_top),
   )
 
   -- what a leave of an instruction pushes before it
+  abbrev pub off_by : Action → Update
+  off_by (Push a) = Pushed a
+  off_by (PushOperation a m) = Pushed_operation m (read fr ts s a)
+  off_by _ = Same
+
   abbrev pub off_of : Instr → Update
-  off_of (Push a) = Pushed a
-  off_of (PushOperation a m) = Pushed_operation m (read fr ts s a)
-  off_of _ = Same
+  off_of i = off_by (action_of i)
 
   taken : (b : Bool) (off on : Effect) → b ≡ true → cond b off on ≡ off
   taken x off on e = grind arith

@@ -5,13 +5,13 @@ use Rattle.std.proofs.Common.{None, Some, ap, arith, cond, false, inl, inr, leng
 use Rattle.std.proofs.Common.{sym, true, ℕ, ⊎_elim, ◌-◌, ◌<◌, ◌==◌, ◌∙◌, ◌∷◌, ◌≡◌, ◌≢◌, ◌≤◌}
 use Rattle.std.proofs.lemmas.Bool.{cases_Bool, cases_lt, eq-eqb, eqb-true, ne_eqb}
 use Rattle.aom_image.specs.Image.{Image}
-use Rattle.aom_image.specs.Views.{instr_at}
+use Rattle.aom_image.specs.Views.{instr_at, transfer_at, transfer_in}
 use Rattle.aom_instructions.specs.declared.instr.Instr.{Instr}
-use Rattle.aom_instructions.specs.declared.instr.Instr.TheVariants.{Loop, Next}
+use Rattle.aom_instructions.specs.declared.transfer.Transfer.TheVariants.{Begin, Repeat}
 use Rattle.aom_safety.proofs.ClassesLemmas.{linked_is_looped}
 use Rattle.aom_classes.specs.Bodies.{Body, IsIn, IsLooped}
 use Rattle.aom_classes.specs.Jumps.{jump_of}
-use Rattle.aom_classes.specs.Loops.{loop_in}
+use Rattle.aom_classes.specs.Loops.{begun_by, loop_in}
 use Rattle.aom_safety.proofs.SemanticsLemmas.{at-put_at}
 use Rattle.aom_safety.proofs.Preserving.{Kept, keeps, turn_keeps_it}
 use Rattle.aom_semantics.specs.Calls.{entered}
@@ -19,7 +19,7 @@ use Rattle.aom_semantics.specs.Cleanup.{operation_frame}
 use Rattle.aom_safety.specs.Loops.{LoopsKeep, RoundsAt, RoundsLeft, rounds_left}
 use Rattle.aom_semantics.specs.Moves.{counted, step, error_frame}
 use Rattle.aom_semantics.specs.State.{A_mark, Choice, Frame, Goes, State, counter, frame_as, frame_of, set_counter}
-use Rattle.aom_safety.specs.Steps.{IsStraight}
+use Rattle.aom_safety.specs.Steps.{IsStraight, Sets}
 use Rattle.aom_semantics.specs.World.{boot_state}
 
 -- a method at its first place stands in no body
@@ -34,7 +34,8 @@ module _ (p : Image) (looped_so : IsLooped p) (fr : Frame) (i : Instr) (at : ins
       ⊎_elim (λ lt. rounds from to d n body (lt, omega (arith, inside.1))) (λ le. absurd (begins (omega (arith, inside.0)))) (cases_lt from fr.place)
     where
       begins : from ≡ fr.place → ⊥
-      begins e = let clash : None ≡ Some d = sym straight ∙ ap loop_in (sym at ∙ ap (λ x. instr_at p fr.method x) (sym e) ∙ body.begins) in cc
+      begins e =
+          let clash : None ≡ Some d = sym straight ∙ ap begun_by (sym (ap transfer_in at) ∙ ap (λ x. transfer_at p fr.method x) (sym e) ∙ body.begins) in cc
 
   -- where it jumps
   goes_to : (t : ℕ) → jump_of i ≡ Some t → RoundsAt p fr t
@@ -56,10 +57,10 @@ module _ (p : Image) (looped_so : IsLooped p) (fr : Frame) (rounds : RoundsAt p 
   ]
 
   -- one loop begins at a place
-  one_loop : (m from d n e k : ℕ) → instr_at p m from ≡ Some (Loop d n) → instr_at p m from ≡ Some (Loop e k) → (d ≡ e) × (n ≡ k)
+  one_loop : (m from d n e k : ℕ) → transfer_at p m from ≡ Some (Begin d n) → transfer_at p m from ≡ Some (Begin e k) → (d ≡ e) × (n ≡ k)
   one_loop m from d n e k a b = (cc, (cc))
 
-  begins_rounds : (e k : ℕ) → instr_at p fr.method fr.place ≡ Some (Loop e k) → RoundsAt p (set_counter fr e k) (suc fr.place)
+  begins_rounds : (e k : ℕ) → transfer_at p fr.method fr.place ≡ Some (Begin e k) → RoundsAt p (set_counter fr e k) (suc fr.place)
   begins_rounds e k at from to d n body inside = same_or from fr.place _ own other
     where
       here_begins : (0 < k) × (end : ℕ) × Body p fr.method fr.place end e k
@@ -67,7 +68,7 @@ module _ (p : Image) (looped_so : IsLooped p) (fr : Frame) (rounds : RoundsAt p 
 
       own : from ≡ fr.place → (0 < counter (set_counter fr e k) d) × (counter (set_counter fr e k) d ≤ n)
       own same =
-          let one = one_loop fr.method from d n e k body.begins (ap (λ x. instr_at p fr.method x) same ∙ at) in
+          let one = one_loop fr.method from d n e k body.begins (ap (λ x. transfer_at p fr.method x) same ∙ at) in
           let is = own_counter e k d (sym one.0) in
           (subst (λ x. 0 < x) (sym is) here_begins.0, subst (λ x. x ≤ n) (sym is) (subst (λ x. k ≤ x) (sym one.1) (omega arith)))
 
@@ -80,7 +81,7 @@ module _ (p : Image) (looped_so : IsLooped p) (fr : Frame) (rounds : RoundsAt p 
           let old = rounds from to d n body (below, omega (arith, inside.1)) in
           (subst (λ x. 0 < x) (sym is) old.0, subst (λ x. x ≤ n) (sym is) old.1)
 
-  module _ (e t : ℕ) (at : instr_at p fr.method fr.place ≡ Some (Next e t)) where
+  module _ (e t : ℕ) (at : transfer_at p fr.method fr.place ≡ Some (Repeat e t)) where
     closing : (from : ℕ) × (n : ℕ) × Body p fr.method from fr.place e n × (t ≡ suc from)
     closing = looped_so.closes fr.method fr.place e t at
 
@@ -96,7 +97,23 @@ module _ (p : Image) (looped_so : IsLooped p) (fr : Frame) (rounds : RoundsAt p 
     -- the last round is over
     ends_rounds : RoundsAt p (set_counter fr e 0) (suc fr.place)
     ends_rounds from to d n body inside =
-        grind (arith, nat_tests, same_or from closing.0, aside 0 from to d n body, cases_lt from fr.place, one_loop fr.method from d n e closing.1 body.begins)
+        same_or from closing.0 _ own (λ differs. aside 0 from to d n body differs (before, omega (arith, inside.1)))
+      where
+        -- no loop begins at the place of a next
+        not_here : from ≡ fr.place → ⊥
+        not_here same = let clash : Some (Begin d n) ≡ Some (Repeat e t) = sym body.begins ∙ ap (λ x. transfer_at p fr.method x) same ∙ at in cc
+
+        before : from < fr.place
+        before = ⊎_elim (λ lt. lt) (λ le. absurd (not_here (omega (arith, inside.0)))) (cases_lt from fr.place)
+
+        -- nor does another next close the one that this one closes
+        own : from ≡ closing.0 → (0 < counter (set_counter fr e 0) d) × (counter (set_counter fr e 0) d ≤ n)
+        own same =
+            let one = one_loop fr.method from d n e closing.1 body.begins (ap (λ x. transfer_at p fr.method x) same ∙ closing.2.begins) in
+            let its : Body p fr.method from fr.place d n = subst (λ x. Body p fr.method x fr.place d n) (sym same)
+            (subst (λ x. Body p fr.method closing.0 fr.place x n) (sym one.0) (subst (λ x. Body p fr.method closing.0 fr.place e x) (sym one.1) closing.2)) in
+            let end : to ≡ fr.place = looped_so.once fr.method from to fr.place d n body its in
+            absurd (omega (arith, inside.1, end))
 
     -- another round begins
     next_round : (k : ℕ) → (counter fr e - 1) ≡ suc k → RoundsAt p (set_counter fr e (suc k)) t
@@ -107,24 +124,30 @@ module _ (p : Image) (looped_so : IsLooped p) (fr : Frame) (rounds : RoundsAt p 
 
         own : from ≡ closing.0 → (0 < counter (set_counter fr e (suc k)) d) × (counter (set_counter fr e (suc k)) d ≤ n)
         own same =
-            let one = one_loop fr.method from d n e closing.1 body.begins (ap (λ x. instr_at p fr.method x) same ∙ closing.2.begins) in
+            let one = one_loop fr.method from d n e closing.1 body.begins (ap (λ x. transfer_at p fr.method x) same ∙ closing.2.begins) in
             let is = own_counter e (suc k) d (sym one.0) in
             let old = rounds from to d n body here_is in
             let before : counter fr e ≤ n = subst (λ x. counter fr x ≤ n) one.0 old.1 in
             (subst (λ x. 0 < x) (sym is) (omega arith), subst (λ x. x ≤ n) (sym is) (omega arith))
 
 module _ (p : Image) (looped_so : IsLooped p) (c : Choice) (s : State) where
+  -- a loop begins, or its last round is over
+  counts_on : (fr : Frame) (i : Instr) (d n : ℕ) → instr_at p fr.method fr.place ≡ Some i → RoundsAt p fr fr.place → Sets i d n →
+      RoundsAt p (set_counter fr d n) (suc fr.place)
+  counts_on fr i d n there runs (inl begins) = begins_rounds p looped_so fr runs d n (ap transfer_in there ∙ ap Some begins)
+  counts_on fr i d n there runs (inr over) = rw over.2 (ends_rounds p looped_so fr runs d over.0 (ap transfer_in there ∙ ap Some over.1))
+
   kept : Kept p c (rounds_left p) s
   kept = record {
     goes_on = λ fr ts i a f words. goes_on p looped_so fr i a.there a.runs f;
     jumps = λ fr ts i a to f. goes_to p looped_so fr i a.there a.runs to f;
-    counts = λ fr ts i a d n f. grind (arith, nat_tests, begins_rounds, ends_rounds);
-    repeats = λ fr ts d to k a f. next_round p looped_so fr a.runs d to a.there k f;
+    counts = λ fr ts i a d n f. counts_on fr i d n a.there a.runs f;
+    repeats = λ fr ts i a d to k e f. next_round p looped_so fr a.runs d to (ap transfer_in a.there ∙ ap Some e) k f;
     waits = λ fr ts i a f words. goes_on p looped_so fr i a.there a.runs f;
     resumes = λ fr ts w words. w;
-    calls = λ fr ts target m first x a. fresh p (entered p fr ts (counted p s) target m first (length s.items));
-    cancels = λ fr ts m a e. fresh p (frame_as m fr.home fr.view (length s.items));
-    traps = λ fr ts target m first x a. (fresh p (entered p fr ts (counted p s) target m first (length (A_mark ∷ s.items))), tt);
+    calls = λ fr ts i a target m first x e. fresh p (entered p fr ts (counted p s) target m first (length s.items));
+    cancels = λ fr ts i a m e f. fresh p (frame_as m fr.home fr.view (length s.items));
+    traps = λ fr ts i a target m first x e. (fresh p (entered p fr ts (counted p s) target m first (length (A_mark ∷ s.items))), tt);
     destructs = λ o x m height ts e. fresh p (destructor_frame p m o (length ts) height);
     asks = λ x m code height e. fresh p (error_frame m x code height);
     undoes = λ m w items ts e. fresh p (operation_frame m w (length items));

@@ -1,23 +1,26 @@
 -- What it takes that each step keeps a law of tasks, and that it then does: once for all such laws, by the moves.
 use Rattle.std.proofs.lemmas.Bool.Decides.{nat_tests}
-use Rattle.std.proofs.Common.{arith, Bool, List, Option, Some, [], length, refl, subst, suc, sym, true, ℕ, ℤ, ◌-◌, ◌∷◌, ◌≡◌}
+use Rattle.std.proofs.Common.{arith, Bool, List, Option, Some, [], length, subst, suc, sym, true, ℕ, ℤ, ◌-◌, ◌∙◌, ◌∷◌, ◌≡◌}
 use Rattle.aom_image.specs.Image.{Image}
 use Rattle.aom_image.specs.Views.{instr_at}
+use Rattle.aom_instructions.specs.Table.{action_of, transfer_of}
+use Rattle.aom_instructions.specs.declared.action.Action.TheVariants.{Call, Cancel}
+use Rattle.aom_instructions.specs.declared.action.Manner.TheVariants.{Plain, Trapped as Under_trap}
 use Rattle.aom_instructions.specs.declared.instr.Instr.{Instr}
-use Rattle.aom_instructions.specs.declared.instr.Instr.TheVariants.{Call, Cancel, Next, Trap}
 use Rattle.aom_instructions.specs.declared.instr.Target.{Target}
+use Rattle.aom_instructions.specs.declared.transfer.Transfer.TheVariants.{Repeat}
 use Rattle.aom_image.specs.declared.method.Role.TheVariants.{Destruct, Error}
 use Rattle.aom_image.specs.declared.method.Gives.{Gives}
 use Rattle.aom_roles.specs.Tests.{AllTrue}
 use Rattle.aom_classes.specs.Jumps.{jump_of}
-use Rattle.aom_classes.specs.Loops.{loop_in}
+use Rattle.aom_safety.proofs.Fitting.{StraightBy, straight_by}
 use Rattle.aom_safety.proofs.Moving.{steps_are_moves}
 use Rattle.aom_semantics.specs.Calls.{below_top, entered, received}
 use Rattle.aom_semantics.specs.Cleanup.{code_told, has_trap, operation_frame, to_trap}
 use Rattle.aom_classes.specs.Roles.{role_of}
 use Rattle.aom_semantics.specs.Destruction.{destructor_frame, begun}
-use Rattle.aom_semantics.specs.Effects.{Cancels, Counts, Destroys, Destroys_last, Effect, Goes_on, Jumps}
-use Rattle.aom_semantics.specs.Effects.{Leaves, Operates, Repeats, Returns, applied, with_words}
+use Rattle.aom_semantics.specs.Effects.{Calls, Cancels, Counts, Destroys, Destroys_last, Effect, Goes_on, Jumps}
+use Rattle.aom_semantics.specs.Effects.{Leaves, Operates, Repeats, Returns, Sets_trap, applied, with_words}
 use Rattle.aom_semantics.specs.Moves.{counted, dispatch_ends, error_frame, main_ends, needs, step}
 use Rattle.aom_semantics.specs.Places.{Object}
 use Rattle.aom_semantics.specs.State.{Home, Of_server, Accepts, Serves, Parts, A_mark, An_operation, Choice, Destroy, Dispatch}
@@ -42,16 +45,17 @@ pub record Kept (p : Image) (c : Choice) (l : TaskLaw) (s : State) : Type 0 wher
       l.Runs (next (with_words fr words)) ts
   pub jumps : (fr : Frame) (ts : List Task) (i : Instr) → Acting p c l s fr ts i → (to : ℕ) → jump_of i ≡ Some to → l.Runs (to_place fr to) ts
   pub counts : (fr : Frame) (ts : List Task) (i : Instr) → Acting p c l s fr ts i → (d n : ℕ) → Sets i d n → l.Runs (next (set_counter fr d n)) ts
-  pub repeats : (fr : Frame) (ts : List Task) (d to k : ℕ) → Acting p c l s fr ts (Next d to) → counter fr d - 1 ≡ suc k →
+  pub repeats : (fr : Frame) (ts : List Task) (i : Instr) → Acting p c l s fr ts i → (d to k : ℕ) → transfer_of i ≡ Repeat d to → counter fr d - 1 ≡ suc k →
       l.Runs (to_place (set_counter fr d (suc k)) to) ts
   -- it waits below what it begins, and goes on once that is over
   pub waits : (fr : Frame) (ts : List Task) (i : Instr) → Acting p c l s fr ts i → IsStraight i → (words : List (Option ℤ)) → l.Waits (with_words fr words) ts
   pub resumes : (fr : Frame) (ts : List Task) → l.Waits fr ts → (words : List (Option ℤ)) → l.Runs (next (with_words fr words)) ts
-  pub calls : (fr : Frame) (ts : List Task) (target : Target) (m first x : ℕ) → Acting p c l s fr ts (Call target m first x) →
-      l.Runs (entered p fr ts (counted p s) target m first (length s.items)) (Run fr ∷ ts)
-  pub cancels : (fr : Frame) (ts : List Task) (m : ℕ) → Acting p c l s fr ts Cancel → cancel_method p fr ≡ Some m →
+  pub calls : (fr : Frame) (ts : List Task) (i : Instr) → Acting p c l s fr ts i → (target : Target) (m first x : ℕ) →
+      action_of i ≡ Call Plain target m first x → l.Runs (entered p fr ts (counted p s) target m first (length s.items)) (Run fr ∷ ts)
+  pub cancels : (fr : Frame) (ts : List Task) (i : Instr) → Acting p c l s fr ts i → (m : ℕ) → action_of i ≡ Cancel → cancel_method p fr ≡ Some m →
       l.Runs (frame_as m fr.home fr.view (length s.items)) (Run fr ∷ ts)
-  pub traps : (fr : Frame) (ts : List Task) (target : Target) (m first x : ℕ) → Acting p c l s fr ts (Trap target m first x) →
+  pub traps : (fr : Frame) (ts : List Task) (i : Instr) → Acting p c l s fr ts i → (target : Target) (m first x : ℕ) →
+      action_of i ≡ Call Under_trap target m first x →
       l.Runs (entered p fr ts (counted p s) target m first (length (A_mark ∷ s.items))) (Trapped ∷ Run fr ∷ ts) × l.Stands (Run fr ∷ ts)
   pub destructs : (o : Object) (x m height : ℕ) (ts : List Task) → role_of p x Destruct ≡ Some m → l.Runs (destructor_frame p m o (length ts) height) (Destroy ∷ ts)
   -- an `error` method is asked
@@ -90,22 +94,27 @@ module _ (p : Image) (c : Choice) (l : TaskLaw) (s : State) (k : Kept p c l s) w
   ends x = grind (arith, nat_tests, closes)
 
   module _ (fr : Frame) (ts : List Task) (at_hand : s.tasks ≡ Run fr ∷ ts) (h : Holds l (Run fr ∷ ts)) where
-    another : (i j : Instr) → i ≡ j → Acting p c l s fr ts i → Acting p c l s fr ts j
-    another i j e a = subst (λ x. Acting p c l s fr ts x) e a
+    straight : (i : Instr) (e : Effect) → Fits p c fr ts (counted p s) i e → StraightBy p c fr ts (counted p s) i e
+    straight = straight_by p c fr ts (counted p s)
 
     acts : (i : Instr) (e : Effect) → Acting p c l s fr ts i → Fits p c fr ts (counted p s) i e → Holds l (applied p fr ts (counted p s) e).tasks
-    unfolding loop_in
     acts i (Goes_on ch) a f = (k.goes_on fr ts i a f.0 ch.words, h.1)
     acts i (Jumps to) a f = (k.jumps fr ts i a to f, h.1)
     acts i (Counts d n) a f = (k.counts fr ts i a d n f, h.1)
-    acts i (Repeats d n to) a f = (grind (arith, nat_tests, another i), h.1)
-    acts i (Cancels m) a f = (k.cancels fr ts m (another i _ f.0 a) f.1, (k.waits fr ts _ (another i _ f.0 a) refl fr.words, h.1))
+    acts i (Repeats d n to) a f = (subst (λ n. l.Runs (to_place (set_counter fr d n) to) ts) (sym f.2) (k.repeats fr ts i a d to f.1 f.0 (f.3 ∙ f.2)), h.1)
+    acts i (Calls target m first) a f =
+        (k.calls fr ts i a target m first f.0 f.1, (k.waits fr ts i a (straight i (Calls target m first) f) fr.words, h.1))
+    acts i (Sets_trap target m first) a f =
+        let t = k.traps fr ts i a target m first f.0 f.1 in
+        (t.0, (t.1, (k.waits fr ts i a (straight i (Sets_trap target m first) f) fr.words, h.1)))
+    acts i (Cancels m) a f = (k.cancels fr ts i a m f.0 f.1, (k.waits fr ts i a (straight i (Cancels m) f) fr.words, h.1))
     acts i (Returns g x) a f = grind (arith, nat_tests)
     acts i (Leaves code u) a f = lands code ts f.0 h.1
-    acts i (Destroys o x words) a f = begins_over o (length s.items) (Run (with_words fr words) ∷ ts) (k.waits fr ts _ (another i _ f.0 a) refl words, h.1)
-    acts i (Destroys_last o) a f = begins_over o (length (below_top s.items)) (Run fr ∷ ts) (k.waits fr ts _ (another i _ f.0 a) refl fr.words, h.1)
-    acts i (Operates m w) a f = (k.undoes m w (below_top s.items) (Run fr ∷ ts) f.1, (k.waits fr ts _ (another i _ f.0 a) refl fr.words, h.1))
-    acts i _ a f = grind (arith, nat_tests, another i)
+    acts i (Destroys o x words) a f =
+        begins_over o (length s.items) (Run (with_words fr words) ∷ ts) (k.waits fr ts i a (straight i (Destroys o x words) f) words, h.1)
+    acts i (Destroys_last o) a f =
+        begins_over o (length (below_top s.items)) (Run fr ∷ ts) (k.waits fr ts i a (straight i (Destroys_last o) f) fr.words, h.1)
+    acts i (Operates m w) a f = (k.undoes m w (below_top s.items) (Run fr ∷ ts) f.1, (k.waits fr ts i a (straight i (Operates m w) f) fr.words, h.1))
 
   kept : (u : State) → Holds l s.tasks → Move p c s u → Holds l u.tasks
   kept u h (Rests still e) = subst (λ v. Holds l v.tasks) (sym e) h

@@ -6,8 +6,10 @@ use Rattle.std.proofs.Common.{arith, List, Some, [], false, refl, subst, sym, tr
 use Rattle.std.proofs.lemmas.Bool.{true≢false, false_from_ne_true}
 use Rattle.aom_image.specs.Image.{Image}
 use Rattle.aom_image.specs.Views.{is_quiet}
+use Rattle.aom_instructions.specs.Table.{action_of}
+use Rattle.aom_instructions.specs.declared.action.Action.TheVariants.{Call}
+use Rattle.aom_instructions.specs.declared.action.Manner.TheVariants.{Plain, Trapped as Under_trap}
 use Rattle.aom_instructions.specs.declared.instr.Instr.{Instr}
-use Rattle.aom_instructions.specs.declared.instr.Instr.TheVariants.{Call, Trap}
 use Rattle.aom_instructions.specs.declared.instr.Target.{Target}
 use Rattle.aom_roles.specs.Tests.{AllTrue}
 use Rattle.aom_rules.specs.Rules.{rule_needs}
@@ -17,6 +19,7 @@ use Rattle.aom_safety.proofs.Callees.{cancel_quiet, only_then}
 use Rattle.aom_safety.proofs.Overriders.{body_quiet}
 use Rattle.aom_safety.proofs.Destroying.{destroys_by}
 use Rattle.aom_safety.proofs.Finishing.{all_parts}
+use Rattle.aom_safety.proofs.InstructionsLemmas.{call_is, trap_is}
 use Rattle.aom_safety.proofs.Owners.{owned}
 use Rattle.aom_safety.proofs.Preserving.{Acting, Kept, keeps, turn_keeps_it}
 use Rattle.aom_safety.specs.Claims.{Layer, tasks_of}
@@ -45,25 +48,26 @@ module _ (p : Image) (t : Typing) (wired : IsWired p) (typed : IsTyped p t) (c :
       (stands.0, subst (λ j. AllTrue (rule_needs p fr.method fr.place stands.0 j)) same x.needs)
 
   -- a quiet method calls quiet ones
-  calls_quiet : (fr : Frame) (ts : List Task) (target : Target) (m first x : ℕ) → Acting p c (calm p) s fr ts (Call target m first x) →
-      is_clearing ts ≡ true → is_quiet p m ≡ true
-  calls_quiet fr ts target m first x a clearing = grind (arith, nat_tests, ruled fr ts (Call target m first x) a, all_parts, only_then)
+  calls_quiet : (fr : Frame) (ts : List Task) (i : Instr) → Acting p c (calm p) s fr ts i → (target : Target) (m first x : ℕ) →
+      action_of i ≡ Call Plain target m first x → is_clearing ts ≡ true → is_quiet p m ≡ true
+  calls_quiet fr ts i a target m first x e clearing = grind (arith, nat_tests, ruled fr ts i a, call_is i target m first x e, all_parts, only_then)
 
   -- no quiet method sets a trap
-  not_clearing : (fr : Frame) (ts : List Task) (target : Target) (m first x : ℕ) → Acting p c (calm p) s fr ts (Trap target m first x) → is_clearing ts ≡ false
-  not_clearing fr ts target m first x a = grind (arith, nat_tests, false_from_ne_true, ruled fr ts (Trap target m first x) a)
+  not_clearing : (fr : Frame) (ts : List Task) (i : Instr) → Acting p c (calm p) s fr ts i → (target : Target) (m first x : ℕ) →
+      action_of i ≡ Call Under_trap target m first x → is_clearing ts ≡ false
+  not_clearing fr ts i a target m first x e = grind (arith, nat_tests, false_from_ne_true, ruled fr ts i a, trap_is i target m first x e)
 
   kept : Kept p c (calm p) s
   kept = record {
     goes_on = λ fr ts i a f words. a.runs;
     jumps = λ fr ts i a to f. a.runs;
     counts = λ fr ts i a d n f. a.runs;
-    repeats = λ fr ts d to k a f. a.runs;
+    repeats = λ fr ts i a d to k e f. a.runs;
     waits = λ fr ts i a f words. a.runs;
     resumes = λ fr ts h words. h;
     calls = grind (arith, nat_tests, body_quiet, calls_quiet);
-    traps = λ fr ts target m first x a. let clear = not_clearing fr ts target m first x a in (λ clearing. absurd (true≢false (sym clearing ∙ clear)), clear);
-    cancels = λ fr ts m a e clearing. cancel_quiet p wired fr m e;
+    traps = λ fr ts i a target m first x e. let clear = not_clearing fr ts i a target m first x e in (λ clearing. absurd (true≢false (sym clearing ∙ clear)), clear);
+    cancels = λ fr ts i a m e f clearing. cancel_quiet p wired fr m f;
     destructs = λ o x m height ts e clearing. (destroys_by p wired x x m (itself p x) e).quiet;
     asks = λ x m code height e clearing. absurd (true≢false (sym clearing));
     undoes = λ m x items ts e clearing. grind arith;

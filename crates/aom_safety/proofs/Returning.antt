@@ -6,7 +6,6 @@ use Rattle.std.proofs.lemmas.Bool.{ne_eqb}
 use Rattle.std.specs.Prelude.{is_none, is_some}
 use Rattle.aom_image.specs.Image.{Image}
 use Rattle.aom_image.specs.Views.{gives_of, has, instr_at, method_role}
-use Rattle.aom_instructions.specs.declared.instr.Instr.TheVariants.{Return}
 use Rattle.aom_image.specs.declared.method.Gives.{Gives}
 use Rattle.aom_image.specs.declared.method.Gives.TheVariants.{Left, Maybe as A_maybe, Nothing, Own as An_own, Word as A_word}
 use Rattle.aom_image.specs.declared.method.Thing.{Thing}
@@ -21,11 +20,11 @@ use Rattle.aom_shape.specs.declared.kind.CleanupEntry.TheVariants.{Object as Pus
 use Rattle.aom_shape.specs.declared.kind.Kind.{Kind}
 use Rattle.aom_shape.specs.declared.kind.Kind.TheVariants.{Maybe, Null, Own, Word}
 use Rattle.aom_safety.proofs.Claimed.{claim-set_register, claim_frame, claim_push, claim_register_above, declared_moved, keep_fits, mark_claims, stack_moved}
-use Rattle.aom_safety.proofs.Finishing.{message_gone, after_return, Returnable, ended, ended_plainly, left_alone}
-use Rattle.aom_safety.proofs.Finishing.{left_held, none_left, return_needs, returnable, same_items}
+use Rattle.aom_safety.proofs.Finishing.{IsReturned, ReturnLaw, message_gone, after_return, Returnable, ended, ended_plainly, left_alone}
+use Rattle.aom_safety.proofs.Finishing.{left_held, none_left, return_needs, same_items}
 use Rattle.aom_safety.proofs.Items.{forms_below, mark_on_top, undos_below}
 use Rattle.aom_safety.proofs.SemanticsLemmas.{held_moved, requested_moved, same_place-true, same_place_refl, tidy_moved}
-use Rattle.aom_safety.proofs.Straight.{frames_reworded, At, Fitted, Law, claim_register, fits_unowning, housed_relocated, next_unowning, no_word_fits}
+use Rattle.aom_safety.proofs.Straight.{frames_reworded, At, Fitted, claim_register, fits_unowning, housed_relocated, next_unowning, no_word_fits}
 use Rattle.aom_safety.proofs.Straight.{register_fits, settle, stepped, top, word_of_object, words_set, write, may_be_object}
 use Rattle.aom_safety.proofs.Widening.{hold_widens, own_widens, own_widens_more, retaken}
 use Rattle.aom_semantics.specs.Calls.{needs_ended, below_top, received, result_cells, result_needs, result_register, returned, told_answer}
@@ -44,13 +43,11 @@ use Rattle.aom_shape.specs.Arguments.{after_of}
 use Rattle.aom_safety.proofs.Cancelled.{cancel_fitted, cells_then, role_cancels}
 use Rattle.aom_safety.proofs.Leaving.{known_loud, none_cancels}
 use Rattle.aom_roles.specs.States.{idle}
-use Rattle.aom_semantics.specs.Moves.{does, needs}
 use Rattle.aom_safety.specs.Laws.{IsWired}
 use Rattle.aom_semantics.specs.Requests.{ended_cells}
 use Rattle.aom_shape.specs.declared.kind.Delivery.TheVariants.{Here}
 use Rattle.aom_roles.specs.Roles.{is_cancel}
 use Rattle.aom_roles.specs.Tests.{AllTrue}
-use Rattle.aom_rules.specs.Rules.{rule_needs}
 
 module _ (p : Image) (t : Typing) (c : Choice) (s : State) (fr fr2 : Frame) (sh sh2 : Shape) (ls below : List Layer)
     (at_hand : At p t s fr sh below) (back : Back) (caller : Stack p t s.cells back (Method fr2 sh2 ∷ ls)) (same_claims : (d : Place → Kind) (r : Place) →
@@ -189,12 +186,9 @@ module _ (p : Image) (t : Typing) (wired : IsWired p) (c : Choice) (s : State) (
   abbrev pub below : List Layer
   below = Method fr2 sh2 ∷ ls
 
-  pub law_return : (a : ℕ) → Law p t c s fr sh (Method fr2 sh2 ∷ ls) at_hand (Return a)
-  law_return a n leads = by_role (is_cancel (method_role p fr.method)) refl
+  pub law_return : (a : ℕ) → ReturnLaw p t s fr sh (Method fr2 sh2 ∷ ls) a
+  law_return a ended_so = by_role (is_cancel (method_role p fr.method)) refl
     where
-      ended_so : Returnable p fr sh a
-      ended_so = returnable p fr sh a n
-
       suits : is_cancel (method_role p fr.method) ≡ false → AllSuit p s.cells (Method fr2 sh2 ∷ ls)
       suits still = all_returned p s.cells s.cells fr sh below at_hand.good.suits at_hand.good.stack.2 (λ n. refl) (λ n off. refl) (λ o from e h.
           let apart : IsApart p fr.view fr.method (Inside o from) below = subst (λ h. IsApart p fr.view fr.method h below) e at_hand.good.stack.3 in
@@ -256,8 +250,7 @@ module _ (p : Image) (t : Typing) (wired : IsWired p) (c : Choice) (s : State) (
           (tt, finish s.cells fr2 (with_entry (Pushed_object y Ready) sh2) refl refl same f leads)
 
       -- one that cancels gives nothing
-      cancel_keeps : is_cancel (method_role p fr.method) ≡ true →
-          AllTrue (needs p c fr (tasks_of below) s (Return a)) × WellTyped p t (does p c fr (tasks_of below) s (Return a))
+      cancel_keeps : is_cancel (method_role p fr.method) ≡ true → IsReturned p t s fr below a
       cancel_keeps cancels =
           let nothing = (wired.cancels fr.method (role_cancels (method_role p fr.method) cancels)).1 in
           let entries = none_left p fr sh a nothing ended_so in
@@ -271,8 +264,7 @@ module _ (p : Image) (t : Typing) (wired : IsWired p) (c : Choice) (s : State) (
                 (sym cancels) (finish then fr2 sh2 refl refl (items entries) fitted leads)),
           )
 
-      by_role : (b : Bool) → is_cancel (method_role p fr.method) ≡ b →
-          AllTrue (needs p c fr (tasks_of below) s (Return a)) × WellTyped p t (does p c fr (tasks_of below) s (Return a))
+      by_role : (b : Bool) → is_cancel (method_role p fr.method) ≡ b → IsReturned p t s fr below a
       by_role true cancels = cancel_keeps cancels
       by_role false still =
           let w = go still (gives_of p fr.method) ended_so.result ended_so.entries ended_so.free at_hand.good.stack.4.0.1 at_hand.good.stack.4.0.2 in
@@ -284,11 +276,10 @@ module _ (p : Image) (t : Typing) (wired : IsWired p) (c : Choice) (s : State) (
   abbrev pub marked : List Layer
   marked = Mark gv ∷ Method fr2 sh2 ∷ ls
 
-  pub law_return_caught : (a : ℕ) → Law p t c s fr sh (Mark gv ∷ Method fr2 sh2 ∷ ls) at_hand (Return a)
-  law_return_caught a n leads =
+  pub law_return_caught : (a : ℕ) → ReturnLaw p t s fr sh (Mark gv ∷ Method fr2 sh2 ∷ ls) a
+  law_return_caught a r =
       let catches = at_hand.good.stack.4.0 in
       let e = catches.0 in
-      let r = returnable p fr sh a n in
       let w = go (gives_of p fr.method) (rw e catches.1) r.result r.entries r.free caller.0.1 (rw e caller.0.2) (rw e caller.0.3) in
       let mark = mark_on_top s.items _ (same_items p t c s fr sh marked at_hand (grind arith)) in
       (return_needs p t c s fr sh marked at_hand a r w.0 (mark, tt), ended_plainly p t c s fr sh marked at_hand a r catches.2 w.1)
@@ -306,7 +297,7 @@ module _ (p : Image) (t : Typing) (wired : IsWired p) (c : Choice) (s : State) (
           let none = known_loud p t wired s.cells o fr2 sh2 ls caller.0.4 (none_cancels p t wired s.cells o ls fr2.method fr2.home caller.0.4 caller.4) in
           let known = known_plain p fr sh.states (states_claim p o marked) at_hand.good.stack.4.0.2
           ∙ ap (λ (b : Bool). record { states = sh.states; cancelled = b }) none in
-          rejoins_trap p o gv fr2 sh2 ls sh.states (requested s.cells o.name) apart.3 (returnable p fr sh a n).settled none (grind (arith, nat_tests)))
+          rejoins_trap p o gv fr2 sh2 ls sh.states (requested s.cells o.name) apart.3 r.settled none (grind (arith, nat_tests)))
 
       items : no_entry sh.entries ≡ true → forms (below_top s.items) ≡ objects sh2.entries (items_of ls)
       items e = forms_below s.items Mark_form _ (same_items p t c s fr sh marked at_hand e)
@@ -404,13 +395,12 @@ module _ (p : Image) (t : Typing) (c : Choice) (s : State) (fr : Frame) (sh : Sh
       at_hand.good.stack.2 at_hand.good.stack.3 refl entries free (λ serving. absurd (plain serving)) q (seen s.cells) (held s.cells q) (at_hand.good.fits q))
 
   -- with nothing given, the needs of a return are those of its end
-  pub return_nothing : (d : Dispatch) (a : ℕ) → AllTrue (rule_needs p fr.method fr.place sh (Return a)) → gv ≡ Nothing → AllTrue (needs_ended w s.cells) →
+  pub return_nothing : (d : Dispatch) (a : ℕ) → Returnable p fr sh a → gv ≡ Nothing → AllTrue (needs_ended w s.cells) →
       ((r : Returnable p fr sh a) → WellTyped p t (after_it d) → WellTyped p t (after_return p t c s fr sh dispatched at_hand a r s.cells)) →
       EndsDispatch p d Now → SitsFirst s.cells (seat_of d) seats → IsAttended p s.cells d → (Returnable p fr sh a → no_entry sh.entries ≡ true →
       none_owns sh.registers ≡ true → (q : Place) → Fits p (seen s.cells) (held s.cells q) (claim p (declared p s.cells) (Dispatching d seats ∷ ls) q)) →
-      AllTrue (needs p c fr (tasks_of dispatched) s (Return a)) × WellTyped p t (does p c fr (tasks_of dispatched) s (Return a))
-  return_nothing d a n none met so ends first attended fits =
-      let r = returnable p fr sh a n in
+      IsReturned p t s fr dispatched a
+  return_nothing d a r none met so ends first attended fits =
       let nothing : gives_of p fr.method ≡ Nothing = at_hand.good.stack.4.0.0 ∙ none in
       let entries : no_entry sh.entries ≡ true = none_left p fr sh a nothing r in
       let free : none_owns sh.registers ≡ true = ap (λ g. none_owns (result_moved p fr.method fr.place sh g a).registers) (sym nothing) ∙ r.free in (
@@ -422,18 +412,18 @@ module _ (p : Image) (t : Typing) (c : Choice) (s : State) (fr : Frame) (sh : Sh
 -- to that of main, or of an object
 pub law_return_main : (p : Image) (t : Typing) (c : Choice) (s : State)
     (fr : Frame) (sh : Shape) (gv : Gives) (seats : List Seat) (ls : List Layer) (at_hand : At p t s fr sh (Mark gv ∷ Dispatching Of_main seats ∷ ls)) (a : ℕ) →
-    Law p t c s fr sh (Mark gv ∷ Dispatching Of_main seats ∷ ls) at_hand (Return a)
-law_return_main p t c s fr sh gv seats ls at_hand a n leads =
+    ReturnLaw p t s fr sh (Mark gv ∷ Dispatching Of_main seats ∷ ls) a
+law_return_main p t c s fr sh gv seats ls at_hand a r =
     let below = at_hand.good.stack.4.1 in
-    return_nothing p t c s fr sh gv Of_main seats ls at_hand Of_main a n below.0 tt
+    return_nothing p t c s fr sh gv Of_main seats ls at_hand Of_main a r below.0 tt
     (λ r v. v) tt below.3 tt (λ r entries free. plain_below p t c s fr sh gv Of_main seats ls at_hand entries free at_hand.good.stack.1.message.0)
 
 pub law_return_object : (p : Image) (t : Typing) (c : Choice) (s : State) (fr : Frame) (sh : Shape)
     (gv : Gives) (x : Seat) (seats : List Seat) (ls : List Layer) (at_hand : At p t s fr sh (Mark gv ∷ Dispatching (Of_object x) seats ∷ ls)) (a : ℕ) →
-    Law p t c s fr sh (Mark gv ∷ Dispatching (Of_object x) seats ∷ ls) at_hand (Return a)
-law_return_object p t c s fr sh gv x seats ls at_hand a n leads =
+    ReturnLaw p t s fr sh (Mark gv ∷ Dispatching (Of_object x) seats ∷ ls) a
+law_return_object p t c s fr sh gv x seats ls at_hand a r =
     let below = at_hand.good.stack.4.1 in
-    return_nothing p t c s fr sh gv (Of_object x) seats ls at_hand (Of_object x) a n below.0 tt
+    return_nothing p t c s fr sh gv (Of_object x) seats ls at_hand (Of_object x) a r below.0 tt
     (λ r v. v) tt below.3 tt (λ r entries free. plain_below p t c s fr sh gv (Of_object x) seats ls at_hand entries free at_hand.good.stack.1.message.0)
 
 -- to that of a server which serves a message: it is taken, and the dispatch ends as an object's
@@ -472,24 +462,22 @@ module _ (p : Image) (t : Typing) (c : Choice) (s : State) (fr : Frame) (sh : Sh
           (claim p (declared p s.cells) (Dispatching (Of_object x) seats ∷ l) (Elsewhere In_service))) (sym at_hand.good.stack.4.1.1) (taken a r)
       go (Elsewhere (Queued m k)) = at_hand.good.fits (Elsewhere (Queued m k))
 
-  pub law_return_served : (a : ℕ) → Law p t c s fr sh (Mark gv ∷ Dispatching (Of_server x client (Serves o)) seats ∷ ls) at_hand (Return a)
-  law_return_served a n leads = grind (
+  pub law_return_served : (a : ℕ) → ReturnLaw p t s fr sh (Mark gv ∷ Dispatching (Of_server x client (Serves o)) seats ∷ ls) a
+  law_return_served a r = grind (
     arith,
     nat_tests,
-    return_nothing p t c s fr sh gv (Of_server x client (Serves o)) seats ls at_hand (Of_object x) a n,
+    return_nothing p t c s fr sh gv (Of_server x client (Serves o)) seats ls at_hand (Of_object x) a r,
     fits_unowning p,
-    taken a (returnable p fr sh a n),
-    returnable p fr sh a n,
+    taken a r,
     others_fit a,
   )
 
 -- over an unwinding an operation is over
 module _ (p : Image) (t : Typing) (c : Choice) (s : State) (fr : Frame) (sh : Shape) (code : ℤ) (es : List CleanupEntry) (ls : List Layer)
     (at_hand : At p t s fr sh (Unwinding code es ∷ ls)) where
-  pub law_return_unwound : (a : ℕ) → Law p t c s fr sh (Unwinding code es ∷ ls) at_hand (Return a)
-  law_return_unwound a n leads =
+  pub law_return_unwound : (a : ℕ) → ReturnLaw p t s fr sh (Unwinding code es ∷ ls) a
+  law_return_unwound a r =
       let below = Unwinding code es ∷ ls in
-      let r = returnable p fr sh a n in
       let nothing : gives_of p fr.method ≡ Nothing = at_hand.good.stack.4.0.1 in
       let entries : no_entry sh.entries ≡ true = none_left p fr sh a nothing r in
       let free : none_owns sh.registers ≡ true = ap (λ g. none_owns (result_moved p fr.method fr.place sh g a).registers) (sym nothing) ∙ r.free in (
@@ -522,9 +510,8 @@ module _ (p : Image) (t : Typing) (c : Choice) (s : State) (fr : Frame) (sh : Sh
       claim p d (Dispatching (Answered x answer) seats ∷ ls) r ≡ claim p d (Dispatching (Asks x) seats ∷ ls) r
   same_claims answer d y = grind arith
 
-  pub law_answer : (a : ℕ) → Law p t c s fr sh (Dispatching (Asks x) seats ∷ ls) at_hand (Return a)
-  law_answer a n leads =
-      let r = returnable p fr sh a n in
+  pub law_answer : (a : ℕ) → ReturnLaw p t s fr sh (Dispatching (Asks x) seats ∷ ls) a
+  law_answer a r =
       let below = at_hand.good.stack.4 in
       let gives : gives_of p fr.method ≡ A_word = below.0.1 in
       let answer : ℤ = told_answer (gives_of p fr.method) fr a in

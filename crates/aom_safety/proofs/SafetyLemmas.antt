@@ -69,7 +69,7 @@ pub use Rattle.aom_safety.proofs.ClientsTurn.{IsFound, Same, first_sent, fit_mov
 pub use Rattle.aom_safety.proofs.ClientsTurn.{turning_found}
 pub use Rattle.aom_safety.proofs.ClientsMoves.{IsSteady, Steady, fit_steady, held_elsewhere, steady_asked, steady_ended, steady_passed, steady_redeemed}
 pub use Rattle.aom_safety.proofs.ClientsMoves.{steady_result, steady_update, tasks_steady}
-pub use Rattle.aom_safety.proofs.ClientsEffects.{Fine, IsUsual, fine_effect}
+pub use Rattle.aom_safety.proofs.ClientsEffects.{Fine, IsAnswer, IsCompleting, fine_effect}
 pub use Rattle.aom_safety.proofs.ClientsFacts.{IsAt, ServerLives, dying_layers, queued_well, server_lives, serving_plain, waiting_message, waiting_well}
 pub use Rattle.aom_safety.proofs.ClientsReturn.{without_so}
 pub use Rattle.aom_safety.proofs.Orders.{NoneComes, apart_still, comes_asked, comes_bereaved, comes_moved, comes_served}

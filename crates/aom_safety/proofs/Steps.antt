@@ -12,6 +12,7 @@ use Rattle.aom_safety.proofs.Destroying.{of_destruction}
 use Rattle.aom_safety.proofs.Destructors.{law_destructor}
 use Rattle.aom_safety.proofs.Closing.{dispatch_keeps}
 use Rattle.aom_safety.proofs.Entries.{of_entries}
+use Rattle.aom_safety.proofs.Finishing.{ReturnLaw, returnable}
 use Rattle.aom_safety.proofs.Going.{going_keeps}
 use Rattle.aom_safety.proofs.Handing.{of_tokens}
 use Rattle.aom_safety.proofs.Jumps.{of_jumps}
@@ -53,8 +54,8 @@ module _ (p : Image) (t : Typing) (wired : IsWired p) (typed : IsTyped p t)
   )
 
   -- those of this file
-  abbrev of_others : (i : Instr) → ((a : ℕ) → Law p t c s fr sh ls at_hand (Return a)) → Option (Law p t c s fr sh ls at_hand i)
-  of_others (Return a) back = Some (back a)
+  abbrev of_others : (i : Instr) → ((a : ℕ) → ReturnLaw p t s fr sh ls a) → Option (Law p t c s fr sh ls at_hand i)
+  of_others (Return a) back = Some (λ n leads. back a (returnable p fr sh a n))
   of_others Stop back = Some law_stop
   of_others _ back = None
 
@@ -64,7 +65,7 @@ module _ (p : Image) (t : Typing) (wired : IsWired p) (typed : IsTyped p t)
   first (Some law ∷ laws) = Some law
 
   -- what each file of laws tells of an instruction
-  abbrev laws : (i : Instr) → instr_at p fr.method fr.place ≡ Some i → ((a : ℕ) → Law p t c s fr sh ls at_hand (Return a)) →
+  abbrev laws : (i : Instr) → instr_at p fr.method fr.place ≡ Some i → ((a : ℕ) → ReturnLaw p t s fr sh ls a) →
       List (Option (Law p t c s fr sh ls at_hand i))
   laws i here back = of_words p t c s fr sh ls at_hand i ∷ of_jumps p t c s fr sh ls at_hand i ∷ of_moves p t c s fr sh ls at_hand i ∷ of_calls p t wired typed
       c s fr sh ls at_hand i here ∷ of_entries p t c s fr sh ls at_hand wired typed unused i here ∷ of_leaves p t wired c s fr sh ls at_hand i ∷ of_requests p t
@@ -73,12 +74,12 @@ module _ (p : Image) (t : Typing) (wired : IsWired p) (typed : IsTyped p t)
       at_hand wired typed i ∷ of_cancel p t wired typed c s fr sh ls at_hand i ∷ of_others i back ∷ []
 
   -- some file has its law
-  some : (i : Instr) (here : instr_at p fr.method fr.place ≡ Some i) (back : (a : ℕ) → Law p t c s fr sh ls at_hand (Return a)) → IsSome (first (laws i here back))
+  some : (i : Instr) (here : instr_at p fr.method fr.place ≡ Some i) (back : (a : ℕ) → ReturnLaw p t s fr sh ls a) → IsSome (first (laws i here back))
   some (Return a) here back = refl
   some _ here back = refl
 
   -- each instruction by its law
-  law : (i : Instr) → instr_at p fr.method fr.place ≡ Some i → ((a : ℕ) → Law p t c s fr sh ls at_hand (Return a)) → Law p t c s fr sh ls at_hand i
+  law : (i : Instr) → instr_at p fr.method fr.place ≡ Some i → ((a : ℕ) → ReturnLaw p t s fr sh ls a) → Law p t c s fr sh ls at_hand i
   law i here back = go (first (laws i here back)) (some i here back)
     where
       go : (o : Option (Law p t c s fr sh ls at_hand i)) → IsSome o → Law p t c s fr sh ls at_hand i
@@ -86,7 +87,7 @@ module _ (p : Image) (t : Typing) (wired : IsWired p) (typed : IsTyped p t)
 
 -- a method returns to what stands below it
 returns : (p : Image) (t : Typing) → IsWired p → IsTyped p t →
-    (c : Choice) (s : State) (fr : Frame) (sh : Shape) (ls : List Layer) (at_hand : At p t s fr sh ls) (a : ℕ) → Law p t c s fr sh ls at_hand (Return a)
+    (c : Choice) (s : State) (fr : Frame) (sh : Shape) (ls : List Layer) → At p t s fr sh ls → (a : ℕ) → ReturnLaw p t s fr sh ls a
 returns p t wired typed c s fr sh [] h a = let clash : Returns fr.method fr.home ≡ Now = h.good.stack.4 in cc
 returns p t wired typed c s fr sh (Method fr2 sh2 ∷ ls) h a = law_return p t wired c s fr fr2 sh sh2 ls h a
 returns p t wired typed c s fr sh (Dying o ∷ ls) h a = law_destructor p t c s fr sh o ls h wired typed a

@@ -1,6 +1,6 @@
 -- No two requests wait for one token and no two tokens have one order, in each state of a run: only `hand` brings an order, and a new one.
 use Rattle.std.proofs.lemmas.Bool.Decides.{nat_tests}
-use Rattle.std.proofs.Common.{Bool, List, None, Option, Some, [], arith, length, refl, subst, suc, sym, ℕ, ℤ, ◌∷◌, ◌≡◌}
+use Rattle.std.proofs.Common.{Bool, List, None, Option, Some, [], arith, length, refl, subst, suc, sym, ℕ, ℤ, ⊎_elim, ◌∷◌, ◌≡◌}
 use Rattle.std.proofs.lemmas.Option.{none-some}
 use Rattle.aom_image.specs.Image.{Image}
 use Rattle.aom_image.specs.Views.{arguments_of}
@@ -10,10 +10,10 @@ use Rattle.aom_image.specs.declared.method.Gives.{Gives}
 use Rattle.aom_clients.specs.declared.client.Client.{Client}
 use Rattle.aom_clients.specs.declared.refusal.CommandRefusal.{CommandRefusal}
 use Rattle.aom_instructions.specs.declared.instr.Instr.{Instr}
-use Rattle.aom_instructions.specs.declared.instr.Instr.TheVariants as instrs
 use Rattle.aom_transcript.specs.declared.event.ClientCommand.{ClientCommand}
+use Rattle.aom_roles.specs.Tests.{AllTrue}
 use Rattle.aom_safety.proofs.Apart.{handed_apart, redeemed_by_apart}
-use Rattle.aom_safety.proofs.ClientsEffects.{Fine, IsUsual, fewer_on, fine_effect}
+use Rattle.aom_safety.proofs.ClientsEffects.{Fine, IsAnswer, IsCompleting, fewer_on, fine_effect}
 use Rattle.aom_safety.proofs.ClientsMoves.{IsSteady}
 use Rattle.aom_safety.proofs.Guarded.{acts_at}
 use Rattle.aom_safety.proofs.Moving.{steps_are_moves}
@@ -26,7 +26,7 @@ use Rattle.aom_semantics.specs.Cleanup.{top_place}
 use Rattle.aom_semantics.specs.Clients.{Listed, client_at, commanded, connecting, leaving, sending, told}
 use Rattle.aom_semantics.specs.Destruction.{first_session, parting}
 use Rattle.aom_semantics.specs.Effects.{Calls, Cancels, Carried, Destroys, Destroys_last, Effect, Goes_on, Handed, Leaves, Made, Popped, Pushed, Replied}
-use Rattle.aom_semantics.specs.Effects.{Requested, Returns, Sessioned, Sets_trap, Update, Written, applied, cells_after, effect, spot_place}
+use Rattle.aom_semantics.specs.Effects.{Requested, Returns, Sessioned, Sets_trap, Update, Written, applied, cells_after, effect, needs, spot_place}
 use Rattle.aom_semantics.specs.Requests.{completed_with, ended_cells, on_request}
 use Rattle.aom_semantics.specs.Moves.{answered, counted, dispatch_ends, handled, main_ends, object_ends, step}
 use Rattle.aom_semantics.specs.Places.{Cell, Elsewhere, Entry, Going, In_service, Object, Place, Queued, Request}
@@ -36,7 +36,7 @@ use Rattle.aom_semantics.specs.State.{Accepts, Answered, Asks, Choice, Dispatch,
 use Rattle.aom_semantics.specs.State.{Of_object, Of_server, Parts, Seat, Service_left, State, Task}
 use Rattle.aom_safety.specs.Steps.{Acts, Arrives, Clears, Comes_out, Empties, Ends, Move, Rests, Undoes, Vanishes}
 use Rattle.aom_semantics.specs.Tokens.{TokensApart, redeemed_by, token_of}
-use Rattle.aom_semantics.specs.Words.{here, read}
+use Rattle.aom_semantics.specs.Words.{here}
 use Rattle.aom_semantics.specs.World.{Heard, Environment, heard_one, taken_from, turn, with_request}
 
 -- ---- an update
@@ -100,13 +100,18 @@ module _ (p : Image) (fr : Frame) (ts : List Task) (s : State) (tidy : Tidy s.ce
   apart_applied (Destroys_last o) f = still p fr ts s tidy apart _ (comes_moved s.cells (top_place s.items) (Going (suc (length ts))))
   apart_applied _ f = apart
 
-  apart_acted : (c : Choice) → named s.cells c.name ≡ None → (i : Instr) → TokensApart (applied p fr ts s (effect p c fr ts s i)).cells
-  apart_acted c free (instrs.Reply a b) = apart_replied p fr ts s tidy apart a (read fr ts s b)
-  apart_acted c free (instrs.Return a) = grind (arith, nat_tests, still p fr ts s tidy apart, comes_then s.cells, comes_ended p fr ts s, comes_returned p fr ts)
-  apart_acted c free i = usual i tt
-    where
-      usual : (i : Instr) → IsUsual i → TokensApart (applied p fr ts s (effect p c fr ts s i)).cells
-      usual i u = apart_applied (effect p c fr ts s i) (fine_effect p c fr ts s free i u)
+  apart_completed : (u : Update) → IsCompleting p fr ts s u → TokensApart (cells_after p fr ts s u)
+  apart_completed (Replied a code) met = apart_replied p fr ts s tidy apart a code
+  apart_completed _ met = absurd met
+
+  apart_answered : (e : Effect) → IsAnswer p fr ts s e → TokensApart (applied p fr ts s e).cells
+  apart_answered (Goes_on ch) met = apart_completed ch.update met
+  apart_answered (Returns g a) met = grind (arith, nat_tests, still p fr ts s tidy apart, comes_then s.cells, comes_ended p fr ts s, comes_returned p fr ts)
+  apart_answered _ met = absurd met
+
+  apart_acted : (c : Choice) → named s.cells c.name ≡ None → (i : Instr) → AllTrue (needs p c fr ts s i) →
+      TokensApart (applied p fr ts s (effect p c fr ts s i)).cells
+  apart_acted c free i met = ⊎_elim (apart_applied (effect p c fr ts s i)) (apart_answered (effect p c fr ts s i)) (fine_effect p c fr ts s free i met)
 
 -- ---- the other moves
 
@@ -147,7 +152,7 @@ moved_apart p c s u free tidy apart e = of (steps_are_moves p c s u e)
     by w same none = along w same (apart_still s.cells w.cells none apart)
 
     of : Move p c s u → TokensApart u.cells
-    of (Acts fr ts i x at there met may same) = let a = acts_at p c s u fr ts i at there e in along _ (sym a.1) (apart_acted p fr ts v tidy apart c free i)
+    of (Acts fr ts i x at there met may same) = let a = acts_at p c s u fr ts i at there e in along _ (sym a.1) (apart_acted p fr ts v tidy apart c free i a.0)
     of (Vanishes ts o at there none same) = by _ same (comes_gone s.cells tidy o.name (Going (length ts)) (service_of s.cells o.name).sessions)
     of (Empties ts o at there same) = by _ same (comes_parting p o (first_session s.cells o.name (service_of s.cells o.name).sessions) ts v)
     of (Clears code ts items o at top there same) = by _ same (comes_moved s.cells (Entry (length items)) _)

@@ -2,12 +2,15 @@
 use Rattle.std.proofs.lemmas.Bool.Decides.{nat_tests}
 use Rattle.std.proofs.Common.{Bool, cond, true, false, List, None, Option, Some, [], ap, arith, inl, inr, length}
 use Rattle.std.proofs.Common.{refl, subst, suc, sym, ℕ, ℤ, ◌+◌, ◌∙◌, ◌∷◌, ◌≡◌, length-append}
-use Rattle.aom_safety.proofs.ImageLemmas.{cons_given}
+use Rattle.aom_safety.proofs.ImageLemmas.{action_there, cons_given}
+use Rattle.aom_safety.proofs.InstructionsLemmas.{trap_is}
 use Rattle.std.specs.Prelude.{◌++◌, ◌⊎◌}
 use Rattle.aom_image.specs.Image.{Image}
-use Rattle.aom_image.specs.Views.{instr_at}
+use Rattle.aom_image.specs.Views.{action_at, instr_at}
+use Rattle.aom_instructions.specs.Table.{action_of}
+use Rattle.aom_instructions.specs.declared.action.Action.TheVariants.{Call}
+use Rattle.aom_instructions.specs.declared.action.Manner.TheVariants.{Trapped as Under_trap}
 use Rattle.aom_instructions.specs.declared.instr.Instr.{Instr}
-use Rattle.aom_instructions.specs.declared.instr.Instr.TheVariants.{Trap}
 use Rattle.aom_instructions.specs.declared.instr.Target.{Target}
 use Rattle.aom_image.specs.declared.method.Gives.{Gives}
 use Rattle.aom_rules.specs.Typing.{IsTyped, Typing}
@@ -17,7 +20,7 @@ use Rattle.aom_safety.proofs.Booting.{boot_keeps}
 use Rattle.aom_safety.proofs.Caught.{own_word, told_frame}
 use Rattle.aom_safety.proofs.ClientsKeep.{clients_keep}
 use Rattle.aom_safety.proofs.Course.{WellKept, well_on}
-use Rattle.aom_safety.proofs.Guarded.{guarded_goes}
+use Rattle.aom_safety.proofs.Guarded.{acts_at}
 use Rattle.aom_safety.proofs.Moving.{steps_are_moves}
 use Rattle.aom_safety.proofs.Standing.{stand}
 use Rattle.aom_safety.proofs.Steps.{step_keeps}
@@ -29,9 +32,9 @@ use Rattle.aom_semantics.specs.Cleanup.{code_told, ended_by, to_trap}
 use Rattle.aom_classes.specs.Roles.{destructor_of}
 use Rattle.aom_semantics.specs.Destruction.{line_on, next_destructor, destructed, parting, first_session, begun, begun_by}
 use Rattle.aom_semantics.specs.Effects.{Calls, Cancels, Destroys, Destroys_last, Effect, Goes_on, Leaves, Operates}
-use Rattle.aom_semantics.specs.Effects.{Returns, Sets_trap, Update, applied, items_after, with_words}
+use Rattle.aom_semantics.specs.Effects.{Returns, Sets_trap, Update, applied, effect, items_after, with_words}
 use Rattle.aom_safety.specs.Laws.{IsWired}
-use Rattle.aom_semantics.specs.Moves.{IsOpen, counted, does, needs, step, step_instr, step_task}
+use Rattle.aom_semantics.specs.Moves.{IsOpen, counted, step}
 use Rattle.aom_semantics.specs.Places.{service_of, Object, named}
 use Rattle.aom_semantics.specs.State.{Inside, Home, Closing, Seat, A_mark, An_object, An_operation, Choice, Destroy, Dispatch, Dispatched}
 use Rattle.aom_semantics.specs.State.{Frame, Goes, Item, Run, State, Task, Trapped, Unwind, next, resumed}
@@ -268,14 +271,18 @@ module _ (p : Image) (t : Typing) (s u : State) (before : WellTyped p t s) (afte
   by_moved (inl stays) = inl (by_near stays.0.0 stays.0.1 stays.1)
   by_moved (inr ends) = inr (by_end ends.0 ends.1 ends.2)
 
+-- what is called under a trap sets it
+traps_by : (p : Image) (c : Choice) (fr : Frame) (ts : List Task) (s : State) (i : Instr) (target : Target) (m first x : ℕ) →
+    action_of i ≡ Call Under_trap target m first x → effect p c fr ts s i ≡ Sets_trap target m first
+traps_by p c fr ts s i target m first x e = subst (λ j. effect p c fr ts s j ≡ Sets_trap target m first) (sym (trap_is i target m first x e)) refl
+
 sets : (p : Image) (t : Typing) (c : Choice) (s u : State) (fr : Frame) (ts : List Task) (target : Target) (m first x : ℕ) → s.tasks ≡ Run fr ∷ ts →
-    instr_at p fr.method fr.place ≡ Some (Trap target m first x) → step p c s ≡ Goes u → IsTrapping (Run fr ∷ ts) s.items u
+    action_at p fr.method fr.place ≡ Some (Call Under_trap target m first x) → step p c s ≡ Goes u → IsTrapping (Run fr ∷ ts) s.items u
 sets p t c s u fr ts target m first x at there e =
-    let v = counted p s in
-    let i = Trap target m first x in
-    let e' : step_instr p c fr ts v (Some i) ≡ Goes u = subst (λ y. step_instr p c fr ts v y ≡ Goes u) there (subst (λ l. step_task p c v l ≡ Goes u) at e) in
-    subst (λ v. IsTrapping (Run fr ∷ ts) s.items v) (guarded_goes (needs p c fr ts v i) (does p c fr ts v i) u e')
-    (record { over = _ ∷ []; tasks = refl; entries = []; stack = refl; matched = refl })
+    let w = action_there _ _ there in
+    let i = w.0 in
+    subst (λ v. IsTrapping (Run fr ∷ ts) s.items v) (ap (applied p fr ts (counted p s)) (sym (traps_by p c fr ts (counted p s) i target m first x w.2))
+    ∙ (acts_at p c s u fr ts i at w.1 e).1) (record { over = _ ∷ []; tasks = refl; entries = []; stack = refl; matched = refl })
 
 keeps_trap : (p : Image) (t : Typing) → IsWired p → IsTyped p t → (c : Choice) (s u : State) → WellTyped p t s → named s.cells c.name ≡ None →
     (below : List Task) (items : List Item) → IsTrapping below items s → step p c s ≡ Goes u → IsTrapping below items u ⊎ IsPast p below items s u

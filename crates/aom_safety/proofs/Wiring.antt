@@ -5,16 +5,18 @@ use Rattle.std.proofs.lemmas.List.{nil_from_length}
 use Rattle.std.proofs.lemmas.Bool.{cases_Bool, true≢false}
 use Rattle.std.proofs.Common.{Bool, IfSome, IsSome, IsTrue, List, None, Option, Some, [], ap, arith, false}
 use Rattle.std.proofs.Common.{inl, inr, length, refl, subst, sym, true, ℕ, ◌<◌, ◌∙◌, ◌∷◌, ◌≡◌}
-use Rattle.aom_safety.proofs.ImageLemmas.{none_given, some_given}
+use Rattle.aom_safety.proofs.ImageLemmas.{action_there, none_given, some_given}
+use Rattle.aom_safety.proofs.InstructionsLemmas.{call_is, operation_is, trap_is}
 use Rattle.std.specs.Prelude.{is_none, not, replicate, ◌||◌, ◌⊎◌}
 use Rattle.std.proofs.lemmas.Option.{slice_get_cases, slice_get_within}
 use Rattle.aom_image.specs.Image.{Image}
-use Rattle.aom_image.specs.Views.{arguments_in, arguments_of, class_at, class_in, fields_in, gives_in, gives_of, has, instr_at}
+use Rattle.aom_image.specs.Views.{action_at, arguments_in, arguments_of, class_at, class_in, fields_in, gives_in, gives_of, has, instr_at}
 use Rattle.aom_image.specs.Views.{is_quiet, leaves, leaves_in, method_at, method_class, method_role, quiet_in, role_in}
 use Rattle.aom_instructions.specs.Fits.{InstrFits, limits}
 use Rattle.aom_image.specs.WellFormed.{MethodFits, WellFormed}
+use Rattle.aom_instructions.specs.declared.action.Action.TheVariants.{Call, PushOperation}
+use Rattle.aom_instructions.specs.declared.action.Manner.TheVariants.{Plain, Trapped}
 use Rattle.aom_instructions.specs.declared.instr.Instr.{Instr}
-use Rattle.aom_instructions.specs.declared.instr.Instr.TheVariants.{Call, PushOperation, Trap}
 use Rattle.aom_instructions.specs.declared.instr.Target.{Target}
 use Rattle.aom_instructions.specs.declared.limits.Limits.{Limits}
 use Rattle.aom_image.specs.declared.method.Gives.{Gives}
@@ -250,11 +252,15 @@ module _ (p : Image) (formed : WellFormed p) (linked : IsLinked p) where
   unfolding kind_of kind_in class_at last_of states_of
   none_destructs c none = grind (arith, nat_tests, needs, at_place (NeedsMet p) p.classes c)
 
-  called_is : (m place : ℕ) (target : Target) (m' first c : ℕ) → instr_at p m place ≡ Some (Call target m' first c) → IsCalled p m'
+  -- an instruction names methods of the roles that it wants
+  named_roles : (m place : ℕ) (i : Instr) → instr_at p m place ≡ Some i → NamesRoles p i
+  named_roles m place i e = let w = of_method p m place i e in all_there (NamesRoles p) w.0.code place i (shaped m w.0 w.1).code w.2
+
+  called_is : (m place : ℕ) (target : Target) (m' first c : ℕ) → action_at p m place ≡ Some (Call Plain target m' first c) → IsCalled p m'
   unfolding role_in is_role
   called_is m place target m' first c e =
-      let w = of_method p m place (Call target m' first c) e in
-      let names = all_there (NamesRoles p) w.0.code place (Call target m' first c) (shaped m w.0 w.1).code w.2 in
+      let w = action_there _ _ e in
+      let names = subst (λ i. NamesRoles p i) (call_is w.0 target m' first c w.2) (named_roles m place w.0 w.1) in
       some_given (λ o. IsTrue (is_role Do (role_in o) || is_role Construct (role_in o))) (method_at p m') names (λ names. cc) (λ d f names. record {
         there = rw f refl;
         ends = ends_unissued m' d f names;
@@ -262,11 +268,11 @@ module _ (p : Image) (formed : WellFormed p) (linked : IsLinked p) where
         role = grind (arith, nat_tests, one_of, same_roles d.role Do, same_roles d.role Construct);
       })
 
-  trapped_is : (m place : ℕ) (target : Target) (m' first c : ℕ) → instr_at p m place ≡ Some (Trap target m' first c) → IsTrapped p m'
+  trapped_is : (m place : ℕ) (target : Target) (m' first c : ℕ) → action_at p m place ≡ Some (Call Trapped target m' first c) → IsTrapped p m'
   unfolding role_in is_role
   trapped_is m place target m' first c e =
-      let w = of_method p m place (Trap target m' first c) e in
-      let names : ShapedTrapped p m' = all_there (NamesRoles p) w.0.code place (Trap target m' first c) (shaped m w.0 w.1).code w.2 in
+      let w = action_there _ _ e in
+      let names : ShapedTrapped p m' = subst (λ i. NamesRoles p i) (trap_is w.0 target m' first c w.2) (named_roles m place w.0 w.1) in
       let gives : LeavesNone (gives_of p m') = leaves_none (gives_of p m') names.gives in
       some_given (λ o. IsTrue (is_role Do (role_in o))) (method_at p m') names.role (λ names. cc) (λ d f names. record {
         there = rw f refl;
@@ -275,11 +281,11 @@ module _ (p : Image) (formed : WellFormed p) (linked : IsLinked p) where
         gives = gives;
       })
 
-  pushed_is : (m place a m' : ℕ) → instr_at p m place ≡ Some (PushOperation a m') → IsUndo p m'
+  pushed_is : (m place a m' : ℕ) → action_at p m place ≡ Some (PushOperation a m') → IsUndo p m'
   unfolding role_in is_role class_in leaves_in quiet_in gives_in arguments_in method_at
   pushed_is m place a m' e =
-      let w = of_method p m place (PushOperation a m') e in
-      let names = all_there (NamesRoles p) w.0.code place (PushOperation a m') (shaped m w.0 w.1).code w.2 in
+      let w = action_there _ _ e in
+      let names = subst (λ i. NamesRoles p i) (operation_is w.0 a m' w.2) (named_roles m place w.0 w.1) in
       some_given (λ o. IsTrue (is_role Undo (role_in o))) (method_at p m') names (λ names. cc) (λ d f names.
       let role : d.role ≡ Undo = same_roles d.role Undo names in
       let fits = all_there (MethodFits p.header.version (length p.classes) (length p.methods)) p.methods m' d formed.methods.each f in

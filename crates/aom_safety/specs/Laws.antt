@@ -1,11 +1,12 @@
 -- The laws of the checked machine.
 use Rattle.std.specs.Prelude.{IsSome, List, length, None, Some, [], bit_or, false, is_some, true, ℕ, ℤ, ◌<◌, ◌≤◌, ◌∷◌, ◌≡◌, ◌⊎◌, replicate}
 use Rattle.aom_image.specs.Image.{Image}
-use Rattle.aom_image.specs.Views.{instr_at, method_at, method_class, method_role, is_quiet, leaves, gives_of, arguments_of}
+use Rattle.aom_image.specs.Views.{action_at, instr_at, method_at, method_class, method_role, is_quiet, leaves, gives_of, arguments_of}
 use Rattle.aom_instructions.specs.Fits.{InstrFits}
+use Rattle.aom_instructions.specs.declared.action.Action.TheVariants.{Call, PushOperation}
+use Rattle.aom_instructions.specs.declared.action.Manner.TheVariants.{Plain, Trapped as Under_trap}
 use Rattle.aom_image.specs.WellFormed.{WellFormed}
 use Rattle.aom_instructions.specs.declared.instr.Instr.{Instr}
-use Rattle.aom_instructions.specs.declared.instr.Instr.TheVariants.{Call, Trap, PushOperation}
 use Rattle.aom_instructions.specs.declared.instr.Target.{Target}
 use Rattle.aom_instructions.specs.declared.limits.Limits.{Limits}
 use Rattle.aom_image.specs.declared.method.Gives.TheVariants.{Nothing, Word as A_word, Own as An_own}
@@ -122,9 +123,9 @@ pub record IsWired (p : Image) : Type 0 where
   pub static_main : (m : ℕ) → method_role p m ≡ Some Main → method_class p m ≡ None
   -- the operands of each instruction are in their ranges
   pub operands : (m place : ℕ) (i : Instr) → instr_at p m place ≡ Some i → (l : Limits) × InstrFits l i
-  pub called : (m place : ℕ) (target : Target) (m' first c : ℕ) → instr_at p m place ≡ Some (Call target m' first c) → IsCalled p m'
-  pub trapped : (m place : ℕ) (target : Target) (m' first c : ℕ) → instr_at p m place ≡ Some (Trap target m' first c) → IsTrapped p m'
-  pub pushed : (m place a m' : ℕ) → instr_at p m place ≡ Some (PushOperation a m') → IsUndo p m'
+  pub called : (m place : ℕ) (target : Target) (m' first c : ℕ) → action_at p m place ≡ Some (Call Plain target m' first c) → IsCalled p m'
+  pub trapped : (m place : ℕ) (target : Target) (m' first c : ℕ) → action_at p m place ≡ Some (Call Under_trap target m' first c) → IsTrapped p m'
+  pub pushed : (m place a m' : ℕ) → action_at p m place ≡ Some (PushOperation a m') → IsUndo p m'
   pub no_destructor : (c : ℕ) → role_of p c Destruct ≡ None → (f : ℕ) → field_thing p (Member c) f ≡ None
   -- a server has a method that accepts, and its sessions one that serves; what is a session is no server
   pub acceptor : (c session : ℕ) → sessions_at p c ≡ Some session → (m : ℕ) × (role_of p c Accept ≡ Some m)

@@ -1,10 +1,16 @@
 -- Leaves: the code that a method leaves with is the one that arrives, what was pushed last is dealt with first, and what lies below the mark stays as it is.
 use Rattle.std.specs.Prelude.{Bool, false, ℕ, suc, ℤ, negsuc, pos, true, ◌≡◌, ◌≢◌, ◌⊎◌, int_lt, List, [], ◌∷◌, ◌++◌, Option, Some, None, length}
 use Rattle.aom_image.specs.Image.{Image}
-use Rattle.aom_image.specs.Views.{instr_at, is_quiet, gives_of}
+use Rattle.aom_image.specs.Views.{action_at, instr_at, is_quiet, gives_of}
+use Rattle.aom_instructions.specs.Table.{action_of, transfer_of}
+use Rattle.aom_instructions.specs.declared.action.Action.{Action}
+use Rattle.aom_instructions.specs.declared.action.Action.TheVariants.{Call, Push, PushOperation}
+use Rattle.aom_instructions.specs.declared.action.Manner.TheVariants.{Trapped as Under_trap}
 use Rattle.aom_instructions.specs.declared.instr.Instr.{Instr}
-use Rattle.aom_instructions.specs.declared.instr.Instr.TheVariants.{NewOrLeave, Push, PushOperation, Leave, LeaveIf, Trap}
+use Rattle.aom_instructions.specs.declared.instr.Instr.TheVariants.{LeaveIf, NewOrLeave}
 use Rattle.aom_instructions.specs.declared.instr.Target.{Target}
+use Rattle.aom_instructions.specs.declared.transfer.Transfer.{Transfer}
+use Rattle.aom_instructions.specs.declared.transfer.Transfer.TheVariants.{Leave}
 use Rattle.aom_image.specs.declared.method.Gives.{Gives}
 use Rattle.aom_image.specs.declared.method.Gives.TheVariants.{Nothing, Word as A_word, Own as An_own, Maybe as A_maybe, Left}
 use Rattle.aom_rules.specs.Typing.{Typing, IsTyped}
@@ -47,14 +53,26 @@ pub record IsLeaving (p : Image) (code : ℤ) (below : List Task) (entries items
 
 -- ---- how it begins
 
--- an instruction leaves with its word, `leaveif` with a negative one, and a refused request with -4
+-- a refused request leaves with -4
+abbrev pub IsRefusal : Choice → ℤ → Type 0
+IsRefusal c code = (c.refused ≡ true) × (code ≡ negsuc 3)
+
+-- a push may be refused
+abbrev pub PushLeaves : Choice → Action → ℤ → Type 0
+PushLeaves c (Push a) code = IsRefusal c code
+PushLeaves c (PushOperation a m) code = IsRefusal c code
+PushLeaves c _ code = ⊥
+
+-- what leaves at once leaves with its word
+abbrev pub LeavesBy : Choice → Frame → Transfer → Action → ℤ → Type 0
+LeavesBy c fr (Leave a) x code = word fr a ≡ Some code
+LeavesBy c fr _ x code = PushLeaves c x code
+
+-- `leaveif` leaves with a negative word, and the others as they transfer control, or as they act
 abbrev pub LeavesWith : Choice → Frame → Instr → ℤ → Type 0
-LeavesWith c fr (Leave a) code = word fr a ≡ Some code
 LeavesWith c fr (LeaveIf a) code = (word fr a ≡ Some code) × (int_lt code (pos 0) ≡ true)
-LeavesWith c fr (NewOrLeave a x) code = (c.refused ≡ true) × (code ≡ negsuc 3)
-LeavesWith c fr (Push a) code = (c.refused ≡ true) × (code ≡ negsuc 3)
-LeavesWith c fr (PushOperation a m) code = (c.refused ≡ true) × (code ≡ negsuc 3)
-LeavesWith c fr _ code = ⊥
+LeavesWith c fr (NewOrLeave a x) code = IsRefusal c code
+LeavesWith c fr i code = LeavesBy c fr (transfer_of i) (action_of i) code
 
 -- a cell has moved from one place to the other, and all other places own what they did
 pub record HasMoved (o : Object) (from to : Place) (before after : List Cell) : Type 0 where
@@ -64,10 +82,13 @@ pub record HasMoved (o : Object) (from to : Place) (before after : List Cell) : 
   pub others : (r : Place) → r ≢ from → r ≢ to → held after r ≡ held before r
 
 -- what was to be pushed is pushed all the same, from the method over so many tasks
+abbrev pub PushedBy : Frame → ℕ → Action → State → State → Type 0
+PushedBy fr depth (Push a) s u = (o : Object) × HasMoved o (Register depth a) (Entry (length s.items)) s.cells u.cells × (u.items ≡ An_object ∷ s.items)
+PushedBy fr depth (PushOperation a m) s u = (w : ℤ) × (word fr a ≡ Some w) × (u.items ≡ An_operation m w ∷ s.items) × (u.cells ≡ s.cells)
+PushedBy fr depth _ s u = (u.items ≡ s.items) × (u.cells ≡ s.cells)
+
 abbrev pub HasPushed : Frame → ℕ → Instr → State → State → Type 0
-HasPushed fr depth (Push a) s u = (o : Object) × HasMoved o (Register depth a) (Entry (length s.items)) s.cells u.cells × (u.items ≡ An_object ∷ s.items)
-HasPushed fr depth (PushOperation a m) s u = (w : ℤ) × (word fr a ≡ Some w) × (u.items ≡ An_operation m w ∷ s.items) × (u.cells ≡ s.cells)
-HasPushed fr depth _ s u = (u.items ≡ s.items) × (u.cells ≡ s.cells)
+HasPushed fr depth i s u = PushedBy fr depth (action_of i) s u
 
 abbrev pub AreMethods : List Task → Type 0
 AreMethods [] = Unit {0}
@@ -134,7 +155,7 @@ abbrev pub ArrivesAt : Image → ℤ → List Task → State → Type 0
 ArrivesAt p code (Trapped ∷ Run before ∷ ts) u =
     (after : Frame)
     × (u.tasks ≡ Run after ∷ ts)
-    × ((target : Target) (m first c : ℕ) → instr_at p before.method before.place ≡ Some (Trap target m first c) → Hears code (gives_of p m) c u.cells (length ts) before after)
+    × ((target : Target) (m first c : ℕ) → action_at p before.method before.place ≡ Some (Call Under_trap target m first c) → Hears code (gives_of p m) c u.cells (length ts) before after)
 ArrivesAt p code (Trapped ∷ Dispatched Of_main ∷ ts) u = u.tasks ≡ Dispatched (Main_left code) ∷ ts
 ArrivesAt p code (Trapped ∷ Dispatched (Of_object x) ∷ ts) u = u.tasks ≡ Dispatched (Object_left x code) ∷ ts
 ArrivesAt p code (Trapped ∷ Dispatched (Of_server x client Accepts) ∷ ts) u = u.tasks ≡ Dispatched (Of_server x client (Accept_left code)) ∷ ts

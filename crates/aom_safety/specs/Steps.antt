@@ -2,8 +2,12 @@
 use Rattle.std.specs.Prelude.{ℕ, suc, ◌-◌, ◌≡◌, ◌⊎◌, ℤ, true, List, [], ◌∷◌, Some, None, length}
 use Rattle.aom_image.specs.Image.{Image}
 use Rattle.aom_image.specs.Views.{gives_of, instr_at}
+use Rattle.aom_instructions.specs.Table.{action_of, transfer_of}
+use Rattle.aom_instructions.specs.declared.action.Action.TheVariants as action
+use Rattle.aom_instructions.specs.declared.action.Manner.TheVariants.{Plain, Trapped as Under_trap}
 use Rattle.aom_instructions.specs.declared.instr.Instr.{Instr}
-use Rattle.aom_instructions.specs.declared.instr.Instr.TheVariants.{Call, Delete, Loop, Next, Pop, PopDelete, PopOperation, Push, PushOperation, Return, Trap, Cancel}
+use Rattle.aom_instructions.specs.declared.instr.Instr.TheVariants.{Pop, PopDelete, PopOperation}
+use Rattle.aom_instructions.specs.declared.transfer.Transfer.TheVariants as transfer
 use Rattle.aom_roles.specs.Tests.{AllTrue}
 use Rattle.aom_classes.specs.Jumps.{jump_of}
 use Rattle.aom_classes.specs.Loops.{loop_in}
@@ -27,7 +31,7 @@ IsStraight i = loop_in (Some i) ≡ None
 
 -- a loop begins, or its last round is over
 abbrev pub Sets : Instr → ℕ → ℕ → Type 0
-Sets i d n = (i ≡ Loop d n) ⊎ ((to : ℕ) × (i ≡ Next d to) × (n ≡ 0))
+Sets i d n = (transfer_of i ≡ transfer.Begin d n) ⊎ ((to : ℕ) × (transfer_of i ≡ transfer.Repeat d to) × (n ≡ 0))
 
 -- a trap stands below a push, and the item of its kind below what comes off
 abbrev pub FitsUpdate : List Task → List Item → Instr → Update → Type 0
@@ -37,8 +41,8 @@ FitsUpdate ts items i (Made name class a) = makes (Some i) ≡ true
 FitsUpdate ts items i (Written w v) = Unit {0}
 FitsUpdate ts items i (Requested r) = Unit {0}
 FitsUpdate ts items i (Sessioned session) = Unit {0}
-FitsUpdate ts items i (Pushed a) = (i ≡ Push a) × (has_trap ts ≡ true)
-FitsUpdate ts items i (Pushed_operation m w) = (a : ℕ) × (i ≡ PushOperation a m) × (has_trap ts ≡ true)
+FitsUpdate ts items i (Pushed a) = (action_of i ≡ action.Push a) × (has_trap ts ≡ true)
+FitsUpdate ts items i (Pushed_operation m w) = (a : ℕ) × (action_of i ≡ action.PushOperation a m) × (has_trap ts ≡ true)
 FitsUpdate ts items i (Popped a) = (i ≡ Pop a) × (items ≡ An_object ∷ below_top items)
 FitsUpdate ts items i (Replied a code) = Unit {0}
 FitsUpdate ts items i (Handed name a) = Unit {0}
@@ -48,13 +52,13 @@ abbrev pub Fits : Image → Choice → Frame → List Task → State → Instr �
 Fits p c fr ts s i (Goes_on ch) = IsStraight i × FitsUpdate ts s.items i ch.update
 Fits p c fr ts s i (Jumps to) = jump_of i ≡ Some to
 Fits p c fr ts s i (Counts d n) = Sets i d n
-Fits p c fr ts s i (Repeats d n to) = (i ≡ Next d to) × (k : ℕ) × (n ≡ suc k) × (counter fr d - 1 ≡ n)
-Fits p c fr ts s i (Calls target m first) = (x : ℕ) × (i ≡ Call target m first x)
-Fits p c fr ts s i (Sets_trap target m first) = (x : ℕ) × (i ≡ Trap target m first x)
-Fits p c fr ts s i (Cancels m) = (i ≡ Cancel) × (cancel_method p fr ≡ Some m)
-Fits p c fr ts s i (Returns g a) = (i ≡ Return a) × (g ≡ gives_of p fr.method)
+Fits p c fr ts s i (Repeats d n to) = (transfer_of i ≡ transfer.Repeat d to) × (k : ℕ) × (n ≡ suc k) × (counter fr d - 1 ≡ n)
+Fits p c fr ts s i (Calls target m first) = (x : ℕ) × (action_of i ≡ action.Call Plain target m first x)
+Fits p c fr ts s i (Sets_trap target m first) = (x : ℕ) × (action_of i ≡ action.Call Under_trap target m first x)
+Fits p c fr ts s i (Cancels m) = (action_of i ≡ action.Cancel) × (cancel_method p fr ≡ Some m)
+Fits p c fr ts s i (Returns g a) = (transfer_of i ≡ transfer.Return a) × (g ≡ gives_of p fr.method)
 Fits p c fr ts s i (Leaves code u) = (has_trap ts ≡ true) × LeavesWith c fr i code × FitsUpdate ts s.items i u
-Fits p c fr ts s i (Destroys o a words) = (i ≡ Delete a) × (held s.cells (here fr ts s a) ≡ Some o)
+Fits p c fr ts s i (Destroys o a words) = (action_of i ≡ action.Destroy a) × (held s.cells (here fr ts s a) ≡ Some o)
 Fits p c fr ts s i (Destroys_last o) = (i ≡ PopDelete) × (s.items ≡ An_object ∷ below_top s.items) × (held s.cells (top_place s.items) ≡ Some o)
 Fits p c fr ts s i (Operates m w) = (i ≡ PopDelete) × (s.items ≡ An_operation m w ∷ below_top s.items)
 

@@ -1,8 +1,9 @@
 -- Traps: until a trap is over, the method that set it waits as it was, and what lies below its mark stays as it is.
 use Rattle.std.specs.Prelude.{ℕ, suc, ℤ, pos, ◌≡◌, ◌⊎◌, List, [], ◌∷◌, ◌++◌, Some, None}
 use Rattle.aom_image.specs.Image.{Image}
-use Rattle.aom_image.specs.Views.{instr_at}
-use Rattle.aom_instructions.specs.declared.instr.Instr.TheVariants.{Trap}
+use Rattle.aom_image.specs.Views.{action_at}
+use Rattle.aom_instructions.specs.declared.action.Action.TheVariants.{Call}
+use Rattle.aom_instructions.specs.declared.action.Manner.TheVariants.{Trapped as Under_trap}
 use Rattle.aom_instructions.specs.declared.instr.Target.{Target}
 use Rattle.aom_rules.specs.Typing.{Typing, IsTyped}
 use Rattle.aom_semantics.specs.Places.{named}
@@ -49,7 +50,7 @@ GoesOnAfter (Dispatched d ∷ ts) tasks = (e : Dispatch) × (tasks ≡ Dispatche
 
 -- the register of the code has the word 0
 abbrev pub TellsZero : Image → List Task → List Task → Type 0
-TellsZero p (Run before ∷ ts) (Run after ∷ us) = (target : Target) (m first x : ℕ) → instr_at p before.method before.place ≡ Some (Trap target m first x) → word after (suc x) ≡ Some (pos 0)
+TellsZero p (Run before ∷ ts) (Run after ∷ us) = (target : Target) (m first x : ℕ) → action_at p before.method before.place ≡ Some (Call Under_trap target m first x) → word after (suc x) ≡ Some (pos 0)
 TellsZero p _ _ = Unit {0}
 
 -- the method right over the trap has returned, or a leave right over it has arrived
@@ -78,7 +79,7 @@ pub record WasPast (p : Image) (outside : Environment) (below : List Task) (item
 -- a method that waits under a trap stands at the instruction that set it
 abbrev pub IsAtTrap : Image → List Task → Type 0
 IsAtTrap p [] = ⊥
-IsAtTrap p (Run fr ∷ ts) = (target : Target) × (m : ℕ) × (first : ℕ) × (x : ℕ) × (instr_at p fr.method fr.place ≡ Some (Trap target m first x))
+IsAtTrap p (Run fr ∷ ts) = (target : Target) × (m : ℕ) × (first : ℕ) × (x : ℕ) × (action_at p fr.method fr.place ≡ Some (Call Under_trap target m first x))
 IsAtTrap p (Trapped ∷ ts) = ⊥
 IsAtTrap p (Destroy ∷ ts) = ⊥
 IsAtTrap p (Closing ∷ ts) = ⊥
@@ -107,7 +108,7 @@ pub record TrapsKeep : Type 0 where
   -- a method sets a trap: it waits under it, and the items are those below its mark
   pub sets :
       (p : Image) (t : Typing) (c : Choice) (s u : State) (fr : Frame) (ts : List Task) (target : Target) (m first x : ℕ) →
-      s.tasks ≡ Run fr ∷ ts → instr_at p fr.method fr.place ≡ Some (Trap target m first x) → step p c s ≡ Goes u → IsTrapping (Run fr ∷ ts) s.items u
+      s.tasks ≡ Run fr ∷ ts → action_at p fr.method fr.place ≡ Some (Call Under_trap target m first x) → step p c s ≡ Goes u → IsTrapping (Run fr ∷ ts) s.items u
   -- of each move
   pub moves :
       (p : Image) (t : Typing) → IsWired p → IsTyped p t → (c : Choice) (s u : State) → WellTyped p t s → named s.cells c.name ≡ None →

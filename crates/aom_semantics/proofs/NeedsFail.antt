@@ -4,11 +4,10 @@ use Rattle.std.proofs.lemmas.Int.{ints}
 use Rattle.std.proofs.Math.Facts.{sfits_lit}
 use Rattle.aom_image.specs.Views.{arguments_in, class_at, class_in, fields_in, gives_in, instr_in, method_at, role_in}
 use Rattle.aom_roles.specs.Families.{descends_in, parent_in}
-use Rattle.aom_instructions.specs.declared.instr.Instr.TheVariants.{Call, Trap}
 use Rattle.aom_roles.specs.Classes.{sessions_in, sessions_of, kind_in}
 use Rattle.aom_roles.specs.Shapes.{is_role, kind_of}
 use Rattle.aom_roles.specs.Things.{words_in}
-use Rattle.aom_semantics.specs.Cases.Calls.{CallingNeedsFail, CallNeedsFail}
+use Rattle.aom_semantics.specs.Cases.Calls.{CallNeedsFail}
 use Rattle.aom_semantics.specs.Cases.Cleanup.{CleanupNeedsFail}
 use Rattle.aom_semantics.specs.Cases.Moves.{MoveNeedsFail}
 use Rattle.aom_semantics.specs.Cases.Natives.{IsNoAnswer, NativeNeedsFail}
@@ -32,17 +31,13 @@ pub object_needs_fail : ObjectNeedsFail
 unfolding class_at fields_in gives_in instr_in method_at words_in role_in class_in descends_in parent_in
 object_needs_fail = record { moves = refl; fields = refl; cells = refl }
 
-calls_come_out : CallingNeedsFail Call
-unfolding arguments_in class_at class_in fields_in gives_in instr_in method_at role_in descends_in parent_in
-calls_come_out = record { this = refl; registers = refl; fields = refl; entries = refl; arguments = refl; results = refl }
-
-traps_come_out : CallingNeedsFail Trap
-unfolding arguments_in class_at class_in fields_in gives_in instr_in method_at role_in descends_in parent_in
-traps_come_out = record { this = refl; registers = refl; fields = refl; entries = refl; arguments = refl; results = refl }
-
 pub call_needs_fail : CallNeedsFail
 unfolding arguments_in class_at class_in fields_in gives_in instr_in method_at role_in descends_in parent_in
-call_needs_fail = record { calls = calls_come_out; traps = traps_come_out; codes = refl }
+call_needs_fail = record {
+  calls = record { this = refl; registers = refl; fields = refl; entries = refl; arguments = refl; results = refl };
+  traps = record { this = refl; registers = refl; fields = refl; entries = refl; arguments = refl; results = refl };
+  codes = refl;
+}
 
 pub return_needs_fail : ReturnNeedsFail
 unfolding class_at class_in fields_in gives_in instr_in method_at role_in descends_in parent_in

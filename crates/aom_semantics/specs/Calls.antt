@@ -1,9 +1,10 @@
 -- Calls, returns, and `stop`.
 use Rattle.std.specs.Prelude.{ℕ, zero, suc, ◌+◌, ◌-◌, ℤ, pos, Bool, true, false, not, ◌&&◌, ◌==◌, nat_le, List, [], ◌∷◌, ◌++◌, Option, Some, None, is_some, is_none, length}
 use Rattle.aom_image.specs.Image.{Image}
-use Rattle.aom_image.specs.Views.{instr_at, arguments_of, gives_of, method_class, method_role}
+use Rattle.aom_image.specs.Views.{action_in, instr_at, arguments_of, gives_of, method_class, method_role}
+use Rattle.aom_instructions.specs.declared.action.Action.{Action}
+use Rattle.aom_instructions.specs.declared.action.Action.TheVariants.{Call}
 use Rattle.aom_instructions.specs.declared.instr.Instr.{Instr}
-use Rattle.aom_instructions.specs.declared.instr.Instr.TheVariants.{Call, Trap}
 use Rattle.aom_instructions.specs.declared.instr.Target.{Target}
 use Rattle.aom_instructions.specs.declared.instr.Target.TheVariants.{This, Register as On_register, Field as On_field, Entry as On_entry}
 use Rattle.aom_image.specs.declared.method.Argument.{Argument}
@@ -197,15 +198,19 @@ module _ (p : Image) (fr : Frame) (ts : List Task) (s : State) where
       record (frame_as (run_by target m) (target_home target (method_class p m)) (target_view target (method_class p m)) height) { words = passed_words (arguments_of p m) first }
 
 -- the register of a call's result, and the method that is called
+abbrev pub result_of : Option Action → ℕ
+result_of (Some (Call manner target m first c)) = c
+result_of _ = 0
+
+abbrev pub callee_of : Option Action → Option ℕ
+callee_of (Some (Call manner target m first c)) = Some m
+callee_of _ = None
+
 abbrev pub result_register : Option Instr → ℕ
-result_register (Some (Call target m first c)) = c
-result_register (Some (Trap target m first c)) = c
-result_register _ = 0
+result_register o = result_of (action_in o)
 
 abbrev pub callee_in : Option Instr → Option ℕ
-callee_in (Some (Call target m first c)) = Some m
-callee_in (Some (Trap target m first c)) = Some m
-callee_in _ = None
+callee_in o = callee_of (action_in o)
 
 -- what that method gives
 abbrev pub given_by : Image → Option ℕ → Gives
