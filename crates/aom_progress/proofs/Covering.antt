@@ -2,11 +2,11 @@
 use Rattle.std.proofs.lemmas.Bool.Decides.{nat_tests}
 use Rattle.std.proofs.lemmas.Option.{slice_get_within}
 use Rattle.std.proofs.Common.{inr, inl, ◌≡◌, ◌≤◌, ◌+◌, ◌-◌, ℕ, ℤ, suc, Bool, true, false, cond, List}
-use Rattle.std.proofs.Common.{[], ◌∷◌, ◌++◌, ◌==◌, Option, Some, None, refl, ap, arith}
+use Rattle.std.proofs.Common.{[], ◌∷◌, ◌++◌, ◌==◌, Option, Some, None, refl, sym, ap, subst, arith}
 use Rattle.std.specs.Prelude.{bit_and, is_some}
 use Rattle.aom_image.specs.Image.{Image}
 use Rattle.aom_instructions.specs.declared.instr.Instr.{Instr}
-use Rattle.aom_instructions.specs.declared.instr.Instr.TheVariants.{Loop, Next}
+use Rattle.aom_instructions.specs.declared.instr.Instr.TheVariants.{Mul}
 use Rattle.aom_image.specs.Views.{method_at, method_class, method_role}
 use Rattle.aom_image.specs.declared.method.Role.TheVariants.{Main}
 use Rattle.aom_image.specs.declared.method.Thing.{Thing}
@@ -14,7 +14,8 @@ use Rattle.aom_roles.specs.Tests.{AllTrue}
 use Rattle.aom_classes.specs.Loops.{loop_in, next_in}
 use Rattle.aom_roles.specs.Things.{field_thing, holder_of}
 use Rattle.aom_shape.specs.Kinds.{field, filled, is_object_or_null, register}
-use Rattle.aom_progress.proofs.TypingsLemmas.{call_paid, cancel_paid, run_has}
+use Rattle.aom_progress.proofs.InstructionsLemmas.{loop_is, next_is}
+use Rattle.aom_progress.proofs.TypingsLemmas.{by_kind, call_paid, cancel_paid, run_has}
 use Rattle.aom_classes.specs.Overriding.{body_of}
 use Rattle.aom_progress.proofs.FamiliesLemmas.{body_runs, overrides_there}
 use Rattle.aom_roles.specs.Kinds.{is_active_kind, is_listed_kind}
@@ -165,13 +166,21 @@ module _ (p : Image) (t : Typing) (c : Prices) (main_none : (m : ℕ) → method
       Covers p c fr sh (cancels_if fr (in_phase is_active (own_request s.cells fr.home)) (cancel_method p fr))
   cancelled = on_cancel (in_phase is_active (own_request s.cells fr.home)) (cancel_method p fr) refl
 
-  pub covers : (i : Instr) → StandsHere i → AllTrue (rule_needs p fr.method fr.place sh i) → Covers p c fr sh (effect p ch fr ts s i)
+  -- one that begins no loop and ends no round
+  covers_plain : (i : Instr) → StandsHere i → AllTrue (rule_needs p fr.method fr.place sh i) → loop_in (Some i) ≡ None → next_in (Some i) ≡ None →
+      Covers p c fr sh (effect p ch fr ts s i)
   unfolding loop_in next_in
-  covers (Loop depth rounds) it rule = tt
-  covers (Next depth to) it rule = rounding p c fr sh (counter fr depth - 1) depth to
-  covers i it rule = first_of (
+  covers_plain (Mul a b x) it rule none no_next = grind (arith, nat_tests, paid (Mul a b x) it)
+  covers_plain i it rule none no_next = first_of (
     grind (arith, nat_tests, paid i it, either p c fr sh, some i it, deleting p c fr sh, dealing p c fr sh, branches p c fr sh),
     grind (arith, nat_tests, paid i it, on_busy, on_listed, cancelled),
     grind (arith, nat_tests, paid i it, on_null, kind_fits p t ch s fr sh ls at_hand),
     grind (arith, nat_tests, paid i it, on_field),
   )
+
+  abbrev Covered : Instr → Type 0
+  Covered j = Covers p c fr sh (effect p ch fr ts s j)
+
+  pub covers : (i : Instr) → StandsHere i → AllTrue (rule_needs p fr.method fr.place sh i) → Covers p c fr sh (effect p ch fr ts s i)
+  covers i it rule = by_kind (Covered i) i (covers_plain i it rule) (λ d n is. subst Covered (sym (loop_is i d n is)) tt)
+      (λ d to is. subst Covered (sym (next_is i d to is)) (rounding p c fr sh (counter fr d - 1) d to))

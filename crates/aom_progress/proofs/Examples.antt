@@ -8,7 +8,9 @@ use Rattle.aom_image.specs.Small.{a_class, a_header, a_method}
 use Rattle.aom_image.specs.Views.{arguments_in, class_at, class_in, fields_in, gives_in, instr_at, instr_in, method_at, quiet_in, role_in}
 use Rattle.aom_image.specs.declared.class.ClassKind.TheVariants.{Plain}
 use Rattle.aom_instructions.specs.declared.instr.Instr.{Instr}
+use Rattle.aom_instructions.specs.Table.{transfer_of}
 use Rattle.aom_instructions.specs.declared.instr.Instr.TheVariants.{Delete, Loop, New, Next, Return, Stop}
+use Rattle.aom_instructions.specs.declared.transfer.Transfer.TheVariants.{Begin, Repeat}
 use Rattle.aom_image.specs.declared.method.Gives.TheVariants.{Nothing}
 use Rattle.aom_image.specs.declared.method.Method.{Method}
 use Rattle.aom_image.specs.declared.method.Role.{Role}
@@ -44,7 +46,7 @@ use Rattle.aom_typings.specs.Most.{line}
 use Rattle.std.proofs.lemmas.List.Elements.{All-nil, All-cons}
 use Rattle.aom_image.specs.declared.class.ClassDecl.{ClassDecl}
 use Rattle.aom_roles.specs.Families.{HasNoParents}
-use Rattle.aom_progress.proofs.TypingsLemmas.{line_alone}
+use Rattle.aom_progress.proofs.TypingsLemmas.{instr_as, line_alone}
 use Rattle.aom_typings.specs.Dispatches.{IsAffordable, main_price}
 
 -- ---- the image: main makes an object and deletes it, in three rounds
@@ -117,25 +119,25 @@ unfolding loop_in next_in
 flows_pay = at_each Flows (λ l n. tt) (λ l n. cc) (λ l n. (omega arith, tt)) (λ l n. (omega arith, tt)) (λ l n. cc) (λ l n. (omega arith, tt)) (λ l n. tt)
 
 abbrev Loops : ℕ → ℕ → Shape → Instr → Type 0
-Loops m place sh i = (d n : ℕ) → i ≡ Loop d n → 1 + (n - 1) * table.round m place + table.from m (suc place) ≤ table.from m place
+Loops m place sh i = (d n : ℕ) → transfer_of i ≡ Begin d n → 1 + (n - 1) * table.round m place + table.from m (suc place) ≤ table.from m place
 
 loops_pay : (m place : ℕ) (sh : Shape) (i : Instr) → Stands image typing m place sh i → Loops m place sh i
 loops_pay = at_each Loops (λ d n e. cc) (λ d n e. let is : 3 ≡ n = cc in subst (λ k. 1 + (k - 1) * 5 + 7 ≤ 18) is (omega arith)) (λ d n e. cc) (λ d n e. cc)
     (λ d n e. cc) (λ d n e. cc) (λ d n e. cc)
 
 abbrev Nexts : ℕ → ℕ → Shape → Instr → Type 0
-Nexts m place sh i = (d to : ℕ) → i ≡ Next d to → 1 + table.from m (suc place) ≤ table.from m place
+Nexts m place sh i = (d to : ℕ) → transfer_of i ≡ Repeat d to → 1 + table.from m (suc place) ≤ table.from m place
 
 nexts_pay : (m place : ℕ) (sh : Shape) (i : Instr) → Stands image typing m place sh i → Nexts m place sh i
 nexts_pay = at_each Nexts (λ d to e. cc) (λ d to e. cc) (λ d to e. cc) (λ d to e. cc) (λ d to e. omega arith) (λ d to e. cc) (λ d to e. cc)
 
 abbrev Rounds : ℕ → ℕ → Shape → Instr → Type 0
-Rounds m place sh i = (d first : ℕ) → i ≡ Next d (suc first) → 1 + table.from m (suc first) ≤ table.from m place + table.round m first
+Rounds m place sh i = (d first : ℕ) → transfer_of i ≡ Repeat d (suc first) → 1 + table.from m (suc first) ≤ table.from m place + table.round m first
 
 rounds_pay : (m place : ℕ) (sh : Shape) (i : Instr) → Stands image typing m place sh i → Rounds m place sh i
 rounds_pay = at_each Rounds (λ d x e. cc) (λ d x e. cc) (λ d x e. cc) (λ d x e. cc) next (λ d x e. cc) (λ d x e. cc)
   where
-    next : (d x : ℕ) → Next 0 1 ≡ Next d (suc x) → 1 + table.from 1 (suc x) ≤ 8
+    next : (d x : ℕ) → Repeat 0 1 ≡ Repeat d (suc x) → 1 + table.from 1 (suc x) ≤ 8
     next d x e = let is : 1 ≡ suc x = cc in subst (λ k. 1 + table.from 1 k ≤ 8) is (omega arith)
 
 -- the one destructor is method 0
@@ -182,9 +184,9 @@ affordable = record {
   priced = record {
     ends = at_each Ends (omega arith) (omega arith) (omega arith) (omega arith) (omega arith) (omega arith) (omega arith);
     flows = flows_pay;
-    loops = λ m place d n sh it. loops_pay m place sh (Loop d n) it d n refl;
-    nexts = λ m place d to sh it. nexts_pay m place sh (Next d to) it d to refl;
-    rounds = λ m place d x sh it. rounds_pay m place sh (Next d (suc x)) it d x refl;
+    loops = λ m place d n sh it. let i = instr_as image typing m place sh _ it in loops_pay m place sh i.0 i.1 d n i.2;
+    nexts = λ m place d to sh it. let i = instr_as image typing m place sh _ it in nexts_pay m place sh i.0 i.1 d to i.2;
+    rounds = λ m place d x sh it. let i = instr_as image typing m place sh _ it in rounds_pay m place sh i.0 i.1 d x i.2;
     lines = lines_pay;
     stands_in = λ x y e. omega arith;
   };

@@ -2,12 +2,15 @@
 use Rattle.std.proofs.lemmas.Bool.Decides.{nat_tests}
 use Rattle.aom_progress.proofs.SafetyLemmas.{all_parts, body_quiet, straight_by}
 use Rattle.std.proofs.Common.{◌≡◌, ◌<◌, ◌≤◌, ◌+◌, ◌*◌, ◌∙◌, ℕ, ℤ, suc, Bool, true, false, List}
-use Rattle.std.proofs.Common.{◌∷◌, length, Option, Some, None, slice_get, sym, ap, arith, subst}
+use Rattle.std.proofs.Common.{◌∷◌, length, Option, Some, None, slice_get, sym, arith, subst}
 use Rattle.std.specs.Prelude.{not}
+use Rattle.aom_progress.proofs.InstructionsLemmas.{call_is, operation_is, trap_is}
 use Rattle.aom_image.specs.Image.{Image}
 use Rattle.aom_image.specs.Views.{arguments_of, is_quiet, method_at, method_class}
 use Rattle.aom_instructions.specs.declared.instr.Instr.{Instr}
-use Rattle.aom_instructions.specs.declared.instr.Instr.TheVariants.{Cancel, Delete, Return}
+use Rattle.aom_instructions.specs.Table.{action_of, transfer_of}
+use Rattle.aom_instructions.specs.declared.action.Action.TheVariants as action
+use Rattle.aom_instructions.specs.declared.transfer.Transfer.TheVariants as transfer
 use Rattle.aom_instructions.specs.declared.instr.Target.{Target}
 use Rattle.aom_image.specs.declared.method.Gives.{Gives}
 use Rattle.aom_image.specs.declared.method.Method.{Method as Method_declared}
@@ -41,6 +44,7 @@ use Rattle.aom_progress.proofs.Cells.{standing_passes, standing_stored, standing
 use Rattle.aom_progress.proofs.Worths.{passed_less, to_trap_less}
 use Rattle.aom_progress.proofs.Sums.{one_less, one_more, scaled, scaled_le}
 use Rattle.aom_progress.proofs.ImageLemmas.{false_given}
+use Rattle.aom_progress.proofs.TypingsLemmas.{stands_so}
 use Rattle.std.proofs.lemmas.Bool.{true≢false}
 use Rattle.aom_roles.specs.Things.{is_object}
 use Rattle.aom_roles.specs.Tests.{AllTrue, only_if}
@@ -99,13 +103,13 @@ module _ (p : Image) (linked : IsLinked p) (c : Choice) (s : State) (fr : Frame)
       (standing s.cells + operations s.items) (cell_rank p) (omega (arith, passed)) in
       omega (arith, less, run, cells)
 
-  cancels : (m : ℕ) → slice_get d.code fr.place ≡ Some Cancel → (m < fr.method) × (is_quiet p m ≡ true) → rank p (applied p fr ts s (Cancels m)) < before
-  unfolding loop_in
-  cancels m stands below = grind (
+  cancels : (i : Instr) (m : ℕ) → slice_get d.code fr.place ≡ Some i → loop_in (Some i) ≡ None → (m < fr.method) × (is_quiet p m ≡ true) →
+      rank p (applied p fr ts s (Cancels m)) < before
+  cancels i m stands plain below = grind (
     arith,
     nat_tests,
     paid fr.counters,
-    straight Cancel stands,
+    straight i stands plain,
     called_lower p fr.method m below.0,
     run_paid p m,
     standing_asked s.cells fr.home,
@@ -192,7 +196,7 @@ module _ (p : Image) (linked : IsLinked p) (c : Choice) (s : State) (fr : Frame)
     goes_after i stands plain r (Made name x a) f = pushes_on i stands plain (loud_maker i f r) (count_after (Made name x a)) (more (Made name x a))
     goes_after i stands plain r (Pushed a) f = grind (arith, nat_tests, pushes_on i stands plain, loud_leaver p linked fr.method, more (Pushed a))
     goes_after i stands plain r (Pushed_operation m w) f =
-        pushes_on i stands plain (loud_leaver p linked fr.method (subst Ruled f.1 r).1.0) (count_after (Pushed_operation m w)) (more (Pushed_operation m w))
+        pushes_on i stands plain (loud_leaver p linked fr.method (subst Ruled (operation_is i f.0 m f.1) r).1.0) (count_after (Pushed_operation m w)) (more (Pushed_operation m w))
     goes_after i stands plain r Same f = on i stands plain (count_after Same) (omega arith)
     goes_after i stands plain r (Carried from to) f = grind (arith, nat_tests, on i stands plain, standing_moved, spot_stands from)
     goes_after i stands plain r (Written w v) f = on i stands plain (count_after (Written w v)) (omega (arith, standing_stored s.cells fr.home w v))
@@ -206,7 +210,7 @@ module _ (p : Image) (linked : IsLinked p) (c : Choice) (s : State) (fr : Frame)
 
     -- a round of a loop begins or ends
     counts : (i : Instr) → slice_get d.code fr.place ≡ Some i → (depth n : ℕ) → Sets i depth n → rank p (applied p fr ts s (Counts depth n)) < before
-    counts i stands depth n x = grind (arith, nat_tests, goes, enters, nests, leaves)
+    counts i stands depth n x = grind (arith, nat_tests, goes, enters, nests, leaves, stands_so)
 
     -- an object goes over the method
     deletes : (i : Instr) → slice_get d.code fr.place ≡ Some i → loop_in (Some i) ≡ None → (o : Object) (a : ℕ) (words : List (Option ℤ)) →
@@ -218,23 +222,24 @@ module _ (p : Image) (linked : IsLinked p) (c : Choice) (s : State) (fr : Frame)
     deletes_last i stands plain o top there object = grind (arith, nat_tests, paid, straight, begun_paid, goes, standing_goes, one_less, price_some)
 
     -- a method that calls a quiet one, or is not quiet
-    pub falls : AllUndo p s.items → (i : Instr) → slice_get d.code fr.place ≡ Some i → Ruled i → (e : Effect) → Fits p c fr ts s i e → ((g : Gives) (a : ℕ) →
-        slice_get d.code fr.place ≡ Some (Return a) → rank p (returned p fr ts (record s { cells = ended_cells p fr s.cells }) g a ts) < before) →
-        ((a : ℕ) (o : Object) → i ≡ Delete a → held s.cells (here fr ts s a) ≡ Some o → is_object o.thing ≡ true) →
-        ((o : Object) → held s.cells (top_place s.items) ≡ Some o → is_object o.thing ≡ true) → ((m : ℕ) → slice_get d.code fr.place ≡ Some Cancel →
-        cancel_method p fr ≡ Some m → (m < fr.method) × (is_quiet p m ≡ true)) → rank p (applied p fr ts s e) < before
+    pub falls : AllUndo p s.items → (i : Instr) → slice_get d.code fr.place ≡ Some i → Ruled i → (e : Effect) → Fits p c fr ts s i e →
+        ((g : Gives) (a : ℕ) → transfer_of i ≡ transfer.Return a → rank p (returned p fr ts (record s { cells = ended_cells p fr s.cells }) g a ts) < before) →
+        ((a : ℕ) (o : Object) → action_of i ≡ action.Destroy a → held s.cells (here fr ts s a) ≡ Some o → is_object o.thing ≡ true) →
+        ((o : Object) → held s.cells (top_place s.items) ≡ Some o → is_object o.thing ≡ true) →
+        ((m : ℕ) → action_of i ≡ action.Cancel → cancel_method p fr ≡ Some m → (m < fr.method) × (is_quiet p m ≡ true)) → rank p (applied p fr ts s e) < before
     falls undos i stands r (Goes_on ch) f returns plain lasts lower = goes_after i stands f.0 r ch.update f.1
     falls undos i stands r (Jumps to) f returns plain lasts lower = to_jump i stands to f
     falls undos i stands r (Counts depth n) f returns plain lasts lower = counts i stands depth n f
-    falls undos i stands r (Repeats depth n to) f returns plain lasts lower = grind (arith, nat_tests, goes, back, nests)
+    falls undos i stands r (Repeats depth n to) f returns plain lasts lower = grind (arith, nat_tests, goes, back, nests, stands_so)
     falls undos i stands r (Calls target m first) f returns plain lasts lower =
-        calls i target m first stands (straight_by p c fr ts s i (Calls target m first) f) (subst Below f.1 (runs i stands))
+        calls i target m first stands (straight_by p c fr ts s i (Calls target m first) f) (subst Below (call_is i target m first f.0 f.1) (runs i stands))
         (grind (arith, nat_tests, all_parts))
-    falls undos i stands r (Cancels m) f returns plain lasts lower = grind (arith, nat_tests, cancels m)
+    falls undos i stands r (Cancels m) f returns plain lasts lower =
+        cancels i m stands (straight_by p c fr ts s i (Cancels m) f) (lower m f.0 f.1)
     falls undos i stands r (Sets_trap target m first) f returns plain lasts lower =
-        traps i target m first stands (straight_by p c fr ts s i (Sets_trap target m first) f) (subst Below f.1 (runs i stands))
-        (loud_by (is_quiet p fr.method) (subst Ruled f.1 r).0)
-    falls undos i stands r (Returns g a) f returns plain lasts lower = returns g a (stands ∙ ap (λ x. Some x) f.0)
+        traps i target m first stands (straight_by p c fr ts s i (Sets_trap target m first) f) (subst Below (trap_is i target m first f.0 f.1) (runs i stands))
+        (loud_by (is_quiet p fr.method) (subst Ruled (trap_is i target m first f.0 f.1) r).0)
+    falls undos i stands r (Returns g a) f returns plain lasts lower = returns g a f.0
     falls undos i stands r (Leaves code u) f returns plain lasts lower =
         leaves_on i stands (straight_by p c fr ts s i (Leaves code u) f) (loud_leaving i code f.1 r) (count_after u) (more u)
     falls undos i stands r (Destroys o a words) f returns plain lasts lower =

@@ -8,13 +8,14 @@ use Rattle.std.proofs.lemmas.Option.{slice_get_within}
 use Rattle.aom_image.specs.Image.{Image}
 use Rattle.aom_image.specs.Views.{is_quiet, leaves, leaves_in, method_at, quiet_in}
 use Rattle.aom_instructions.specs.declared.instr.Instr.{Instr}
-use Rattle.aom_instructions.specs.declared.instr.Instr.TheVariants.{Cancel}
+use Rattle.aom_instructions.specs.Table.{action_of}
+use Rattle.aom_instructions.specs.declared.action.Action.TheVariants as action
 use Rattle.aom_image.specs.declared.method.Method.{Method}
 use Rattle.aom_image.specs.declared.class.ClassKind.{ClassKind}
 use Rattle.aom_image.specs.declared.method.Role.{Role}
 use Rattle.aom_image.specs.declared.method.Role.TheVariants.{Cancel as Cancel_role, Destruct}
 use Rattle.aom_image.specs.declared.method.Thing.{Thing}
-use Rattle.aom_classes.specs.Calls.{CallsBelow, CallsOrdered, RunsBelow}
+use Rattle.aom_classes.specs.Calls.{ActsBelow, CallsBelow, CallsOrdered, RunsBelow}
 use Rattle.aom_classes.specs.Linked.{IsLinked}
 use Rattle.aom_classes.specs.Roles.{main_of, own_role, role_of}
 use Rattle.aom_roles.specs.Shapes.{FlagsFit, HasShape, IsShaped, kind_of, may_leave, is_quiet as quiet_bit}
@@ -170,7 +171,8 @@ unfolding quiet_in
 quiet_canceller p linked c m e = (role_quiet p linked c m Cancel_role (λ kind d shape. shape.flags) e).quiet
 
 -- and comes before what cancels by it, also where the object is of a class that descends from the method's
-pub canceller_before : (p : Image) → IsLinked p → (m place : ℕ) (d : Method) (c x m' : ℕ) →
-    method_at p m ≡ Some d → slice_get d.code place ≡ Some Cancel → d.class ≡ Some c → descends p x c ≡ true → role_of p x Cancel_role ≡ Some m' → m' < m
-canceller_before p linked m place d c x m' is stands class family e =
-    grind (arith, nat_tests, runs_below p linked m place d Cancel is stands, cancels_own p m x, through p)
+pub canceller_before : (p : Image) → IsLinked p → (m place : ℕ) (d : Method) (i : Instr) (c x m' : ℕ) → method_at p m ≡ Some d → slice_get d.code place ≡ Some i →
+    action_of i ≡ action.Cancel → d.class ≡ Some c → descends p x c ≡ true → role_of p x Cancel_role ≡ Some m' → m' < m
+canceller_before p linked m place d i c x m' is stands cancels class family e =
+    let below = subst (ActsBelow p m d.class) cancels (runs_below p linked m place d i is stands) in
+    grind (arith, nat_tests, below, cancels_own p m x, through p)

@@ -26,6 +26,7 @@ pub mod ProgressLemmas
 pub use Rattle.aom_classes.proofs.ClassesLemmas
 pub use Rattle.aom_families.proofs.FamiliesLemmas
 pub use Rattle.aom_image.proofs.ImageLemmas
+pub use Rattle.aom_instructions.proofs.InstructionsLemmas
 pub use Rattle.aom_roles.proofs.RolesLemmas
 pub use Rattle.aom_safety.proofs.SafetyLemmas
 pub use Rattle.aom_semantics.proofs.SemanticsLemmas

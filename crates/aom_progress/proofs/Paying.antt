@@ -21,7 +21,7 @@ use Rattle.aom_shape.specs.declared.kind.Kind.{Kind}
 use Rattle.aom_progress.proofs.SafetyLemmas.{At, kind_fits, straight_by}
 use Rattle.aom_progress.proofs.ImageLemmas.{some_given}
 use Rattle.aom_roles.specs.Families.{parent_above}
-use Rattle.aom_progress.proofs.TypingsLemmas.{NextIn, line_first, line_next}
+use Rattle.aom_progress.proofs.TypingsLemmas.{NextIn, line_first, line_next, stands_as, stands_so}
 use Rattle.aom_typings.specs.Most.{line, line_after}
 use Rattle.aom_semantics.specs.Calls.{run_by, target_view, below_top, ended_well, passed_cells, result_cells, returned}
 use Rattle.aom_safety.specs.Claims.{Layer, tasks_of, Method}
@@ -187,16 +187,16 @@ module _ (p : Image) (t : Typing) (c : Prices) (linked : IsLinked p) (priced : I
   -- a loop pays for all its rounds as it begins, and its last round goes on
   counts : (i : Instr) → slice_get d.code fr.place ≡ Some i → Stands p t fr.method fr.place sh i → (depth n : ℕ) → Sets i depth n → Pays (Counts depth n)
   counts i stands it depth n (inl e) =
-      let pays = priced.loops fr.method fr.place depth n sh (subst (λ x. Stands p t fr.method fr.place sh x) e it) in
-      let loops = enters d.code worth grows fr.counters fr.place depth n nests (stands ∙ ap (λ x. Some x) e) in
+      let pays = priced.loops fr.method fr.place depth n sh (stands_as p t fr.method fr.place sh _ i it e) in
+      let loops = enters d.code worth grows fr.counters fr.place depth n nests (stands_so _ i _ stands e) in
       let less = there (put_at 0 fr.counters depth n) (suc fr.place) 1 (worth n fr.place) 0 (omega (arith, loops)) (omega (arith, pays)) in
       goes (put_at 0 fr.counters depth n) (suc fr.place) 0 pushed closings less (omega arith) (omega arith)
   counts i stands it depth n (inr e) = subst (λ k. Pays (Counts depth k)) (sym e.2) last
     where
       last : Pays (Counts depth 0)
       last =
-          let pays = priced.nexts fr.method fr.place depth e.0 sh (subst (λ x. Stands p t fr.method fr.place sh x) e.1 it) in
-          let loops = leaves d.code worth grows fr.counters fr.place depth e.0 (stands ∙ ap (λ x. Some x) e.1) in
+          let pays = priced.nexts fr.method fr.place depth e.0 sh (stands_as p t fr.method fr.place sh _ i it e.1) in
+          let loops = leaves d.code worth grows fr.counters fr.place depth e.0 (stands_so _ i _ stands e.1) in
           let less = there (put_at 0 fr.counters depth 0) (suc fr.place) 1 0 0 (omega (arith, loops)) (omega (arith, pays)) in
           goes (put_at 0 fr.counters depth 0) (suc fr.place) 0 pushed closings less (omega arith) (omega arith)
 
@@ -317,7 +317,9 @@ module _ (p : Image) (t : Typing) (c : Prices) (linked : IsLinked p) (priced : I
       goes fr.counters (suc fr.place) n _ _ (straight i stands f.0 (1 + n) covered) (after change.update) (closings_after change.update)
   pays i stands it (Jumps to) f covered = away i stands to f covered
   pays i stands it (Counts depth n) f covered = counts i stands it depth n f
-  pays i stands it (Repeats depth n to) f covered = grind (arith, nat_tests, again depth to f.1)
+  pays i stands it (Repeats depth n to) f covered =
+      let round = again depth to f.1 (stands_so _ i _ stands f.0) (stands_as p t fr.method fr.place sh _ i it f.0) (f.3 ∙ f.2) in
+      subst (λ k. Pays (Repeats depth k to)) (sym f.2) round
   pays i stands it (Calls target m first) f covered = calls i stands (straight_by p ch fr ts s i (Calls target m first) f) target m first covered
   pays i stands it (Cancels m) f covered = cancels i stands (straight_by p ch fr ts s i (Cancels m) f) m covered
   pays i stands it (Sets_trap target m first) f covered = traps i stands (straight_by p ch fr ts s i (Sets_trap target m first) f) target m first covered

@@ -7,7 +7,10 @@ use Rattle.aom_classes.specs.Jumps.{JumpsWell, KeepsWithin, jump_of}
 use Rattle.aom_classes.specs.Loops.{LoopsNest, loop_in}
 use Rattle.aom_progress.proofs.ClassesLemmas.{at_place}
 use Rattle.aom_roles.specs.Tables.{at, put_at}
-use Rattle.aom_progress.specs.Within.{all_rounds, left, rounds_of, rounds_weight, weight}
+use Rattle.aom_instructions.specs.declared.transfer.Transfer.TheVariants.{Begin}
+use Rattle.aom_progress.proofs.ImageLemmas.{transfer_there}
+use Rattle.aom_progress.proofs.Bodies.{transfer_within}
+use Rattle.aom_progress.specs.Within.{all_rounds, left, rounds_by, rounds_of, rounds_weight, weight}
 use Rattle.aom_progress.proofs.Rounds as rounds
 use Rattle.aom_progress.proofs.Sums.{pow_less, pow_some, pow_step, scaled, scaled_le}
 use Rattle.aom_progress.proofs.Sums.{one_of_all}
@@ -21,7 +24,10 @@ weight_less : (code : List Instr) (k to : ℕ) → k < length code → k < to �
 weight_less code k to within later = pow_less (all_rounds code) (length code - to) (length code - k) (omega (arith, within, later))
 
 rounds_less : (code : List Instr) (k : ℕ) (d n : ℕ) → LoopIn (slice_get code k) d n → n ≤ all_rounds code
-rounds_less code k d n e = one_of_all rounds_of all_rounds (λ x xs. refl) code k _ e
+rounds_less code k d n e =
+    let w = transfer_there (slice_get code k) (Begin d n) e in
+    let le = one_of_all rounds_of all_rounds (λ x xs. refl) code k w.0 w.1 in
+    omega (arith, le, ap rounds_by w.2)
 
 -- a loop's place weighs more than its body does for all rounds
 weight_loop : (code : List Instr) (k n : ℕ) → k < length code → n ≤ all_rounds code → weight code (suc k) + n * weight code (suc k) < weight code k
@@ -57,13 +63,13 @@ jumps code cs k to i well stands jump =
 pub enters : (code : List Instr) (cs : List ℕ) (k d n : ℕ) → LoopsNest code → LoopIn (slice_get code k) d n →
     left code (put_at 0 cs d n) (suc k) < left code cs k
 enters code cs k d n nest stands =
-    let pays = weight_loop code k n (slice_get_within code k _ stands) (rounds_less code k d n stands) in
+    let pays = weight_loop code k n (transfer_within code k _ stands) (rounds_less code k d n stands) in
     omega (arith, pays, rounds.enters code (rounds_weight code) (grows code) cs k d n nest stands)
 
 -- the last round is over
 pub leaves : (code : List Instr) (cs : List ℕ) (k d t : ℕ) → NextIn (slice_get code k) d t → left code (put_at 0 cs d 0) (suc k) < left code cs k
 leaves code cs k d t stands =
-    let less = weight_less code k (suc k) (slice_get_within code k _ stands) (omega arith) in
+    let less = weight_less code k (suc k) (transfer_within code k _ stands) (omega arith) in
     omega (arith, less, rounds.leaves code (rounds_weight code) (grows code) cs k d t stands)
 
 -- one more round begins

@@ -4,15 +4,19 @@ use Rattle.std.proofs.lemmas.Option.{same_Some}
 use Rattle.std.proofs.Common.{◌≡◌, ◌<◌, ◌≤◌, ◌+◌, ◌*◌, ◌∙◌, ℕ, ℤ, Bool, true, List, [], ◌∷◌}
 use Rattle.std.proofs.Common.{length, Option, Some, None, slice_get, refl, sym, ap, arith, subst}
 use Rattle.aom_progress.proofs.ImageLemmas.{some_given}
+use Rattle.aom_progress.proofs.InstructionsLemmas.{delete_is}
 use Rattle.aom_progress.proofs.TypingsLemmas.{line_next}
 use Rattle.aom_image.specs.Image.{Image}
 use Rattle.aom_image.specs.Views.{class_in, instr_at, is_quiet, method_at}
 use Rattle.aom_instructions.specs.declared.instr.Instr.{Instr}
-use Rattle.aom_instructions.specs.declared.instr.Instr.TheVariants.{Cancel, Return}
+use Rattle.aom_instructions.specs.Table.{action_of, transfer_of}
+use Rattle.aom_instructions.specs.declared.action.Action.TheVariants as action
+use Rattle.aom_instructions.specs.declared.transfer.Transfer.{Transfer}
+use Rattle.aom_instructions.specs.declared.transfer.Transfer.TheVariants as transfer
 use Rattle.aom_image.specs.declared.method.Gives.{Gives}
 use Rattle.aom_image.specs.declared.method.Method.{Method as Method_declared}
 use Rattle.aom_classes.specs.Linked.{IsLinked}
-use Rattle.aom_classes.specs.Loops.{loop_in}
+use Rattle.aom_classes.specs.Loops.{begun_by, loop_in}
 use Rattle.aom_progress.proofs.ClassesLemmas.{of_method}
 use Rattle.aom_shape.specs.Shape.{Shape}
 use Rattle.aom_rules.specs.Typing.{IsTyped, Typing}
@@ -50,14 +54,14 @@ use Rattle.aom_roles.specs.Tests.{AllTrue}
 -- ---- a return
 
 -- something is left of a method that returns
-ends : (p : Image) → IsLinked p → (c : Choice) (s : State) (fr : Frame) (ts : List Task) (d : Method_declared) → method_at p fr.method ≡ Some d → (a : ℕ) →
-    slice_get d.code fr.place ≡ Some (Return a) → 1 ≤ frame_rank p fr
+ends : (p : Image) → IsLinked p → (c : Choice) (s : State) (fr : Frame) (ts : List Task) (d : Method_declared) → method_at p fr.method ≡ Some d →
+    (i : Instr) (a : ℕ) → slice_get d.code fr.place ≡ Some i → transfer_of i ≡ transfer.Return a → 1 ≤ frame_rank p fr
 unfolding loop_in
-ends p linked c s fr ts d declared_there a stands = grind (
+ends p linked c s fr ts d declared_there i a stands returns = grind (
   arith,
   nat_tests,
   paid p linked c s fr ts d declared_there fr.counters,
-  straight p linked c s fr ts d declared_there (Return a) stands,
+  straight p linked c s fr ts d declared_there i stands (ap (λ (t : Transfer). begun_by (Some t)) returns),
   price_some p fr.method,
 )
 
@@ -76,10 +80,11 @@ returns p t s fr sh ls h some g a =
 
 -- the method that cancels is quiet, and comes before
 cancels_below : (p : Image) → IsLinked p → (fr : Frame) (d : Method_declared) → method_at p fr.method ≡ Some d → CountsAs p (home_holder fr.home) fr.view
-    (holder_of p fr.method) → (m : ℕ) → slice_get d.code fr.place ≡ Some Cancel → cancel_method p fr ≡ Some m → (m < fr.method) × (is_quiet p m ≡ true)
+    (holder_of p fr.method) → (i : Instr) (m : ℕ) → slice_get d.code fr.place ≡ Some i → action_of i ≡ action.Cancel → cancel_method p fr ≡ Some m →
+    (m < fr.method) × (is_quiet p m ≡ true)
 unfolding class_in
-cancels_below p linked fr d there counts m stands e =
-    grind (arith, nat_tests, cancel_family p fr m counts e, canceller_before p linked fr.method fr.place d, quiet_canceller p linked)
+cancels_below p linked fr d there counts i m stands cancels e =
+    grind (arith, nat_tests, cancel_family p fr m counts e, canceller_before p linked fr.method fr.place d i, quiet_canceller p linked)
 
 -- ---- every move
 
@@ -103,9 +108,9 @@ module _ (p : Image) (t : Typing) (linked : IsLinked p) (typed : IsTyped p t) (c
       let m = of_method p fr.method fr.place i there in
       let is : x.instr ≡ i = same_Some x.instr i (sym x.stands ∙ there) in
       falls p linked c (counted p s) fr (tasks_of ls) m.0 m.1 sh w.undos i m.2 (rw is at x.needs) e fits
-      (λ g a stands. returns p t (counted p s) fr sh ls good.stack (ends p linked c (counted p s) fr (tasks_of ls) m.0 m.1 a stands) g a)
-      (λ a o delete owns. plain fr (tasks_of ls) a o (rw delete at met).1.0 owns) (λ o owns. entry_object p t s w o _ owns)
-      (λ k stands e. cancels_below p linked fr m.0 m.1 good.stack.1.view k stands e)
+      (λ g a goes. returns p t (counted p s) fr sh ls good.stack (ends p linked c (counted p s) fr (tasks_of ls) m.0 m.1 i a m.2 goes) g a)
+      (λ a o deletes owns. plain fr (tasks_of ls) a o (subst (λ j. AllTrue (needs p c fr (tasks_of ls) (counted p s) j)) (delete_is i a deletes) met).1.0 owns)
+      (λ o owns. entry_object p t s w o _ owns) (λ k cancels e. cancels_below p linked fr m.0 m.1 good.stack.1.view i k m.2 cancels e)
 
   acts : (ls : List Layer) → Good p t s.cells ls → (fr : Frame) (ts : List Task) → tasks_of ls ≡ Run fr ∷ ts → ActsLower fr ts
   acts ls good fr ts at = method_layer (Good p t s.cells) fr ts ls at good (λ sh below under there. subst (ActsLower fr) under (acts_there fr sh below there))

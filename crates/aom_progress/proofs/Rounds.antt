@@ -1,20 +1,19 @@
 -- The loops round a place after each move of a method: what they count for is no more, but for a loop that begins.
 use Rattle.std.proofs.lemmas.Bool.Decides.{nat_tests}
-use Rattle.std.proofs.Common.{◌≡◌, ◌<◌, ◌≤◌, ◌+◌, ◌∙◌, ℕ, zero, suc, true, cond, List, length, Some}
+use Rattle.std.proofs.Common.{◌≡◌, ◌<◌, ◌≤◌, ◌+◌, ◌∙◌, ℕ, zero, suc, cond, List, length, Some}
 use Rattle.std.proofs.Common.{None, IfSome, slice_get, ⊎_elim, refl, sym, ap, arith, subst}
 use Rattle.std.specs.Prelude.{◌≢◌}
 use Rattle.std.proofs.lemmas.Bool.{cases_lt, eq-eqb, ne_eqb}
-use Rattle.std.proofs.lemmas.Option.{slice_get_within, same_Some}
 use Rattle.aom_instructions.specs.declared.instr.Instr.{Instr}
 use Rattle.aom_progress.proofs.TypingsLemmas.{LoopIn, NextIn}
-use Rattle.aom_classes.specs.Jumps.{Body, JumpsWell, back_of, begins_loop, jump_of}
-use Rattle.aom_classes.specs.Loops.{Closes, Ending, LoopsNest, loop_at, loop_in, next_at, next_in}
-use Rattle.aom_progress.proofs.ClassesLemmas.{at_place, loop_there, next_there, next_within}
+use Rattle.aom_classes.specs.Jumps.{Body, JumpsWell, jump_of}
+use Rattle.aom_classes.specs.Loops.{Closes, LoopsNest, begun_by, loop_at, loop_in, next_in, repeated_by}
+use Rattle.aom_progress.proofs.ClassesLemmas.{at_place, back_of_closed, back_there, begins_there, closed_by, loop_there, next_there, next_within}
 use Rattle.aom_roles.specs.Tables.{at, put_at}
 use Rattle.aom_progress.proofs.SemanticsLemmas.{at-put_at}
 use Rattle.aom_progress.specs.Within.{loops_worth, total, worth_at}
 use Rattle.aom_progress.proofs.Sums.{total_but, total_le}
-use Rattle.aom_progress.proofs.Bodies.{IsIn, body_in, in_body, other_number}
+use Rattle.aom_progress.proofs.Bodies.{IsIn, body_in, in_body, other_number, transfer_within}
 
 -- ---- the bodies round a place
 
@@ -23,19 +22,14 @@ from_here : (code : List Instr) (k p d : ℕ) → loop_at code k ≡ None → Is
 from_here code k p d none w = search (arith, nat_tests, cases_lt p k)
 
 -- the body of a loop, as the jumps see it
-begins_there : (code : List Instr) (p d : ℕ) → loop_at code p ≡ Some d → IfSome (slice_get code p) (λ i. begins_loop i ≡ true)
-unfolding loop_in begins_loop
-begins_there code p d e = grind (arith, nat_tests, loop_there)
-
-abbrev ending : ℕ → ℕ → Ending
-ending n t = record { number = n; back = t }
-
-goes_back : (code : List Instr) (q d t : ℕ) → next_at code q ≡ Some (record { number = d; back = t }) → IfSome (slice_get code q) (λ i. back_of i ≡ Some t)
-unfolding next_in back_of
-goes_back code q d t e = subst (λ o. IfSome o (λ i. back_of i ≡ Some t)) (sym (next_there (slice_get code q) d t e)) refl
-
 as_body : (code : List Instr) (d p q : ℕ) → Closes code d p q → Body code p q
-as_body code d p q c = record { begins = begins_there code p d c.begins; later = c.later; back = goes_back code q d (suc p) c.ends }
+as_body code d p q c =
+    let begins = loop_there (slice_get code p) d c.begins in
+    record {
+      begins = begins_there (slice_get code p) d begins.0 begins.1;
+      later = c.later;
+      back = back_there (slice_get code q) d (suc p) (next_there (slice_get code q) d (suc p) c.ends);
+    }
 
 -- a jump goes into no body from outside
 jumps_within : (code : List Instr) (k to : ℕ) (i : Instr) → JumpsWell code → slice_get code k ≡ Some i → jump_of i ≡ Some to → (p d : ℕ) →
@@ -50,7 +44,10 @@ jumps_within code k to i well stands jump p d w =
 -- which loop a next closes
 pub closed_loop : (code : List Instr) (k d t : ℕ) → LoopsNest code → NextIn (slice_get code k) d t → (r : ℕ) × Closes code d r k × (t ≡ suc r)
 unfolding next_in
-closed_loop code k d t nest stands = grind (arith, nat_tests, same_Some)
+closed_loop code k d t nest stands =
+    let ends = ap repeated_by stands in
+    let c = closed_by code k (record { number = d; back = t }) nest ends in
+    (c.place, c.closes, back_of_closed code d k t ends c)
 
 -- ---- counters
 
@@ -107,7 +104,7 @@ module _ (code : List Instr) (worth : ℕ → ℕ → ℕ) (grows : (p a b : ℕ
   unfolding loop_in
   enters cs k d n nest stands =
       let cs' = put_at 0 cs d n in
-      let within = slice_get_within code k _ stands in
+      let within = transfer_within code k _ stands in
       let most : of_loop cs' (suc k) k ≤ worth n k = grind (arith, nat_tests, at_same, at_most) in
       let sums = total_but (λ p. of_loop cs' (suc k) p) (λ p. of_loop cs k p) k (length code) 0 (worth n k) within others (omega (arith, most)) in
       omega (arith, sums)
@@ -129,7 +126,7 @@ module _ (code : List Instr) (worth : ℕ → ℕ → ℕ) (grows : (p a b : ℕ
   -- the last round is over
   pub leaves : (cs : List ℕ) (k d t : ℕ) → NextIn (slice_get code k) d t → all_loops (put_at 0 cs d 0) (suc k) ≤ all_loops cs k
   unfolding loop_in
-  leaves cs k d t stands = forward cs (put_at 0 cs d 0) k (suc k) (λ p c w. (from_here code k p c (ap loop_in stands) w, grind (arith, nat_tests, at-put_at)))
+  leaves cs k d t stands = forward cs (put_at 0 cs d 0) k (suc k) (λ p c w. (from_here code k p c (ap begun_by stands) w, grind (arith, nat_tests, at-put_at)))
 
   -- one more round begins of the loop that a next closes, with a counter that is no greater
   module _ (cs : List ℕ) (k d t n : ℕ) (nest : LoopsNest code) (stands : NextIn (slice_get code k) d t) (fewer : n ≤ at 0 cs d) (r : ℕ)

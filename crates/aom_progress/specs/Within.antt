@@ -1,15 +1,20 @@
 -- What is left of a method's code from a place on: a number that falls as a run goes through the code.
 use Rattle.std.specs.Prelude.{ℕ, zero, suc, Bool, false, cond, ◌&&◌, ◌==◌, nat_lt, ◌+◌, ◌-◌, ◌*◌, ◌^◌, List, [], ◌∷◌, length, drop, Option, Some, None}
 use Rattle.std.specs.List.{list_any}
+use Rattle.aom_instructions.specs.Table.{transfer_of}
 use Rattle.aom_instructions.specs.declared.instr.Instr.{Instr}
-use Rattle.aom_instructions.specs.declared.instr.Instr.TheVariants.{Loop, Next}
+use Rattle.aom_instructions.specs.declared.transfer.Transfer.{Transfer}
+use Rattle.aom_instructions.specs.declared.transfer.Transfer.TheVariants.{Begin, Repeat}
 use Rattle.aom_classes.specs.Loops.{loop_at}
 use Rattle.aom_roles.specs.Tables.{at}
 
 -- how many rounds a loop declares
+abbrev pub rounds_by : Transfer → ℕ
+rounds_by (Begin d n) = n
+rounds_by _ = 0
+
 abbrev pub rounds_of : Instr → ℕ
-rounds_of (Loop d n) = n
-rounds_of _ = 0
+rounds_of i = rounds_by (transfer_of i)
 
 abbrev pub all_rounds : List Instr → ℕ
 all_rounds [] = 0
@@ -20,9 +25,12 @@ abbrev pub weight : List Instr → ℕ → ℕ
 weight code place = (all_rounds code + 2) ^ (length code - place)
 
 -- whether it ends the rounds of that loop
+abbrev pub ends_by : (number back : ℕ) → Transfer → Bool
+ends_by number back (Repeat d t) = (d == number) && (t == back)
+ends_by number back _ = false
+
 abbrev pub is_end_of : (number back : ℕ) → Instr → Bool
-is_end_of number back (Next d t) = (d == number) && (t == back)
-is_end_of number back _ = false
+is_end_of number back i = ends_by number back (transfer_of i)
 
 -- whether a place is in the body of a loop at p: after it, and up to a next that ends its rounds
 abbrev pub is_in_body : List Instr → (number p place : ℕ) → Bool

@@ -27,7 +27,7 @@ use Rattle.aom_typings.proofs.At.{IsSweptAt, place_of}
 use Rattle.aom_typings.proofs.Paths.{GoesOn, Rounds, ends_or_goes, outside_cost, rounds_of}
 use Rattle.aom_typings.proofs.Regions.{by_kind, here_is_inside, innermost, innermost_first, innermost_of_body, innermost_of_next, innermost_on, innermost_out}
 use Rattle.aom_instructions.specs.declared.transfer.Transfer.TheVariants.{Begin, Repeat}
-use Rattle.aom_typings.proofs.Regions.{BeginsLoop, EndsRound, begins_on, next_is_no_loop, repeats_costs, stands_as, there, no_next_here, no_way_back, one_end, out_of_both, past_is_outside}
+use Rattle.aom_typings.proofs.Regions.{BeginsLoop, EndsRound, begins_on, next_is_no_loop, repeats_costs, stands_as, instr_as, no_next_here, no_way_back, one_end, out_of_both, past_is_outside}
 use Rattle.aom_typings.proofs.Ways.{IsReached, JumpsForward, led_to, way_of}
 use Rattle.aom_typings.proofs.Among.{by_flow, either_cond, either_max}
 use Rattle.aom_typings.proofs.Regions.{Past, passed}
@@ -128,7 +128,7 @@ module _ (p : Image) (t : Typing) (c : Prices) (a : Afters) (m : ℕ) (looped : 
       -- ---- a loop
       module _ (sh : Shape) (d n to : ℕ) (at : LoopStands p t m place sh d n) (some : 0 < n) (body : Body p m place to d n) where
         reached : IsReached t m (suc place)
-        reached = let i = there p t m place sh (Begin d n) at in leads_on p t m typed place (suc place) sh i.0 i.1 (begins_on p t m place sh i.0 d n i.2)
+        reached = let i = instr_as p t m place sh (Begin d n) at in leads_on p t m typed place (suc place) sh i.0 i.1 (begins_on p t m place sh i.0 d n i.2)
 
         round : Adds p t c a m (Round place to) (suc place)
         round = later (suc place) (Round place to) (omega arith) reached (innermost_of_body p looped m place to d n body)
@@ -202,7 +202,7 @@ module _ (p : Image) (t : Typing) (c : Prices) (a : Afters) (m : ℕ) (looped : 
 
         next_adds : Adds p t c a m r place
         next_adds =
-            let i = there p t m place sh (Repeat d (suc from)) at in
+            let i = instr_as p t m place sh (Repeat d (suc from)) at in
             let none = next_is_no_loop i.0 d (suc from) i.2 in
             let found = (swept place).nexts d from sh at in
             let one = repeats_costs p t m place sh c i.0 d (suc from) i.2 in

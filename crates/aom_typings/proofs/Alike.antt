@@ -15,7 +15,7 @@ use Rattle.aom_shape.specs.Shape.{Shape}
 use Rattle.aom_rules.specs.Typing.{IsTyped, Typing}
 use Rattle.aom_shape.specs.declared.kind.Kind.{Kind}
 use Rattle.aom_instructions.specs.declared.transfer.Transfer.TheVariants.{Begin}
-use Rattle.aom_typings.proofs.Regions.{stands_as, there}
+use Rattle.aom_typings.proofs.Regions.{stands_as, instr_as}
 use Rattle.aom_typings.proofs.RulesLemmas.{flows_more}
 use Rattle.aom_typings.specs.Costs.{AmongFlows, ArePrices, Costs, GoesOut, Region}
 use Rattle.aom_typings.specs.Costs.Costs.{outside, ends, goes, loops, loops_in}
@@ -80,11 +80,11 @@ module _ (p : Image) (t d : Typing) (c : Prices) (m : ℕ) (typed : IsTyped p d)
       let onward = goes inside w.1 l plain (among_there place to sh w.0 i w.1 w.2 among) (costs_there r to n rest) in
       subst (λ x. Costs p d c m r place (x + n)) (own_is p m c w.0 sh i w.2 w.3) onward
   costs_there r place k (loops {to = to} {d = number} {rounds = n} {b = b} {e = e} {out = out} {sh = sh} inside at body round leaves rest) =
-      let i = there p t m place sh (Begin number n) at in
+      let i = instr_as p t m place sh (Begin number n) at in
       let w = covered.each m place sh i.0 i.1 in
       loops inside (stands_as p d m place w.0 (Begin number n) i.0 w.1 i.2) body (costs_there _ (suc place) b round) (out_there place to out leaves) (costs_there r out e rest)
   costs_there r place k (loops_in {to = to} {d = number} {rounds = n} {b = b} {sh = sh} inside at body round) =
-      let i = there p t m place sh (Begin number n) at in
+      let i = instr_as p t m place sh (Begin number n) at in
       let w = covered.each m place sh i.0 i.1 in
       loops_in inside (stands_as p d m place w.0 (Begin number n) i.0 w.1 i.2) body (costs_there _ (suc place) b round)
 

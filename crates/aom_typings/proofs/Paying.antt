@@ -23,7 +23,7 @@ use Rattle.aom_typings.proofs.At.{place_of}
 use Rattle.aom_typings.proofs.Going.{by_rule, ruled_of}
 use Rattle.aom_typings.proofs.Adding.{by_past, leads_on, reached_is_some, within_most}
 use Rattle.aom_instructions.specs.declared.transfer.Transfer.TheVariants.{Begin, Repeat}
-use Rattle.aom_typings.proofs.Regions.{BeginsLoop, EndsRound, begins_costs, by_kind, innermost, repeats_at, repeats_costs, repeats_on, stands_as, there}
+use Rattle.aom_typings.proofs.Regions.{BeginsLoop, EndsRound, begins_costs, by_kind, innermost, repeats_at, repeats_costs, repeats_on, stands_as, instr_as}
 use Rattle.aom_typings.proofs.Ways.{IsReached}
 use Rattle.aom_typings.proofs.Regions.{Past, passed}
 use Rattle.aom_typings.proofs.Regions.Past.{past_end}
@@ -72,7 +72,7 @@ module _ (p : Image) (t : Typing) (c : Prices) (a : Afters) (looped : IsLooped p
 
     on_paid : 1 + c.from m (suc place) ≤ c.from m place
     on_paid =
-        let i = there p t m place sh (Repeat d to) at in
+        let i = instr_as p t m place sh (Repeat d to) at in
         let round_it = innermost p looped m closing.0 in
         let out = ((place_of (λ n. n) p t c a swept m place).afters closing.0 d closing.1 round_it.0 closing.2 round_it.1).out (suc place)
         (record {
@@ -88,7 +88,7 @@ module _ (p : Image) (t : Typing) (c : Prices) (a : Afters) (looped : IsLooped p
 
     round_paid : 1 + c.from m to ≤ c.from m place + c.round m closing.0
     round_paid =
-        let i = there p t m place sh (Repeat d to) at in
+        let i = instr_as p t m place sh (Repeat d to) at in
         let reached = leads_on p t m typed place to sh i.0 i.1 (repeats_at p t m place sh i.0 d to i.2) in
         let there = subst (λ x. IsReached t m x) closing.3 reached in
         let round = (place_of (λ n. n) p t c a swept m closing.0).rounds place d closing.1 closing.2 (reached_is_some t m (suc closing.0) there) in

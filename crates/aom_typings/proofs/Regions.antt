@@ -48,8 +48,8 @@ goes_so o i t at is = same_Some (transfer_of i) t (sym (ap transfer_in at) ∙ i
 
 -- the instruction of a transfer, and the other way round
 module _ (p : Image) (t : Typing) (m place : ℕ) (sh : Shape) where
-  pub there : (u : Transfer) → StandsAs p t m place sh u → (i : Instr) × Stands p t m place sh i × (transfer_of i ≡ u)
-  there u at = let w = transfer_there (instr_at p m place) u at.goes in (w.0, record { shape = at.shape; instr = w.1 }, w.2)
+  pub instr_as : (u : Transfer) → StandsAs p t m place sh u → (i : Instr) × Stands p t m place sh i × (transfer_of i ≡ u)
+  instr_as u at = let w = transfer_there (instr_at p m place) u at.goes in (w.0, record { shape = at.shape; instr = w.1 }, w.2)
 
   pub stands_as : (u : Transfer) (i : Instr) → Stands p t m place sh i → transfer_of i ≡ u → StandsAs p t m place sh u
   stands_as u i at is = record { shape = at.shape; goes = stands_so (instr_at p m place) i u at.instr is }

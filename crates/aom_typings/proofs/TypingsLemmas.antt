@@ -7,7 +7,7 @@ pub use Rattle.aom_typings.proofs.Listed.{among_either, among_right, below_from,
 pub use Rattle.aom_typings.proofs.Listed.{stands_among}
 pub use Rattle.aom_typings.proofs.Paid.{call_paid, cancel_paid}
 pub use Rattle.aom_typings.proofs.Regions.{BeginsLoop, EndsRound, LoopIn, NextIn, by_kind, ends_before, goes_so, innermost_of_body, nested, next_is_no_loop}
-pub use Rattle.aom_typings.proofs.Regions.{no_loop_here, no_next_here, not_both_in, one_end, one_innermost, same_back, same_rounds, stands_as, stands_so}
+pub use Rattle.aom_typings.proofs.Regions.{no_loop_here, no_next_here, not_both_in, instr_as, one_end, one_innermost, same_back, same_rounds, stands_as, stands_so}
 pub use Rattle.aom_typings.proofs.At.{IsSweptAt, at_each, from_each}
 pub use Rattle.aom_typings.proofs.Adding.{goes_forward, jumps_forward}
 pub use Rattle.aom_typings.proofs.Going.{all_related, found_of, going_alike, going_same, max_same}
