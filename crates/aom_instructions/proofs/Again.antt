@@ -1,6 +1,6 @@
--- Instructions and their parts give each other, row by row: an operand of the kind that a row asks is what is read of it.
+-- Instructions and their parts give each other, row by row: an operand of the kind that a row asks is what is read of it. Their sorts name what is among their operands.
 use Rattle.std.proofs.Common.{◌≡◌, refl, ◌∙◌}
-use Rattle.aom_instructions.specs.Laws.{PartsMakeAgain, MakingPartsAgain, RowsAreOne}
+use Rattle.aom_instructions.specs.Laws.{PartsMakeAgain, MakingPartsAgain, RowsAreOne, SortsNameOperands}
 use Rattle.aom_instructions.specs.Operands.{SmallFits, LargeFits}
 use Rattle.aom_instructions.specs.Table.{class, depth, field, make, method, mnemonic, number, operands, operands_of, place, register, rounds, target, word, row}
 use Rattle.aom_instructions.specs.declared.instr.Instr.TheVariants as instr
@@ -79,3 +79,7 @@ parts_make_again _ = refl
 pub rows_are_one : RowsAreOne
 rows_are_one m.Sub = (refl, refl)
 rows_are_one _ = (refl, refl)
+
+pub sorts_name_operands : SortsNameOperands
+sorts_name_operands (instr.Sub a b c) = (refl, refl, refl)
+sorts_name_operands _ = (refl, refl, refl)

@@ -1,5 +1,5 @@
 -- The operands of an instruction: which of them fit.
-use Rattle.std.specs.Prelude.{ℕ, ◌<◌, ◌≤◌, ◌^◌, FitsSigned}
+use Rattle.std.specs.Prelude.{ℕ, ◌<◌, ◌≤◌, ◌^◌, FitsSigned, Option, Some, None}
 use Rattle.std.specs.Int.{w32}
 use Rattle.aom_instructions.specs.declared.kinds.Kinds.{Kinds}
 use Rattle.aom_instructions.specs.declared.kinds.LargeKind.{LargeKind}
@@ -67,3 +67,17 @@ pub record OperandsFit (l : Limits) (kinds : Kinds) (o : Operands) : Type 0 wher
   pub b : SmallFits kinds.b o.b
   pub c : SmallFits kinds.c o.c
   pub d : LargeFits l kinds.d o.d
+
+-- ---- what a large operand says, if it says something of that kind
+
+abbrev pub place_said : Large → Option ℕ
+place_said (large.Place d) = Some d
+place_said _ = None
+
+abbrev pub method_said : Large → Option ℕ
+method_said (large.Method m) = Some m
+method_said _ = None
+
+abbrev pub class_said : Large → Option ℕ
+class_said (large.Class c) = Some c
+class_said _ = None

@@ -20,7 +20,7 @@ mod version;
 pub use action::{Action, Manner};
 pub use instr::{Instr, Target};
 pub use kinds::{Kinds, LargeKind, OperandOrder, SmallKind};
-pub use laws::instructions_and_rows;
+pub use laws::{instructions_and_rows, sorts_name_operands};
 pub use limits::{Limits, fits};
 pub use mnemonic::{Mnemonic, Row};
 pub use operand::{Large, Operands, Small};

@@ -7,7 +7,8 @@ use Rattle.aom_instructions.specs.declared.instr.Instr.{Instr}
 use Rattle.aom_instructions.specs.declared.operand.Large.{Large}
 use Rattle.aom_instructions.specs.declared.operand.Large.TheVariants as large
 use Rattle.aom_syntax.specs.Classes.{is_at}
-use Rattle.aom_listing.specs.Jumps.{jump_of, is_target, place_said, Tells}
+use Rattle.aom_instructions.specs.Operands.{place_said}
+use Rattle.aom_listing.specs.Jumps.{jump_of, is_target, Tells}
 
 -- an operand that is no place
 pub none_said : (operand : Large) → ((x : ℕ) → operand ≡ large.Place x → ⊥) → None ≡ place_said operand

@@ -1,16 +1,10 @@
 -- The places to which a method's instructions jump.
 use Rattle.std.specs.Prelude.{◌≡◌, ◌<◌, ℕ, Bool, false, List, Option, Some, None, slice_index_or}
 use Rattle.std.specs.List.{list_any}
+use Rattle.aom_instructions.specs.Operands.{place_said}
 use Rattle.aom_instructions.specs.Table.{operands}
 use Rattle.aom_instructions.specs.declared.instr.Instr.{Instr}
-use Rattle.aom_instructions.specs.declared.operand.Large.{Large}
-use Rattle.aom_instructions.specs.declared.operand.Large.TheVariants as large
 use Rattle.aom_syntax.specs.Classes.{is_at}
-
--- the place that an operand says
-abbrev pub place_said : Large → Option ℕ
-place_said (large.Place d) = Some d
-place_said _ = None
 
 -- where an instruction jumps to: the place among its operands
 abbrev pub jump_of : Instr → Option ℕ

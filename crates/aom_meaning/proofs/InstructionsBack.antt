@@ -23,7 +23,7 @@ use Rattle.aom_syntax.specs.Names.{place_of}
 use Rattle.aom_syntax.specs.Reading.{◌>>=◌, Reading, giving, next}
 use Rattle.aom_syntax.specs.Words.{in_order, large_operand, small_operand, words_operands}
 use Rattle.aom_syntax.specs.declared.scope.Scope.{Scope}
-use Rattle.aom_listing.specs.Jumps.{place_said}
+use Rattle.aom_instructions.specs.Operands.{place_said}
 use Rattle.aom_listing.specs.Operands.{label_name}
 use Rattle.aom_listing.specs.Words.{in_text, large_words, small_words, words_statement}
 use Rattle.aom_meaning.specs.Naming.{HasLabel, HasNames}

@@ -12,7 +12,8 @@ use Rattle.aom_instructions.specs.declared.kinds.LargeKind.{LargeKind}
 use Rattle.aom_instructions.specs.declared.limits.Limits.{Limits}
 use Rattle.aom_instructions.specs.declared.operand.Large.{Large}
 use Rattle.aom_syntax.specs.Names.{place_of}
-use Rattle.aom_listing.specs.Jumps.{is_target, jump_of, place_said}
+use Rattle.aom_instructions.specs.Operands.{place_said}
+use Rattle.aom_listing.specs.Jumps.{is_target, jump_of}
 use Rattle.aom_listing.specs.Operands.{label_name}
 use Rattle.aom_meaning.specs.Naming.{HasLabel, code_labels, label_or_none}
 use Rattle.aom_meaning.proofs.Names.{place_found}

@@ -1,5 +1,5 @@
 use Rattle.std.proofs.Common.{◌∙◌, ap}
-use Rattle.aom_listing.specs.Jumps.{place_said}
+use Rattle.aom_instructions.specs.Operands.{place_said}
 use Rattle.aom_listing.proofs.Targets.{none_said}
 use Rattle.aom_listing.proofs.jumps.jump_of.Goals as goal
 
