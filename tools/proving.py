@@ -26,7 +26,7 @@ class Proofs:
         """The words of the run, and what it finds around it. What earlier runs have proved is kept by rt ci itself, or else here."""
         around = {**{name: it for name, it in os.environ.items() if name != KEPT_AT}, "RT_JOBS": str(self.jobs)}
         if keeps_proofs():
-            return ["rt", "ci", *(["--anew"] if self.anew else [])], around
+            return rt_words("ci", *(["--anew"] if self.anew else [])), around
         return rt_words("ci"), around if self.anew or not self.kept_at else {**around, KEPT_AT: self.kept_at}
 
     def run(self, hear):

@@ -1,8 +1,9 @@
 """quick_rt WORD..: runs the toolchain's own rt with these words, in this process, where each crate is asked once what it has below it.
 
-The program stands on some fifty crates, and there are 600,000 ways down from the library to the lowest of them. Some toolchains' rt lists the crates
-below a crate, and sums up their texts, by going each of these ways, twice a crate: that takes longer than the proofs. What is proved, tried and run is rt's
-own, and so is each answer; how many processes share a check of rt ci is told here. Where rt is not made as it is known here, it runs as it stands."""
+The program stands on some fifty crates, and there are 600,000 ways down from the library to the lowest of them. A toolchain's rt lists the crates below a
+crate by going each of these ways, which takes two minutes before the first proof; some sum up their texts so too, which takes longer than the proofs. What is
+proved, tried and run is rt's own, and so is each answer. Where rt ci keeps nothing of what it has proved, that is done here (kept_checks.py), and how many
+processes share a check is told here. Where rt is not made as it is known here, it runs as it stands."""
 
 import functools
 import importlib.machinery
@@ -18,22 +19,22 @@ from kept_checks import KeptChecks
 
 # names the folder in which the checks of rt ci are kept
 KEPT_AT = "AOM_KEPT_AT"
-# what a crate answers by asking the same of each crate that it names
-ASKED_DOWN = ("below", "stamp")
+# what a crate answers by asking the same of each crate that it names; a toolchain that keeps proofs sums up each text once by itself
+ASKED_DOWN, SUMMED_ONCE = ("below", "stamp"), ("below",)
 # the most processes that share one check: memory holds no more of them beside the edits' checks
 MOST_JOBS = 3
 
 
 @functools.lru_cache(maxsize=None)
 def keeps_proofs():
-    """Whether this toolchain's rt ci keeps what it has proved, so that it can be asked to prove all. Such an rt runs as it stands."""
+    """Whether this toolchain's rt ci keeps what it has proved, so that it can be asked to prove all."""
     said = subprocess.run(["rt", "help"], stdin=subprocess.DEVNULL, stdout=subprocess.PIPE, stderr=subprocess.STDOUT, text=True)
     return "--anew" in said.stdout
 
 
 def rt_words(*words):
     """The words of a command that runs rt with these."""
-    return ["rt", *words] if keeps_proofs() else [sys.executable, os.path.realpath(__file__), *words]
+    return [sys.executable, os.path.realpath(__file__), *words]
 
 
 def once_in_a_call(method):
@@ -94,9 +95,9 @@ def main(words):
     try:
         rt = module_of(path)
         crate, run = rt.rtlib.Crate, rt.main
-        for name in ASKED_DOWN:
+        for name in SUMMED_ONCE if keeps_proofs() else ASKED_DOWN:
             setattr(crate, name, once_in_a_call(getattr(crate, name)))
-        if words == ["ci"]:
+        if words == ["ci"] and not keeps_proofs():
             rt.Crate.ci = checks_of(rt.Crate.ci)
     except (AttributeError, KeyError, SyntaxError, ValueError):
         os.execv(path, ["rt", *words])
