@@ -145,5 +145,5 @@ keyword_is_word k.Message = record { some = refl; bytes = refl }
 keyword_is_word k.Token = record { some = refl; bytes = refl }
 
 pub mnemonic_is_word : (mnemonic : Mnemonic) → IsWord (mnemonic_text mnemonic)
-mnemonic_is_word m.Delete = record { some = refl; bytes = refl }
+mnemonic_is_word m.Sub = record { some = refl; bytes = refl }
 mnemonic_is_word _ = record { some = refl; bytes = refl }
