@@ -18,7 +18,7 @@ use Rattle.aom_image.specs.declared.class.Provider.TheVariants.{Timer as A_timer
 use Rattle.aom_image.specs.declared.method.Role.TheVariants.{Cancel as Cancels_role}
 use Rattle.aom_image.specs.declared.method.Thing.{Thing}
 use Rattle.aom_instructions.specs.declared.instr.Instr.{Instr}
-use Rattle.aom_instructions.specs.declared.instr.Instr.TheVariants.{Abort, Cancel, Enlist, Issue, JumpActive, JumpAdded, SetActive, Status}
+use Rattle.aom_instructions.specs.declared.instr.Instr.TheVariants.{Abort, Cancel, Issue, JumpActive, JumpAdded, SetActive, Status}
 use Rattle.aom_roles.specs.Things.{is_object}
 use Rattle.aom_roles.specs.Tests.{AllTrue}
 use Rattle.aom_roles.specs.Kinds.{is_active_kind, is_listed_kind}
@@ -374,9 +374,6 @@ module _ (p : Image) (m : Parts) where
   pub status_lives : (a : ℕ) → IsNext p (Status a) m → Lives m.cells (this m)
   status_lives a next = finds_cell p m (Status a) next (λ c fr ts s n. active_listed (home_kind p fr.home) n.0)
 
-  pub enlist_lives : (priority : ℤ) → IsNext p (Enlist priority) m → Lives m.cells (this m)
-  enlist_lives priority next = finds_cell p m (Enlist priority) next (λ c fr ts s n. n.0)
-
   pub issue_lives : (a b : ℕ) → IsNext p (Issue a b) m → Lives m.cells (this m)
   issue_lives a b next = finds_cell p m (Issue a b) next (λ c fr ts s n. active_listed (home_kind p fr.home) (issuing_active (home_kind p fr.home) n.1.1.0))
 
@@ -388,10 +385,6 @@ module _ (p : Image) (m : Parts) where
 
   pub abort_lives : IsNext p Abort m → Lives m.cells (this m)
   abort_lives next = finds_cell p m Abort next (λ c fr ts s n. active_listed (home_kind p fr.home) n.0)
-
-  -- an object that is enlisted is not so yet
-  pub enlist_fresh : (priority : ℤ) → IsNext p (Enlist priority) m → request_at m.active.table (this m) ≡ None
-  enlist_fresh priority next = grind (arith, nat_tests, needs_met p m (Enlist priority) next, finds_object p m (Enlist priority) next, fresh_told p, free)
 
   -- one that makes a request is idle, and its class has a provider
   pub issue_idle : (a b : ℕ) → IsNext p (Issue a b) m → state_at m.active.table (this m) ≡ Some (held_state Idle)
