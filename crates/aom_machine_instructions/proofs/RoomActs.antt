@@ -556,7 +556,8 @@ module _ (p : Image) (t : Typing) (depth heights : ℕ → ℕ) (tables : Tables
     acts_room i stands r n (Cancels m) f = cancel_room i m stands (ap action_of f.0) f.1
     acts_room i stands r n (Sets_trap target m first) f = trap_room i target m first f.0 stands (ap action_of f.1) r
     acts_room i stands r n (Returns g a) f = return_room g a ts h.low_under line (λ nothing. ended_high
-        (none_left p fr h.shape a nothing (returnable p fr h.shape a (subst Ruled (return_is i a (ap transfer_of f.0)) r)))) (dropped p depth heights s.cells s.items fr ts w)
+        (none_left p fr h.shape a nothing (returnable p fr h.shape a (subst Ruled (return_is i a (ap transfer_of f.0)) r))))
+        (dropped p depth heights s.cells s.items fr ts w)
     acts_room i stands r n (Leaves code u) f =
         let cs = cells_after p fr ts s u in
         let items = items_after u s.items in

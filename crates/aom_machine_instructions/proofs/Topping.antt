@@ -1,6 +1,7 @@
 -- What the code needs to know of the cleanup stack, and of the methods that a trap calls.
 use Rattle.std.proofs.lemmas.Bool.Decides.{nat_tests}
-use Rattle.std.proofs.Common.{suc, ◌≡◌, ◌<◌, ◌+◌, ◌^◌, ℕ, Bool, true, length, List, [], ◌∷◌, Option, Some, None, IfNone, IfSome, IsSome, refl, sym, ap, ◌∙◌, subst, arith}
+use Rattle.std.proofs.Common.{suc, ◌≡◌, ◌<◌, ◌+◌, ◌^◌, ℕ, Bool, true, length, List, [], ◌∷◌, Option, Some, None}
+use Rattle.std.proofs.Common.{IfNone, IfSome, IsSome, refl, sym, ap, ◌∙◌, subst, arith}
 use Rattle.std.specs.Prelude.{is_some}
 use Rattle.std.proofs.lemmas.Bool.{eqb-true}
 use Rattle.aom_image.specs.Image.{Image}

@@ -33,7 +33,8 @@ returns-in-Some-Run-clause-does c = λ refused.
     let under = below_first c.args.parts.now.stack.tasks in
     let runs : Runs under = rw e.rest at (runs_on _ _ c.in-Some-Run.ensures.some c.in-Some-Run.field-0-is) in
     let x = result_register (instr_at c.args.linked.now (method_here under) (place_here under)) in
-    rw (c.receive.ensures.received, c.register-number.ensures.value, e.gives, e.rest) (return_to_method c.args.linked.now c.args.parts.now refused _ c.args.from refl
+    rw (c.receive.ensures.received, c.register-number.ensures.value, e.gives, e.rest)
+    (return_to_method c.args.linked.now c.args.parts.now refused _ c.args.from refl
     c.end_method-gives.new.parts.active e.over x runs (rw e.rest at c.receive.ensures.in_range) refl)
 
 pub returns-in-Some-Run-clause-runs : goal.returns-in-Some-Run-clause-runs
