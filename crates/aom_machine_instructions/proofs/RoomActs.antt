@@ -85,23 +85,6 @@ own_destructs p o m e = go o.thing e
     go (An_object_of c) e = runs_among p (An_object_of c) m (An_object_of c, itself p c, inl (kept_in_line p c m e))
     go Message e = cc
 
--- ---- what an instruction is charged for, by what it does
-
-call_charged : (i : Instr) (how : Manner) (target : Target) (m first x : ℕ) → action_of i ≡ action.Call how target m first x → charge_of i ≡ A_call m
-call_charged i how target m first x is = grind arith
-
-operation_charged : (i : Instr) (a m : ℕ) → action_of i ≡ action.PushOperation a m → charge_of i ≡ An_operation m
-operation_charged i a m is = grind arith
-
-push_charged : (i : Instr) (a : ℕ) → action_of i ≡ action.Push a → charge_of i ≡ A_destruction a
-push_charged i a is = grind arith
-
-destruction_charged : (i : Instr) (a : ℕ) → action_of i ≡ action.Destroy a → charge_of i ≡ A_destruction a
-destruction_charged i a is = grind arith
-
-cancel_charged : (i : Instr) → action_of i ≡ action.Cancel → charge_of i ≡ A_cancel
-cancel_charged i is = grind arith
-
 -- what comes to no entries calls nothing that may
 pushes_from : (quiet quiet' leave leave' : Bool) → (quiet ≡ true → quiet' ≡ true) → (leave' ≡ true → leave ≡ true) → (not quiet' || leave') ≡ true →
     (not quiet || leave) ≡ true
@@ -181,6 +164,22 @@ pub record NextGoes (p : Image) (cs : List Cell) (m : ℕ) (below : List Task) :
 abbrev pub LineGoes : Image → List Cell → ℕ → List Task → Type 0
 LineGoes p cs m (Destroy ∷ below) = NextGoes p cs m below
 LineGoes p cs m _ = Unit {0}
+
+-- what an instruction is charged for, by what it does
+call_charged : (i : Instr) (how : Manner) (target : Target) (m first x : ℕ) → action_of i ≡ action.Call how target m first x → charge_of i ≡ A_call m
+call_charged i how target m first x is = grind arith
+
+operation_charged : (i : Instr) (a m : ℕ) → action_of i ≡ action.PushOperation a m → charge_of i ≡ An_operation m
+operation_charged i a m is = grind arith
+
+push_charged : (i : Instr) (a : ℕ) → action_of i ≡ action.Push a → charge_of i ≡ A_destruction a
+push_charged i a is = grind arith
+
+destruction_charged : (i : Instr) (a : ℕ) → action_of i ≡ action.Destroy a → charge_of i ≡ A_destruction a
+destruction_charged i a is = grind arith
+
+cancel_charged : (i : Instr) → action_of i ≡ action.Cancel → charge_of i ≡ A_cancel
+cancel_charged i is = grind arith
 
 -- the tables of depths and of heights
 pub record Tables (p : Image) (t : Typing) (depth heights : ℕ → ℕ) : Type 0 where
