@@ -1,4 +1,4 @@
--- The cell of the method that runs lives, and where an instruction reads or writes its words there is one.
+-- The cell of the method that runs lives; the needs of the instruction that is next are met; and where it reads or writes words of its method there is a cell.
 use Rattle.std.proofs.lemmas.Bool.Decides.{nat_tests}
 use Rattle.std.proofs.Common.{arith, List, ◌≡◌, ℕ, true, [], Some, subst}
 use Rattle.std.specs.Prelude.{nat_lt}
@@ -63,7 +63,7 @@ module _ (p : Image) (m : Parts) where
         k.0,
       )
 
-  -- those of a return
+  -- those of one that returns
   pub return_needs : (i : Instr) (a : ℕ) (next : IsNext p i m) → transfer_of i ≡ transfer.Return a →
       (let h = at_hand p (counting next.counts m) next.stands next.runs in AllTrue (needs_return p h.frame h.below (requested i (at_step h.state)) a))
   return_needs i a next is =
@@ -71,7 +71,7 @@ module _ (p : Image) (m : Parts) where
       let n = needs_met i next in
       subst (λ j. AllTrue (needs p n.0 h.frame h.below (requested i (at_step h.state)) j)) (return_is i a is) n.1
 
-  -- of a destruction
+  -- those of one that destroys
   pub destroy_needs : (i : Instr) (a : ℕ) (next : IsNext p i m) → action_of i ≡ action.Destroy a → (c : Choice) ×
       (let h = at_hand p (counting next.counts m) next.stands next.runs in AllTrue (needs_delete p c h.frame h.below (requested i (at_step h.state)) a))
   destroy_needs i a next is =

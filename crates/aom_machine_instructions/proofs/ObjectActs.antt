@@ -94,7 +94,7 @@ module _ (m : Parts) (refused : List ℕ) where
   destroy_does p new i a is act =
       subst (λ j. DoesIn p refused j m new) (sym (delete_is i a is)) (plain_in p m new refused _ refl (λ h c needs typed. act h c needs))
 
-  -- of nothing
+  -- the destruction of nothing
   pub destroy_null_does : (p : Image) (i : Instr) (a : ℕ) → action_of i ≡ action.Destroy a → a < 16 → register_here m.stack.tasks a ≡ null →
       DoesIn p refused i m (places.next (set_register a null m))
   destroy_null_does p i a is small null_there = destroy_does p (places.next (set_register a null m)) i a is (λ h c needs.
