@@ -38,7 +38,7 @@ use Rattle.aom_machine_instructions.proofs.Housing.{at_hand, needs_met}
 use Rattle.aom_machine_instructions.proofs.RequestActs.{OnObject, asks_on, finds_cell, finds_object, fresh_told, kind_told, named_here}
 use Rattle.aom_machine_instructions.proofs.RequestActs.{on_object, own_told, requests_enlisted, thing_here}
 use Rattle.aom_machine_instructions.proofs.Running.{free}
-use Rattle.aom_machine_instructions.proofs.WordActs.{plain_at}
+use Rattle.aom_machine_instructions.proofs.WordActs.{plain_in}
 
 -- ---- the lists of servers, as an object is enlisted
 
@@ -171,7 +171,7 @@ module _ (p : Image) (m : Parts) (h : At_hand p m) (x : OnObject p m h) (priorit
 module _ (p : Image) (m : Parts) (refused : List ℕ) (a : Active) (priority : ℤ) where
   pub enlist_plain_does : is_server_class p (class_at m.cells (this m)) ≡ false →
       Enlists m.active a (this m) priority None → DoesIn p refused (Enlist priority) m (places.next (record m { active = a }))
-  enlist_plain_does plain enlists h at_it = plain_at p m _ refused (Enlist priority) refl h (λ c met typed.
+  enlist_plain_does plain enlists = plain_in p m _ refused (Enlist priority) refl (λ h c met typed.
       let x = on_object p m h met.0 in
       let none = sym (own_told p m h x ∙ ap (requested h.state.cells) x.number) ∙ free _ met.1.0 in
       let is = serving_told p m h x priority none ∙ plain in
@@ -182,7 +182,7 @@ module _ (p : Image) (m : Parts) (refused : List ℕ) (a : Active) (priority : �
   pub enlist_server_does : (class : ℕ) →
       class_at m.cells (this m) ≡ Some class → is_server_class p (Some class) ≡ true → class < 256 → Enlists m.active a (this m) priority (Some false) →
       DoesIn p refused (Enlist priority) m (places.next (record m { active = a; listed = with_list class (list_at m.listed class ++ this m ∷ []) m.listed }))
-  enlist_server_does class told serves small enlists h at_it = plain_at p m _ refused (Enlist priority) refl h (λ c met typed.
+  enlist_server_does class told serves small enlists = plain_in p m _ refused (Enlist priority) refl (λ h c met typed.
       let x = on_object p m h met.0 in
       let none = sym (own_told p m h x ∙ ap (requested h.state.cells) x.number) ∙ free _ met.1.0 in
       let is = serving_told p m h x priority none ∙ ap (is_server_class p) told ∙ serves in

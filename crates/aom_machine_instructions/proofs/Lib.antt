@@ -34,7 +34,6 @@ mod EntryActs
 mod DealActs
 mod Topping
 mod Resulting
-mod Silent
 mod Standing
 mod UnwindActs
 mod Vanishing

@@ -165,6 +165,7 @@ module _ (m : Parts) (lines : LineBuffer) where
   asked heap = record m { cells = heap; rest = record m.rest { requests = raised m.rest.requests } }
 
   refused_does : (a class : ℕ) → a < 16 → true ≡ refuses lines m → Does lines.refused (New a class) m (places.next (set_register a null (asked m.cells)))
+  unfolding DoesIn
   refused_does a class small full p h here = (
     record { name = null; refused = true; answer = heard_by m },
     record { name = null_unnamed p m h.state h.agrees; refusal = full ∙ same_refusal p lines m h (New a class) here refl; answer = heard_fits m },
@@ -200,6 +201,7 @@ module _ (m : Parts) (lines : LineBuffer) where
 
   made_does : (a class n : ℕ) (heap : Heap) → a < 16 → false ≡ refuses lines m → class < 256 → cell_at m.cells n ≡ None → n ≢ null → Changes m.cells heap n
       (Some (blank class)) → count heap ≡ count m.cells + 1 → n < heap.limit → Does lines.refused (New a class) m (places.next (set_register a n (asked heap)))
+  unfolding DoesIn
   made_does a class n heap small granted fits none some ch more within p h here = (
     record { name = n; refused = false; answer = heard_by m },
     record { name = unnamed p m h.state n h.agrees (new_small p m h heap n class ch within) none; refusal = granted ∙ same_refusal p lines m h (New a class) here refl; answer = heard_fits m },

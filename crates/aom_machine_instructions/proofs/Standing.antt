@@ -1,5 +1,5 @@
--- What stands behind an instruction that says whether a method runs, and behind one after which a cell goes with nothing before it: by cases.
-use Rattle.std.proofs.Common.{arith, ℕ, Bool, true, false, not, cond, List, ◌∷◌, Some, None, ◌≡◌, ◌<◌, ◌∙◌, ap, refl, subst}
+-- A destruction of a cell that goes with nothing before it.
+use Rattle.std.proofs.Common.{arith, ℕ, Bool, true, false, not, cond, List, ◌∷◌, Some, None, ◌≡◌, ◌<◌, ◌∙◌, ap, subst}
 use Rattle.aom_cells.specs.Heap.{null, class_at}
 use Rattle.aom_classes.specs.Roles.{role_of}
 use Rattle.aom_frames.specs.Tasks.{on_top, register_here, with_register}
@@ -13,27 +13,8 @@ use Rattle.aom_instructions.specs.declared.instr.Instr.{Instr}
 use Rattle.aom_machine_state.specs.declared.parts.Parts.{Parts}
 use Rattle.aom_machine_state.specs.Places.{with_tasks}
 use Rattle.aom_machine_instructions.proofs.GoingActs.{destroy_object_does}
-use Rattle.aom_machine_instructions.specs.Acts.{DoesIn, after_of, going_at, standing}
+use Rattle.aom_machine_instructions.specs.Acts.{DoesIn, going_at}
 use Rattle.aom_machine_instructions.specs.Going.{begun, destructed, is_server_class}
-use Rattle.aom_machine_instructions.specs.declared.after.After.TheVariants.{RunsOn, CellGoes, Other}
-
--- ---- by whether a method runs
-
-pub stands_still : (b : Bool) (m : Parts) → standing (after_of b) m ≡ m
-stands_still true m = refl
-stands_still false m = refl
-
-pub runs_where : (b : Bool) → after_of b ≡ RunsOn → b ≡ true
-runs_where x is = grind arith
-
-pub never_goes : (b : Bool) (n : ℕ) → after_of b ≡ CellGoes n → ⊥
-never_goes x n is = grind arith
-
-pub told_where : (b : Bool) → (after_of b ≡ Other → ⊥) → b ≡ true
-told_where true told = refl
-told_where false told = absurd (told refl)
-
--- ---- with nothing before it
 
 pub plain_where : (b : Bool) → not b ≡ true → b ≡ false
 plain_where x is = grind arith

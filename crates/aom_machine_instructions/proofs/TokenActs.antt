@@ -50,7 +50,7 @@ use Rattle.aom_machine_state.specs.Tokens as meant
 use Rattle.aom_machine_state.specs.Tokens.{LetsGo, class_in, no_words}
 use Rattle.aom_machine_state.specs.declared.parts.Parts.{Parts}
 use Rattle.aom_cells.specs.Tokens.{Kept, Sets, class_at, redeemed}
-use Rattle.aom_machine_instructions.specs.Acts.{At_hand, Does, Tells}
+use Rattle.aom_machine_instructions.specs.Acts.{At_hand, Does, Tells, DoesIn}
 use Rattle.aom_machine_instructions.specs.Next.{IsNext, counting}
 use Rattle.aom_machine_instructions.specs.Tokens.{Answers, Hands, HandsNone, HandsOne, IsAnswerable, Pends, Redeems, RedeemsOne}
 use Rattle.aom_machine_instructions.proofs.GoingActs.{thing_is}
@@ -149,9 +149,11 @@ module _ (m mid new : Parts) (told now : LineBuffer) (n : ℕ) (code : ℤ) (a b
       small r.released r.count r.freed r.lets r.answers))
 
   redeem_told : RedeemsOne n code mid new told now → Tells (Reply a b) m told now
-  redeem_told does p h c met = does.silent ∙ ap (λ ls. record told { lines = ls }) (sym (append-nil told.lines))
-      ∙ ap (λ ls. record told { lines = told.lines ++ ls }) (sym (redeem_silent m a b does.place new.messages new.active new.tokens code
-      (does.number ∙ number_so) (subst (λ (x : Parts). is_some (class_at x.tokens does.place) ≡ true) emptied does.token) read_so p h c met))
+  redeem_told does = record {
+    lines = λ p h c met. does.silent ∙ ap (λ ls. record told { lines = ls }) (sym (append-nil told.lines))
+        ∙ ap (λ ls. record told { lines = told.lines ++ ls }) (sym (redeem_silent m a b does.place new.messages new.active new.tokens code
+        (does.number ∙ number_so) (subst (λ (x : Parts). is_some (class_at x.tokens does.place) ≡ true) emptied does.token) read_so p h c met));
+  }
 
   -- a message is a token, or a client's
   pub answer_done : (refused : List ℕ) (last : Parts) → a < 16 → last ≡ places.next new → Answers n code mid new told now → Does refused (Reply a b) m last
@@ -161,7 +163,8 @@ module _ (m mid new : Parts) (told now : LineBuffer) (n : ℕ) (code : ℤ) (a b
 
   pub answer_told : Answers n code mid new told now → Tells (Reply a b) m told now
   answer_told (inl does) = redeem_told does
-  answer_told (inr does) = λ p h c met. completed_told m mid new told now n code a b emptied number_so does.completes read_so p h met
+  answer_told (inr does) =
+      record { lines = λ p h c met. completed_told m mid new told now n code a b emptied number_so does.completes read_so p h met }
 
 -- the method is as it was, but for its tokens
 pub answer_rest : (n : ℕ) (code : ℤ) (old new : Parts) (told now : LineBuffer) → Answers n code old new told now → new.stack ≡ old.stack
@@ -329,6 +332,7 @@ module _ (m : Parts) (refused : List ℕ) (a class : ℕ) (small : a < 16) (clas
         ((rerequested_alike s.cells (Inside on.object (Elsewhere Root)) (Some (promised next_order asks.0))).held_so q))))
 
   hand_one : (n : ℕ) (new : Parts) → HandsOne n (this m) class m new → Does refused (Hand a) m (places.next (set_register a n new))
+  unfolding DoesIn
   hand_one n new does = subst (λ x. Does refused (Hand a) m (places.next (set_register a n x))) (sym does.rest) (λ p h at_it. (
     record { name = message_name does.place; refused = is_refused p refused h.state; answer = heard_by m },
     record { name = place_unnamed p m h does.place does.free; refusal = refl; answer = heard_fits m },
