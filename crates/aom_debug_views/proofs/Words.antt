@@ -1,6 +1,6 @@
 -- What the strongest typing says is a word is one in each state, also while its method waits: no argument that moves stood there.
 use Rattle.std.proofs.lemmas.Bool.Decides.{nat_tests}
-use Rattle.std.proofs.Common.{arith, ◌≡◌, ◌∙◌, ℕ, suc, ℤ, Bool, true, false, List, [], ◌∷◌, ◌++◌, Option, Some, None, IsSome, slice_index_or}
+use Rattle.std.proofs.Common.{arith, ◌≡◌, ◌∙◌, ℕ, suc, ℤ, List, [], ◌∷◌, ◌++◌, Option, Some, None, IsSome, slice_index_or}
 use Rattle.std.proofs.Common.{refl, sym, ap, subst}
 use Rattle.std.specs.Int.{w32, cast_signed}
 use Rattle.std.proofs.lemmas.Bool.{eqb-true}
@@ -9,9 +9,7 @@ use Rattle.aom_image.specs.Image.{Image}
 use Rattle.aom_image.specs.Views.{arguments_of, instr_at, method_at, method_class}
 use Rattle.aom_image.specs.declared.method.Argument.{Argument}
 use Rattle.aom_image.specs.declared.method.Argument.TheVariants.{Word as A_word, Own as An_own}
-use Rattle.aom_image.specs.declared.method.Thing.TheVariants.{Message}
 use Rattle.aom_instructions.specs.declared.instr.Instr.{Instr}
-use Rattle.aom_instructions.specs.declared.instr.Instr.TheVariants.{Call, Delete, Reply, Trap}
 use Rattle.aom_instructions.specs.declared.instr.Target.{Target}
 use Rattle.aom_roles.specs.Tests.{AllTrue}
 use Rattle.aom_cells.specs.Heap.{null}
@@ -20,8 +18,9 @@ use Rattle.aom_frames.specs.declared.task.Task.TheVariants.{Run as Runs_frame}
 use Rattle.aom_rules.specs.Calls.{each_argument, while_called}
 use Rattle.aom_rules.specs.Rules.{rule_needs, ways_of}
 use Rattle.aom_rules.specs.Typing.{Typing, shape_at}
+use Rattle.aom_rules.specs.Ways.{Called, Caught, Goes_on, Holding, Ways}
 use Rattle.aom_shape.specs.Arguments.{arguments_moved}
-use Rattle.aom_shape.specs.Kinds.{is_own_for, may_be_destroyed, register, set_register}
+use Rattle.aom_shape.specs.Kinds.{register, set_register}
 use Rattle.aom_shape.specs.Order.{Weaker}
 use Rattle.aom_shape.specs.Shape.{Shape}
 use Rattle.aom_roles.specs.Tables.{at}
@@ -73,22 +72,35 @@ argument_words p (An_own t ∷ xs) first sh now i met is here = grind (arith, ar
 called_words : (target : Target) (class : Option ℕ) (ended i : ℕ) (sh : Shape) → register sh i ≡ Word → register (while_called target class ended sh) i ≡ Word
 called_words x class ended i sh is = grind (arith, nat_tests, at-put_at Unset sh.registers, eqb-true)
 
--- what goes was no word
-emptied_words : (sh : Shape) (a i : ℕ) (test : Kind → Bool) → test Word ≡ false → test (register sh a) ≡ true → register sh i ≡ Word →
-    register (set_register sh a Null) i ≡ Word
-emptied_words sh a i test never met is = grind (arith, at-put_at Unset sh.registers a i Null)
+-- where what goes was no word
+emptied_words : (sh : Shape) (a i : ℕ) → (register sh a ≡ Word → ⊥) → register sh i ≡ Word → register (set_register sh a Null) i ≡ Word
+emptied_words sh a i none is = grind (arith, at-put_at Unset sh.registers a i Null)
 
 module _ (p : Image) (m pc : ℕ) (sh : Shape) (i : ℕ) (is : register sh i ≡ Word) where
   call_words : (target : Target) (m' first ended : ℕ) → AllTrue (each_argument p sh (arguments_of p m') first) →
       register (while_called target (method_class p m') ended (arguments_moved (arguments_of p m') first sh)) i ≡ Word
   call_words target m' first ended met = grind (arith, nat_tests, called_words target, argument_words p)
 
+  -- by the ways on from it: a call has its arguments, with a trap or without, and what is null from then on was no word
+  called_arguments : (x : Instr) (target : Target) (m' first c : ℕ) → ways_of p x ≡ Goes_on (Called target m' first c) →
+      AllTrue (rule_needs p m pc sh x) → AllTrue (each_argument p sh (arguments_of p m') first)
+  called_arguments x target m' first c ways met = grind (arith, all_parts)
+
+  caught_arguments : (x : Instr) (target : Target) (m' first c : ℕ) → ways_of p x ≡ Goes_on (Caught target m' first c) →
+      AllTrue (rule_needs p m pc sh x) → AllTrue (each_argument p sh (arguments_of p m') first)
+  caught_arguments x target m' first c ways met = grind (arith, all_parts)
+
+  nulled_owns : (x : Instr) (a : ℕ) → ways_of p x ≡ Goes_on (Holding a Null) → AllTrue (rule_needs p m pc sh x) → register sh a ≡ Word → ⊥
+  nulled_owns x a ways met word = grind arith
+
   waiting_words : (x : Instr) → AllTrue (rule_needs p m pc sh x) → register (waiting_by p (ways_of p x) sh) i ≡ Word
-  waiting_words (Call target m' first c) met = grind (arith, all_parts, call_words target m' first)
-  waiting_words (Trap target m' first c) met = grind (arith, all_parts, call_words target m' first)
-  waiting_words (Delete a) met = emptied_words sh a i may_be_destroyed refl met.0 is
-  waiting_words (Reply a b) met = emptied_words sh a i (is_own_for p Message) refl met.0 is
-  waiting_words _ met = is
+  waiting_words x met = go (ways_of p x) refl
+    where
+      go : (ways : Ways) → ways_of p x ≡ ways → register (waiting_by p ways sh) i ≡ Word
+      go (Goes_on (Called target m' first c)) ways = call_words target m' first _ (called_arguments x target m' first c ways met)
+      go (Goes_on (Caught target m' first c)) ways = call_words target m' first _ (caught_arguments x target m' first c ways met)
+      go (Goes_on (Holding a Null)) ways = emptied_words sh a i (nulled_owns x a ways met) is
+      go _ ways = is
 
 -- ---- so it has a word
 

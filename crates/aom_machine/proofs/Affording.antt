@@ -6,7 +6,7 @@ use Rattle.aom_image.specs.Views.{class_at}
 use Rattle.aom_image.specs.WellFormed.{is_dispatched}
 use Rattle.aom_image.specs.declared.class.ClassDecl.{ClassDecl}
 use Rattle.aom_image.specs.declared.class.ClassKind.{ClassKind}
-use Rattle.aom_image.specs.declared.class.ClassKind.TheVariants.{Active, Plain, Server, Session}
+use Rattle.aom_image.specs.declared.class.ClassKind.TheVariants.{Active, Server}
 use Rattle.aom_image.specs.declared.method.Role.TheVariants.{Accept, Error, Run as Handles, Service}
 use Rattle.aom_classes.specs.Roles.{role_of}
 use Rattle.aom_roles.specs.Classes.{kind_in}

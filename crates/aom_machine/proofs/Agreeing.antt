@@ -15,15 +15,15 @@ use Rattle.aom_shape.specs.declared.kind.CleanupEntry.{CleanupEntry}
 use Rattle.aom_shape.specs.declared.kind.Filling.{Filling}
 use Rattle.aom_shape.specs.declared.kind.Filling.TheVariants.{Empty, Perhaps}
 use Rattle.aom_shape.specs.declared.kind.Kind.{Kind}
-use Rattle.aom_shape.specs.declared.kind.Kind.TheVariants.{Maybe, Null, Own, Unset, Word}
+use Rattle.aom_shape.specs.declared.kind.Kind.TheVariants.{Null, Own}
 use Rattle.aom_machine.proofs.SafetyLemmas.{claim_field, houses_field, length_forms, method_layer}
 use Rattle.aom_machine.proofs.SemanticsLemmas.{held_lives, one_place}
 use Rattle.aom_safety.specs.Claims.{Dispatching, Dying, Ending, Layer, Mark, Mark_form, Method, Object_form, Unwinding, claim}
 use Rattle.aom_safety.specs.Claims.{declared, declared_field, entry_claim, forms, home_claim, items_of, objects, own_field}
 use Rattle.aom_semantics.specs.Owned.{over}
 use Rattle.aom_semantics.specs.Places.{Cell, Elsewhere, Entry, Field, Object, Place, Register, Root, Sight, held, named, seen}
-use Rattle.aom_semantics.specs.State.{An_object, AtRoot, Closing, Destroy, Dispatched, Frame, Home, Inside, Item, Run, State}
-use Rattle.aom_semantics.specs.State.{Static, Task, Trapped, Unwind, field_place, home_holder, thing_holder, word}
+use Rattle.aom_semantics.specs.State.{An_object, AtRoot, Frame, Home, Inside, Item, Run, State}
+use Rattle.aom_semantics.specs.State.{Static, Task, field_place, home_holder, thing_holder, word}
 use Rattle.aom_safety.specs.WellTyped.{Back, Caught, Fits, Gone, Houses, IsHoused, Leaves, Now, Returns, Stack, Good}
 use Rattle.aom_machine.specs.Agreement.{Agreement, AgreesInAll, FieldsAgree, NumberSays, RegistersAgree}
 use Rattle.aom_machine_state.specs.Agrees.{Represents, number, word_at, word_in}

@@ -8,7 +8,7 @@ use Rattle.aom_image.specs.declared.method.Role.TheVariants.{Error as Answers}
 use Rattle.aom_semantics.specs.Requests.{part_of}
 use Rattle.aom_semantics.specs.Moves.{answered, asking, dispatch_ends, handled, main_ends, object_ends, stage_ends, step}
 use Rattle.aom_semantics.specs.Places.{Elsewhere, Object, Root, held}
-use Rattle.aom_semantics.specs.State.{Answered, Asks, Choice, Dispatch, Goes, Main_left, Object_left, Of_main, Of_object, Of_root, Of_server, Seat, Stage, State}
+use Rattle.aom_semantics.specs.State.{Answered, Asks, Choice, Dispatch, Goes, Object_left, Of_main, Of_object, Of_server, Seat, Stage, State}
 
 abbrev IsTold : State → Type 0
 IsTold s = s.rest.announced ≡ true

@@ -9,7 +9,7 @@ use Rattle.aom_machine_instructions.specs.Serving.{answers}
 use Rattle.aom_machine.proofs.ClassesLemmas.{all_there}
 use Rattle.aom_clients.specs.Clients as kept
 use Rattle.aom_clients.specs.declared.entry.QueueEntry.{QueueEntry}
-use Rattle.aom_clients.specs.declared.entry.QueueEntry.TheVariants.{Close, Connect, Message}
+use Rattle.aom_clients.specs.declared.entry.QueueEntry.TheVariants.{Close}
 use Rattle.aom_clients.specs.declared.place.MessagePlace.{MessagePlace}
 use Rattle.aom_image.specs.Image.{Image}
 use Rattle.aom_image.specs.Views.{class_at}

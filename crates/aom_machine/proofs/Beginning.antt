@@ -14,7 +14,7 @@ use Rattle.aom_frames.specs.declared.task.Task.TheVariants.{Dispatched as Ends, 
 use Rattle.aom_image.specs.Image.{Image}
 use Rattle.aom_cells.specs.Store.{Store, word_at as message_word}
 use Rattle.aom_roles.specs.Tables.{at}
-use Rattle.aom_semantics.specs.Places.{Cell, Elsewhere, Entry, Field, Going, Place, Register, held, word_field}
+use Rattle.aom_semantics.specs.Places.{Cell, Elsewhere, Entry, Field, Place, Register, held, word_field}
 use Rattle.aom_semantics.specs.State.{A_mark, Dispatch, Dispatched, Frame, Run, State, Task, Trapped, word}
 use Rattle.aom_semantics.specs.World.{message_words}
 use Rattle.aom_machine_state.specs.declared.parts.Parts.{Parts}

@@ -1,10 +1,10 @@
 -- Messages are kept no more, one after another.
 use Rattle.std.proofs.lemmas.Bool.Decides.{nat_tests}
-use Rattle.std.proofs.Common.{ap, arith, Bool, false, length, List, None, refl, subst, suc, sym, true, ℕ, zero, ◌+◌, ◌<◌, ◌==◌, ◌∙◌, ◌∷◌, ◌≡◌, drop}
+use Rattle.std.proofs.Common.{ap, arith, Bool, false, length, List, None, refl, suc, sym, true, ℕ, zero, ◌+◌, ◌<◌, ◌==◌, ◌∙◌, ◌∷◌, ◌≡◌, drop}
 use Rattle.std.proofs.Common.{slice_index_or, take, []}
 use Rattle.std.specs.Prelude.{is_some, ◌||◌}
 use Rattle.std.proofs.lemmas.Bool.{eq-eqb, eqb-true, false≢true}
-use Rattle.aom_cells.specs.Store.{Changes, IsKept, Store, count, message_at}
+use Rattle.aom_cells.specs.Store.{Changes, Store, count, message_at}
 use Rattle.aom_semantics.specs.Servers.{is_among}
 use Rattle.aom_machine.specs.Clients.{AreKept, Forgets}
 

@@ -46,6 +46,7 @@ pub use Rattle.aom_active.proofs.ActiveLemmas
 pub use Rattle.aom_classes.proofs.ClassesLemmas
 pub use Rattle.aom_determinism.proofs.DeterminismLemmas
 pub use Rattle.aom_image.proofs.ImageLemmas
+pub use Rattle.aom_instructions.proofs.InstructionsLemmas
 pub use Rattle.aom_machine_instructions.proofs.MachineInstructionsLemmas
 pub use Rattle.aom_machine_state.proofs.MachineStateLemmas
 pub use Rattle.aom_progress.proofs.ProgressLemmas

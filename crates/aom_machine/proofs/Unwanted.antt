@@ -14,7 +14,7 @@ use Rattle.aom_roles.specs.Shapes.{kind_of}
 use Rattle.aom_semantics.specs.Requests.{thing_kind}
 use Rattle.aom_semantics.specs.Natives.{native_of}
 use Rattle.aom_semantics.specs.Places.{Going, Object, held}
-use Rattle.aom_semantics.specs.State.{Closing, Destroy, Dispatched, Frame, Home, Run, State, Task, Trapped, Unwind}
+use Rattle.aom_semantics.specs.State.{Destroy, Frame, Home, Run, State, Task}
 use Rattle.aom_semantics.specs.Wanted.{Exchange, exchange_at, wanted, wanted_by, wanted_gone, wanted_task}
 
 module _ (p : Image) (none_named : p.header.natives ≡ 0) (formed : WellFormed p) where

@@ -7,8 +7,9 @@ use Rattle.std.proofs.lemmas.Bool.{eq-eqb, eqb-true, ne_eqb}
 use Rattle.std.proofs.lemmas.Option.{same_Some}
 use Rattle.aom_image.specs.Image.{Image}
 use Rattle.aom_image.specs.Views.{arguments_of, instr_at, method_class}
+use Rattle.aom_instructions.specs.Table.{action_of}
+use Rattle.aom_instructions.specs.declared.action.Action.TheVariants as action
 use Rattle.aom_instructions.specs.declared.instr.Instr.{Instr}
-use Rattle.aom_instructions.specs.declared.instr.Instr.TheVariants.{Cancel, Delete}
 use Rattle.aom_instructions.specs.declared.instr.Target.{Target}
 use Rattle.aom_image.specs.declared.method.Argument.{Argument}
 use Rattle.aom_image.specs.declared.method.Argument.TheVariants.{Own as Takes_own, Word as Takes_word}
@@ -24,6 +25,7 @@ use Rattle.aom_roles.specs.Tables.{at, put_at}
 use Rattle.aom_rules.specs.Typing.{Typing, shape_at}
 use Rattle.aom_shape.specs.declared.kind.Kind.{Kind}
 use Rattle.aom_shape.specs.declared.kind.Kind.TheVariants.{Null, Unset}
+use Rattle.aom_machine.proofs.InstructionsLemmas.{call_is, cancel_is, delete_is, trap_is}
 use Rattle.aom_machine.proofs.SafetyLemmas.{all_parts, each_unslotted_alike, ended_alike, guarded_goes, guarded_met, held_dropped, held_elsewhere, held_served}
 use Rattle.aom_machine.proofs.SafetyLemmas.{held_set_word, method_layer, queue_dropped, redeemed_by_alike, register_fits, rerequested_alike, resessioned_alike}
 use Rattle.aom_machine.proofs.SafetyLemmas.{steps_are_moves}
@@ -40,7 +42,7 @@ use Rattle.aom_semantics.specs.Moves.{answered, asking, counted, dispatch_ends, 
 use Rattle.aom_semantics.specs.Places.{Cell, Elsewhere, Entry, Going, Object, Place, Register, Root}
 use Rattle.aom_semantics.specs.Places.{Session, Sight, held, moved, same_place, service_of, without}
 use Rattle.aom_semantics.specs.State.{Accept_left, Accepted, Accepts, Answered, Asks, Choice, Closing, Destroy, Dispatch, Dispatched, Frame}
-use Rattle.aom_semantics.specs.State.{Goes, Home, Main_left, Need, Object_left, Of_main, Of_object, Of_root, Of_server, Parts, Run, Seat}
+use Rattle.aom_semantics.specs.State.{Goes, Home, Need, Object_left, Of_main, Of_object, Of_root, Of_server, Parts, Run, Seat}
 use Rattle.aom_semantics.specs.State.{Serves, Service_left, Stage, State, Task, Trapped, Unwind, field_place, guarded, resumed, word}
 use Rattle.aom_safety.specs.Steps.{Acts, Arrives, Clears, Comes_out, Empties, Ends, Fits as May, Move, Rests, Undoes, Vanishes}
 use Rattle.aom_safety.specs.WellTyped.{Fits, Good, WellTyped, WordFits}
@@ -255,8 +257,9 @@ module _ (p : Image) (t : Typing) (c : Choice) (s : State) (fr : Frame) (ts : Li
   returns g a (_ ∷ below) e = subst (OthersWait p t over.cells) (sym at_hand) ended_w
 
   -- the object of a register goes
-  deletes_wait : (o : Object) (a : ℕ) → i ≡ Delete a → W (applied p fr ts s (Destroys o a (put_at None fr.words a None)))
-  deletes_wait o a is =
+  destroys_wait : (o : Object) (a : ℕ) → action_of i ≡ action.Destroy a → W (applied p fr ts s (Destroys o a (put_at None fr.words a None)))
+  destroys_wait o a acts =
+      let is = delete_is i a acts in
       let cs = moved (here fr ts s a) (Going (suc (length ts))) s.cells in
       let wordless = no_word _ (subst (λ j. AllTrue (needs p c fr ts s j)) is met).0 in
       let says = emptied p fr ts s s.cells h.shape a (Going (suc (length ts))) (λ j. refl) wordless h.says in
@@ -282,8 +285,8 @@ module _ (p : Image) (t : Typing) (c : Choice) (s : State) (fr : Frame) (ts : Li
   pops cs is same = (grind (arith, nat_tests, begins cs), still_wait p t s.cells cs ts (λ d j lt. same d j) w)
 
   -- and so they do while the method that cancels runs
-  cancels : i ≡ Cancel → AllWait p t (begun_cells fr s.cells) (Run fr ∷ ts)
-  cancels is = grind (arith, nat_tests, rerequested_alike s.cells fr.home, begins, still_wait p t s.cells)
+  cancels : action_of i ≡ action.Cancel → AllWait p t (begun_cells fr s.cells) (Run fr ∷ ts)
+  cancels acts = let is = cancel_is i acts in grind (arith, nat_tests, rerequested_alike s.cells fr.home, begins, still_wait p t s.cells)
 
   -- by its effect; with what words a method waits for an object that goes is told by the instruction
   acts_wait : (e : Effect) → ((o : Object) (a : ℕ) (words : List (Option ℤ)) → e ≡ Destroys o a words → W (applied p fr ts s e)) →
@@ -292,11 +295,15 @@ module _ (p : Image) (t : Typing) (c : Choice) (s : State) (fr : Frame) (ts : Li
   acts_wait (Jumps to) deleted fits = w
   acts_wait (Counts d n) deleted fits = w
   acts_wait (Repeats d n to) deleted fits = w
-  acts_wait (Calls target m first) deleted fits = calls (suc (length ts)) m first (after_of p m) target _ (omega arith)
-      (subst (λ j. AllTrue (needs p c fr ts s j)) fits.1 met) (λ sh. ap (λ j. while_waiting p (Some j) sh) fits.1)
-  acts_wait (Cancels m) deleted fits = cancels fits.0
-  acts_wait (Sets_trap target m first) deleted fits = calls (suc (suc (length ts))) m first (resting p (method_class p m)) target _
-      (omega arith) (subst (λ j. AllTrue (needs p c fr ts s j)) fits.1 met) (λ sh. ap (λ j. while_waiting p (Some j) sh) fits.1)
+  acts_wait (Calls target m first) deleted fits =
+      let is = call_is i target m first fits.0 (ap action_of fits.1) in
+      calls (suc (length ts)) m first (after_of p m) target _ (omega arith)
+      (subst (λ j. AllTrue (needs p c fr ts s j)) is met) (λ sh. ap (λ j. while_waiting p (Some j) sh) is)
+  acts_wait (Cancels m) deleted fits = cancels (ap action_of fits.0)
+  acts_wait (Sets_trap target m first) deleted fits =
+      let is = trap_is i target m first fits.0 (ap action_of fits.1) in
+      calls (suc (suc (length ts))) m first (resting p (method_class p m)) target _
+      (omega arith) (subst (λ j. AllTrue (needs p c fr ts s j)) is met) (λ sh. ap (λ j. while_waiting p (Some j) sh) is)
   acts_wait (Returns g a) deleted fits = returns g a ts refl
   acts_wait (Leaves code u) deleted fits = trapped_wait p t _ ts (still_wait p t s.cells _ ts (updated_same p fr ts s u) w)
   acts_wait (Destroys o a words) deleted fits = deleted o a words refl
@@ -313,15 +320,15 @@ module _ (p : Image) (t : Typing) (c : Choice) (s u : State) (typed : WellTyped 
   over_these : (ts : List Task) → s.tasks ≡ ts → OthersWait p t s.cells ts
   over_these ts top = subst (OthersWait p t s.cells) top others
 
-  -- where `delete` lets an object go
-  deleted : (fr : Frame) (ts : List Task) (i : Instr) (o : Object) (a : ℕ) → s.tasks ≡ Run fr ∷ ts → instr_at p fr.method fr.place ≡ Some i → i ≡ Delete a
-      → held s.cells (Register (length ts) a) ≡ Some o → V u
-  deleted fr ts i o a top there is some =
+  -- where an object of a register goes
+  destroyed : (fr : Frame) (ts : List Task) (i : Instr) (o : Object) (a : ℕ) → s.tasks ≡ Run fr ∷ ts → instr_at p fr.method fr.place ≡ Some i →
+      action_of i ≡ action.Destroy a → held s.cells (Register (length ts) a) ≡ Some o → V u
+  destroyed fr ts i o a top there acts some =
       let mid = requested i (at_step s) in
       let goes_on : guarded (needs p c fr ts mid i) (does p c fr ts mid i) ≡ Goes u = sym (step_of_instr p c s fr ts i top there) ∙ goes in
       let met = guarded_met (needs p c fr ts mid i) (does p c fr ts mid i) u goes_on in
-      let wait = deletes_wait p t c mid fr ts top i there met (runs_typed p t s fr ts typed top) (over_these (Run fr ∷ ts) top) o a is in
-      subst V (sym (ap (λ x. applied p fr ts mid (deletes fr x a)) some) ∙ sym (ap (λ j. does p c fr ts mid j) is)
+      let wait = destroys_wait p t c mid fr ts top i there met (runs_typed p t s fr ts typed top) (over_these (Run fr ∷ ts) top) o a acts in
+      subst V (sym (ap (λ x. applied p fr ts mid (deletes fr x a)) some) ∙ sym (ap (λ j. does p c fr ts mid j) (delete_is i a acts))
       ∙ guarded_goes (needs p c fr ts mid i) (does p c fr ts mid i) u goes_on) wait
 
   main_wait : (v : State) (b : Bool) (root : Option Object) → V (main_ends p b root v)
@@ -376,7 +383,8 @@ module _ (p : Image) (t : Typing) (c : Choice) (s u : State) (typed : WellTyped 
       go (Rests still same) = subst V (sym same) others
       go (Acts fr ts i e top there met fits same) = subst V (sym same)
           (acts_wait p t c (counted p s) fr ts top i there met (runs_typed p t s fr ts typed top) (over_these (Run fr ∷ ts) top) e
-          (λ o a words is. let may = subst (May p c fr ts (counted p s) i) is fits in subst V same (deleted fr ts i o a top there may.0 may.1)) fits)
+          (λ o a words is. let may = subst (May p c fr ts (counted p s) i) is fits in
+          subst V same (destroyed fr ts i o a top there (ap action_of may.0) may.1)) fits)
       go (Vanishes ts o top there owns same) = subst V (sym same) (resumed_wait p t _ ts
           (still_wait p t s.cells _ ts (gone_same (service_of s.cells o.name).sessions (length ts) o.name (length ts) s.cells) (over_these (Destroy ∷ ts) top)))
       go (Empties ts o top there same) = subst V (sym same) (parting_waits ts o (first_session s.cells o.name (service_of s.cells o.name).sessions) top refl)

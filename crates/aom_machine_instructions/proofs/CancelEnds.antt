@@ -9,7 +9,9 @@ use Rattle.aom_image.specs.declared.class.ClassKind.{ClassKind}
 use Rattle.aom_image.specs.declared.method.Method.{Method as Method_declared}
 use Rattle.aom_image.specs.declared.method.Role.{Role}
 use Rattle.aom_image.specs.declared.method.Role.TheVariants.{Cancel}
-use Rattle.aom_instructions.specs.declared.instr.Instr.TheVariants.{Return}
+use Rattle.aom_instructions.specs.Table.{transfer_of}
+use Rattle.aom_instructions.specs.declared.instr.Instr.{Instr}
+use Rattle.aom_instructions.specs.declared.transfer.Transfer.TheVariants as transfer
 use Rattle.aom_roles.specs.Things.{is_object}
 use Rattle.aom_roles.specs.Roles.{is_cancel}
 use Rattle.aom_roles.specs.Kinds.{is_active_kind}
@@ -41,7 +43,7 @@ use Rattle.aom_machine_instructions.specs.Requests.{EndsCancel, IsCancelled, IsO
 use Rattle.aom_machine_instructions.proofs.MachineStateLemmas.{cell_of, cells_asked, natives_asked, services_ended}
 use Rattle.aom_machine_instructions.proofs.FieldActs.{housed, inside_object}
 use Rattle.aom_machine_instructions.proofs.RequestActs.{in_one, requests_set}
-use Rattle.aom_machine_instructions.proofs.Housing.{at_hand, needs_met}
+use Rattle.aom_machine_instructions.proofs.Housing.{at_hand, needs_met, return_needs}
 use Rattle.aom_machine_instructions.proofs.Running.{by_top}
 use Rattle.aom_machine_instructions.proofs.Stepping.{at_step}
 
@@ -116,27 +118,28 @@ module _ (p : Image) (m : Parts) (h : At_hand p m) where
       )
 
 -- what the active objects are asked for as a method returns
-module _ (p : Image) (m : Parts) (a : ℕ) (d : Method_declared) (next : IsNext p (Return a) m) (found : method_at p (method_here m.stack.tasks) ≡ Some d) where
+module _ (p : Image) (m : Parts) (i : Instr) (a : ℕ) (d : Method_declared) (next : IsNext p i m) (is : transfer_of i ≡ transfer.Return a)
+    (found : method_at p (method_here m.stack.tasks) ≡ Some d) where
   cancels_here : d.role ≡ Cancel → IsCancelled Cancel m
   unfolding role_in
   cancels_here role =
-      let n = needs_met p m (Return a) next in
+      let c = (needs_met p m i next).0 in
       let k = counting next.counts m in
       let h = at_hand p k next.stands next.runs in
       let there : method_at p h.frame.method ≡ Some d = ap (method_at p) (sym (method_is p k h)) ∙ found in
       let plays : is_cancel (method_role p h.frame.method) ≡ true = ap (λ o. is_cancel (role_in o)) there ∙ ap (λ r. is_cancel (Some r)) role in
-      let ends = (all_parts (result_needs p h.frame h.below (counted (Return a) (at_step h.state)) (gives_of p h.frame.method) a) _ n.1).1 in
-      told p k h (cancels p k h n.0 (cancels_active p next.stands.1.sound.linked h.frame.method d there role) plays ends.1.1.0) next.runs
+      let ends = (all_parts (result_needs p h.frame h.below (counted i (at_step h.state)) (gives_of p h.frame.method) a) _ (return_needs p m i a next is)).1 in
+      told p k h (cancels p k h c (cancels_active p next.stands.1.sound.linked h.frame.method d there role) plays ends.1.1.0) next.runs
 
   pub is_cancelled : IsCancelled d.role m
   is_cancelled = grind (arith, nat_tests, cancels_here)
 
 -- ---- the machine once the cancel is over
 
-pub is_over : (p : Image) (m : Parts) (a : ℕ) (act : Active) (d : Method_declared) → IsNext p (Return a) m → method_at p (method_here m.stack.tasks) ≡ Some d
-    → EndsCancel d.role m.active act (this m) → IsOver p m act
+pub is_over : (p : Image) (m : Parts) (i : Instr) (a : ℕ) (act : Active) (d : Method_declared) → IsNext p i m → transfer_of i ≡ transfer.Return a →
+    method_at p (method_here m.stack.tasks) ≡ Some d → EndsCancel d.role m.active act (this m) → IsOver p m act
 unfolding role_in
-is_over p m a act d next e ends = record { role = d.role; plays = ap role_in e; was = is_cancelled p m a d next e; ends = ends }
+is_over p m i a act d next is e ends = record { role = d.role; plays = ap role_in e; was = is_cancelled p m i a d next is e; ends = ends }
 
 module _ (p : Image) (m : Parts) (h : At_hand p m) where
   abbrev cells : List Cell

@@ -36,7 +36,7 @@ use Rattle.aom_machine_instructions.proofs.MachineStateLemmas.{word_written, wri
 use Rattle.aom_machine_instructions.proofs.GoingActs.{begins, destructor_same, server_same, dying_shows, fresh_value, fresh_word}
 use Rattle.aom_machine_instructions.proofs.ReturnActs.{none_above}
 use Rattle.aom_machine_instructions.proofs.Running.{agrees_with, aside_moved, aside_of, aside_with, begun_frame, nothing_held, object_small, reframed}
-use Rattle.aom_machine_instructions.proofs.WordActs.{plain_at}
+use Rattle.aom_machine_instructions.proofs.WordActs.{plain_in}
 
 module _ (p : Image) (formed : WellFormed p) (m : Parts) (t : Typing) (s : State) (typed : WellTyped p t s) (agrees : Agrees p m s) where
   deep : length m.stack.tasks ≡ length s.tasks
@@ -115,7 +115,7 @@ module _ (p : Image) (m : Parts) where
       top_lives p (counting next.counts m) next.stands.1.typing next.stands.0 next.stands.1.typed next.stands.1.agrees n.1.1.0
 
 pub pop_delete_does : (p : Image) (m : Parts) (refused : List ℕ) → DoesIn p refused PopDelete m (dealt_with p m)
-pop_delete_does p m refused h here = plain_at p m _ refused PopDelete refl h (λ c needs typed.
+pop_delete_does p m refused = plain_in p m _ refused PopDelete refl (λ h c needs typed.
     let s = h.state in
     subst (Agrees p (dealt_with p m)) (dealing_effect p h.frame h.below s s.items (held s.cells (top_place s.items)) refl refl needs.0 needs.1.0)
     (subst (λ us. Agrees p (dealt_with p m) (deals_with p s.items us s)) h.top (deals p h.formed m h.typing s h.typed h.agrees needs.0 needs.1.0)))

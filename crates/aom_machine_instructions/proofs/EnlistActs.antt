@@ -8,13 +8,14 @@ use Rattle.std.proofs.lemmas.List.Folds.{list_any_at}
 use Rattle.aom_machine_instructions.proofs.ActiveLemmas.{asked_set, newest}
 use Rattle.aom_active.specs.Agrees.{Active, queued}
 use Rattle.aom_active.specs.Meanings.{Enlists}
-use Rattle.aom_cells.specs.Heap.{class_at}
+use Rattle.aom_cells.specs.Heap.{Lives, class_at}
 use Rattle.aom_image.specs.Image.{Image}
 use Rattle.aom_image.specs.declared.method.Thing.TheVariants.{Object as An_object_of}
 use Rattle.aom_instructions.specs.declared.instr.Instr.TheVariants.{Enlist}
 use Rattle.aom_clients.specs.Lists.{IsFree, IsIn, Table, list_at, with_list}
 use Rattle.aom_roles.specs.Classes.{sessions_in}
 use Rattle.aom_machine_instructions.proofs.SafetyLemmas.{requested_here, requested_there, rerequested_alike, service_asked}
+use Rattle.aom_scheduler.specs.Requests.{request_at}
 use Rattle.aom_semantics.specs.Clients.{is_of_class}
 use Rattle.aom_semantics.specs.Requests.{first_request, home_kind, next_order, rerequested}
 use Rattle.aom_semantics.specs.Places.{Cell, Object, Register, Request, Service, Tidy, named, requested, set_request}
@@ -34,10 +35,10 @@ use Rattle.aom_machine_instructions.specs.Going.{is_server_class}
 use Rattle.aom_machine_instructions.specs.Next.{IsNext}
 use Rattle.aom_machine_instructions.proofs.GoingActs.{thing_is}
 use Rattle.aom_machine_instructions.proofs.Housing.{at_hand, needs_met}
-use Rattle.aom_machine_instructions.proofs.RequestActs.{OnObject, asks_on, finds_object, kind_told, named_here}
+use Rattle.aom_machine_instructions.proofs.RequestActs.{OnObject, asks_on, finds_cell, finds_object, fresh_told, kind_told, named_here}
 use Rattle.aom_machine_instructions.proofs.RequestActs.{on_object, own_told, requests_enlisted, thing_here}
 use Rattle.aom_machine_instructions.proofs.Running.{free}
-use Rattle.aom_machine_instructions.proofs.WordActs.{plain_at}
+use Rattle.aom_machine_instructions.proofs.WordActs.{plain_in}
 
 -- ---- the lists of servers, as an object is enlisted
 
@@ -109,6 +110,14 @@ among_in [] n within = absurd within
 among_in (k ∷ ns) n (inl e) = ap (λ b. b || is_among n ns) (eq-eqb k n e)
 among_in (k ∷ ns) n (inr rest) = grind (arith, nat_tests, among_in ns n rest)
 
+module _ (p : Image) (m : Parts) where
+  pub enlist_lives : (priority : ℤ) → IsNext p (Enlist priority) m → Lives m.cells (this m)
+  enlist_lives priority next = finds_cell p m (Enlist priority) next (λ c fr ts s n. n.0)
+
+  -- it is not enlisted yet
+  pub enlist_fresh : (priority : ℤ) → IsNext p (Enlist priority) m → request_at m.active.table (this m) ≡ None
+  enlist_fresh priority next = grind (arith, nat_tests, needs_met p m (Enlist priority) next, finds_object p m (Enlist priority) next, fresh_told p, free)
+
 pub enlist_free : (p : Image) (m : Parts) (priority : ℤ) → IsNext p (Enlist priority) m → IsFree m.listed (this m)
 unfolding at_hand
 enlist_free p m priority next =
@@ -162,7 +171,7 @@ module _ (p : Image) (m : Parts) (h : At_hand p m) (x : OnObject p m h) (priorit
 module _ (p : Image) (m : Parts) (refused : List ℕ) (a : Active) (priority : ℤ) where
   pub enlist_plain_does : is_server_class p (class_at m.cells (this m)) ≡ false →
       Enlists m.active a (this m) priority None → DoesIn p refused (Enlist priority) m (places.next (record m { active = a }))
-  enlist_plain_does plain enlists h at_it = plain_at p m _ refused (Enlist priority) refl h (λ c met typed.
+  enlist_plain_does plain enlists = plain_in p m _ refused (Enlist priority) refl (λ h c met typed.
       let x = on_object p m h met.0 in
       let none = sym (own_told p m h x ∙ ap (requested h.state.cells) x.number) ∙ free _ met.1.0 in
       let is = serving_told p m h x priority none ∙ plain in
@@ -173,7 +182,7 @@ module _ (p : Image) (m : Parts) (refused : List ℕ) (a : Active) (priority : �
   pub enlist_server_does : (class : ℕ) →
       class_at m.cells (this m) ≡ Some class → is_server_class p (Some class) ≡ true → class < 256 → Enlists m.active a (this m) priority (Some false) →
       DoesIn p refused (Enlist priority) m (places.next (record m { active = a; listed = with_list class (list_at m.listed class ++ this m ∷ []) m.listed }))
-  enlist_server_does class told serves small enlists h at_it = plain_at p m _ refused (Enlist priority) refl h (λ c met typed.
+  enlist_server_does class told serves small enlists = plain_in p m _ refused (Enlist priority) refl (λ h c met typed.
       let x = on_object p m h met.0 in
       let none = sym (own_told p m h x ∙ ap (requested h.state.cells) x.number) ∙ free _ met.1.0 in
       let is = serving_told p m h x priority none ∙ ap (is_server_class p) told ∙ serves in

@@ -53,7 +53,7 @@ use Rattle.aom_machine_instructions.proofs.GoingActs.{fresh_with, fresh_as}
 use Rattle.aom_machine_instructions.proofs.Housing.{needs_met, at_hand, needs_say}
 use Rattle.aom_machine_instructions.proofs.ObjectActs.{shown}
 use Rattle.aom_machine_instructions.proofs.ReturnActs.{none_above}
-use Rattle.aom_machine_instructions.proofs.WordActs.{plain_at}
+use Rattle.aom_machine_instructions.proofs.WordActs.{plain_in}
 use Rattle.aom_machine_instructions.proofs.FieldActs.{this_is}
 use Rattle.aom_machine_instructions.proofs.Running.{object_lives_at, object_class, null_unnamed, Aside, Top, agrees_with, aside_of}
 use Rattle.aom_machine_instructions.proofs.Running.{aside_with, by_top, begun_as, object_small, reframed, no_word}
@@ -450,10 +450,9 @@ calling p m target k first trapped us =
 
 pub call_does : (p : Image) (m : Parts) (refused : List ℕ) (target : Target) (k first x : ℕ) →
     DoesIn p refused (Call target k first x) m (with_tasks (calling p m target k first false m.stack.tasks) m)
-call_does p m refused target k first x h here =
+call_does p m refused target k first x = plain_in p m _ refused (Call target k first x) refl (λ h c needs typed.
     let cs = passed p m h false target k first (length h.state.items) in
     let vs = Run (entered p h.frame h.below h.state target k first (length h.state.items)) ∷ Run h.frame ∷ h.below in
-    plain_at p m _ refused (Call target k first x) refl h (λ c needs typed.
     by_top p m h (λ us. Agrees p (with_tasks (calling p m target k first false us) m) (record h.state { cells = cs; tasks = vs }))
     (agrees_entered p m h false target k first (length h.state.items) _ needs))
 
@@ -475,10 +474,9 @@ marked p m s agrees =
 -- under a trap
 pub trap_does : (p : Image) (m : Parts) (refused : List ℕ) (target : Target) (k first x : ℕ)
     → DoesIn p refused (Trap target k first x) m (with_items (Is_mark ∷ m.entries.items) (with_tasks (calling p m target k first true m.stack.tasks) m))
-trap_does p m refused target k first x h here =
+trap_does p m refused target k first x = plain_in p m _ refused (Trap target k first x) refl (λ h c needs typed.
     let height = suc (length h.state.items) in
     let v : State = record h.state { cells = passed p m h true target k first height; tasks = Run (entered p h.frame h.below h.state target k first height) ∷ Trapped ∷ Run h.frame ∷ h.below } in
-    plain_at p m _ refused (Trap target k first x) refl h (λ c needs typed.
     marked p (with_tasks (calling p m target k first true m.stack.tasks) m) v
     (by_top p m h (λ us. Agrees p (with_tasks (calling p m target k first true us) m) v) (agrees_entered p m h true target k first height _ needs)))
 

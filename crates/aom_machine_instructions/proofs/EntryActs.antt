@@ -28,7 +28,7 @@ use Rattle.aom_machine_instructions.proofs.MachineStateLemmas.{and_true, below_s
 use Rattle.aom_machine_instructions.proofs.MachineStateLemmas.{requests_moved, same_items_length, services_moved, top_value, value_alike, value_here}
 use Rattle.aom_machine_instructions.proofs.MachineStateLemmas.{value_popped, value_pushed, value_written, word_written}
 use Rattle.aom_machine_state.specs.declared.parts.Parts.{Parts}
-use Rattle.aom_machine_instructions.specs.Acts.{At_hand, requested, leaving, Does}
+use Rattle.aom_machine_instructions.specs.Acts.{At_hand, requested, leaving, Does, DoesIn}
 use Rattle.aom_machine_state.specs.Places.{others, set_register, value_in, with_items}
 use Rattle.aom_machine_state.specs.Cells.{refuses, refuses_entry, Made}
 use Rattle.aom_machine_state.specs.Places as places
@@ -132,6 +132,7 @@ leaves_if p m fr ts s false off on agrees same needs = agrees
 module _ (m : Parts) (lines : LineBuffer) where
   pub push_does : (a : ℕ) (refused : Bool) → a < 16 → refused ≡ refuses_entry lines m →
       Does lines.refused (Push a) m (cond refused (leaving (negsuc 3) (held_pushed a m)) (held_pushed a m))
+  unfolding DoesIn
   push_does a refused small same p h here =
       let s = h.state in
       let c : Choice = record { name = null; refused = refused; answer = heard_by m } in (
@@ -146,6 +147,7 @@ module _ (m : Parts) (lines : LineBuffer) where
 
   pub push_operation_does : (a k : ℕ) (refused : Bool) → refused ≡ refuses_entry lines m →
       Does lines.refused (PushOperation a k) m (cond refused (leaving (negsuc 3) (held_operation a k m)) (held_operation a k m))
+  unfolding DoesIn
   push_operation_does a k refused same p h here =
       let s = h.state in
       let c : Choice = record { name = null; refused = refused; answer = heard_by m } in (
@@ -161,6 +163,7 @@ module _ (m : Parts) (lines : LineBuffer) where
 
   -- `newl` leaves where it is refused
   pub newl_refused : (a class : ℕ) → true ≡ refuses lines m → Does lines.refused (NewOrLeave a class) m (leaving (negsuc 3) (asked m))
+  unfolding DoesIn
   newl_refused a class full p h here = (
     record { name = null; refused = true; answer = heard_by m },
     record { name = null_unnamed p m h.state h.agrees; refusal = full ∙ same_refusal p lines m h (NewOrLeave a class) here refl; answer = heard_fits m },
@@ -171,6 +174,7 @@ module _ (m : Parts) (lines : LineBuffer) where
 
   pub newl_made : (a class n : ℕ) (heap : Heap) → a < 16 → false ≡ refuses lines m →
       Made class false n m.cells heap → Does lines.refused (NewOrLeave a class) m (places.next (set_register a n (record (asked m) { cells = heap })))
+  unfolding DoesIn
   newl_made a class n heap small granted made p h here = elim made [
     | inl none ↦ absurd (true≢false (sym none.0))
     | inr it ↦ (

@@ -8,8 +8,9 @@ use Rattle.std.proofs.lemmas.Option.{slice_get_within, slice_get-get_or}
 use Rattle.aom_image.specs.Image.{Image}
 use Rattle.aom_image.specs.Views.{method_at, instr_at, instr_in}
 use Rattle.aom_image.specs.WellFormed.{WellFormed, MethodFits}
+use Rattle.aom_instructions.specs.Table.{action_of}
+use Rattle.aom_instructions.specs.declared.action.Action.TheVariants as action
 use Rattle.aom_instructions.specs.declared.instr.Instr.{Instr}
-use Rattle.aom_instructions.specs.declared.instr.Instr.TheVariants.{Delete}
 use Rattle.aom_image.specs.declared.method.Method.{Method}
 use Rattle.aom_machine_instructions.proofs.ClassesLemmas.{all_there, of_method}
 use Rattle.aom_cells.specs.Heap.{Lives, null, class_at}
@@ -17,8 +18,7 @@ use Rattle.aom_rules.specs.Typing.{Typing}
 use Rattle.aom_semantics.specs.Places.{Place, Register, Going, Elsewhere, Root, Object, held}
 use Rattle.aom_semantics.specs.State.{Asks, Frame, Seat, Task, Run, Trapped, Destroy, Unwind, Dispatched, State}
 use Rattle.aom_safety.specs.Claims.{Layer, Method as A_method, Mark, Dying, Unwinding, Dispatching, tasks_of}
-use Rattle.aom_semantics.specs.Moves.{needs}
-use Rattle.aom_safety.specs.WellTyped.{WellTyped, Good, Keeps, Stack, Back, Now, Returns, Caught, Leaves}
+use Rattle.aom_safety.specs.WellTyped.{WellTyped, Good, Stack, Back, Now, Returns, Caught, Leaves}
 use Rattle.aom_safety.specs.Tasks.{Below}
 use Rattle.aom_safety.specs.Traps.{at_traps}
 use Rattle.aom_machine_instructions.proofs.SemanticsLemmas.{held_lives}
@@ -30,7 +30,7 @@ use Rattle.aom_frames.specs.declared.task.Task.TheVariants.{Trapped as Is_trap}
 use Rattle.aom_machine_state.specs.declared.parts.Parts.{Parts}
 use Rattle.aom_machine_state.specs.Places.{IsDestroying, going_here}
 use Rattle.aom_machine_state.specs.Agrees.{SameFrame, SameTasks, number, Agrees}
-use Rattle.aom_machine_instructions.specs.Acts.{At_hand, requested, In_going}
+use Rattle.aom_machine_instructions.specs.Acts.{In_going}
 use Rattle.aom_machine_instructions.specs.Next.{IsNext, counting}
 use Rattle.aom_machine_state.specs.Room.{ReturnsTo}
 use Rattle.aom_machine_state.specs.Stands.{Sound, Stands}
@@ -42,9 +42,10 @@ use Rattle.aom_semantics.specs.State.{Dispatch}
 use Rattle.aom_safety.specs.WellTyped.{Gone}
 use Rattle.aom_machine_instructions.proofs.MachineStateLemmas.{Alike, alike, both_end, both_go, both_run, both_trapped, both_unwind, same_below}
 use Rattle.aom_machine_instructions.proofs.Traps.{code_register}
-use Rattle.aom_machine_instructions.proofs.Running.{by_top, no_word, an_open, object_lives_at}
+use Rattle.aom_machine_instructions.proofs.Housing.{at_hand, destroy_needs}
+use Rattle.aom_machine_instructions.proofs.Running.{by_top, no_word, object_lives_at}
 use Rattle.aom_machine_instructions.proofs.ObjectActs.{shown}
-use Rattle.aom_machine_instructions.proofs.Stepping.{met, frame_of, going_of, at_step, step_of_instr, cell_found}
+use Rattle.aom_machine_instructions.proofs.Stepping.{frame_of, going_of, cell_found}
 use Rattle.aom_machine_instructions.proofs.GoingActs.{by_going, going_object, number_of}
 use Rattle.aom_semantics.specs.Objects.{is_no_message}
 
@@ -99,38 +100,15 @@ module _ (p : Image) (m : Parts) (t : Typing) (s : State) (typed : WellTyped p t
 pub class_fits : (p : Image) (m : Parts) (s : State) → Agrees p m s → (n : ℕ) → IfSome (class_at m.cells n) (λ class. class < 256)
 class_fits p m s agrees n = grind (arith, nat_tests)
 
--- what `delete` finds in its register is null or lives
-pub deletes_living : (p : Image) (m : Parts) (a : ℕ) → IsNext p (Delete a) m → (register_here m.stack.tasks a ≡ null → ⊥) →
-    Lives m.cells (register_here m.stack.tasks a)
-deletes_living p counted a next some =
+-- what a destruction finds in its register is null or lives
+pub destroys_living : (p : Image) (m : Parts) (i : Instr) (a : ℕ) → IsNext p i m → action_of i ≡ action.Destroy a →
+    (register_here m.stack.tasks a ≡ null → ⊥) → Lives m.cells (register_here m.stack.tasks a)
+destroys_living p counted i a next is some =
     let m = counting next.counts counted in
-    let st = next.stands in
-    let runs = next.runs in
-    let here = next.here in
-    let t = st.1.typing in
-    let s = st.0 in
-    let f = frame_of m.stack.tasks s.tasks runs st.1.agrees.tasks in
-    let fr = f.0 in
-    let ts = f.1 in
-    let e : instr_at p fr.method fr.place ≡ Some (Delete a) = grind (arith, nat_tests) in
-    let c = an_open p [] m s st.1.agrees in
-    let k = met p t (needs p c.0 fr ts (requested (Delete a) (at_step s)) (Delete a)) _
-    (subst (Keeps p t) (step_of_instr p c.0 s fr ts (Delete a) f.2 e) (st.1.sound.keeps c.0 s st.1.typed c.1.name)) in
-    let h : At_hand p m = record {
-      typing = t;
-      state = s;
-      frame = fr;
-      below = ts;
-      top = f.2;
-      formed = st.1.sound.formed;
-      linked = st.1.sound.linked;
-      wired = st.1.sound.wired;
-      typed = st.1.typed;
-      kept = st.1.kept;
-      agrees = st.1.agrees;
-    } in
-    by_top p m h (λ us. (register_here us a ≡ null → ⊥) → Lives m.cells (register_here us a))
-    (λ f ms top some. number_lives p m t s st.1.typed st.1.agrees (Register (length ts) a) _ k.0.1.0 (shown p m h f ms top a (no_word _ k.0.0)) some) some
+    let h = at_hand p m next.stands next.runs in
+    let n = destroy_needs p counted i a next is in
+    by_top p m h (λ us. (register_here us a ≡ null → ⊥) → Lives m.cells (register_here us a)) (λ f ms top some. number_lives p m h.typing h.state h.typed
+    h.agrees (Register (length h.below) a) _ n.1.1.0 (shown p m h f ms top a (no_word _ n.1.0)) some) some
 
 pub root_lives : (p : Image) (m : Parts) → Stands (record { image = p; parts = m }) → (m.root ≡ null → ⊥) → Lives m.cells m.root
 root_lives p m st some = number_lives p m st.1.typing st.0 st.1.typed st.1.agrees (Elsewhere Root) m.root (root_cell p st.1.typing st.0 st.1.typed)

@@ -12,7 +12,9 @@ use Rattle.std.proofs.lemmas.Option.{same_Some}
 use Rattle.std.proofs.lemmas.Bool.{eqb-true, eq-eqb}
 use Rattle.std.proofs.lemmas.List.{length-set}
 use Rattle.aom_image.specs.Image.{Image}
-use Rattle.aom_instructions.specs.declared.instr.Instr.TheVariants.{Delete}
+use Rattle.aom_instructions.specs.Table.{action_of}
+use Rattle.aom_instructions.specs.declared.action.Action.TheVariants as action
+use Rattle.aom_instructions.specs.declared.instr.Instr.{Instr}
 use Rattle.aom_image.specs.declared.method.Thing.{Thing}
 use Rattle.aom_image.specs.declared.method.Thing.TheVariants.{Message, Object as An_object_of}
 use Rattle.aom_cells.specs.Heap.{Heap, null, cell_at, class_at, class_of, field_at, Changes}
@@ -47,11 +49,10 @@ use Rattle.aom_machine_state.specs.declared.parts.Parts.{Parts}
 use Rattle.aom_machine_state.specs.Places.{others, Others, value_in, going_in, with_tasks}
 use Rattle.aom_machine_instructions.specs.Going.{begun, destructed, destructor_in, destructor_at, dying, is_server_class, uprooted}
 use Rattle.aom_machine_state.specs.Agrees.{word_at, Represents, SameTasks, thing_in, number, Agrees}
-use Rattle.aom_machine_instructions.specs.Acts.{requested, In_going, DoesIn}
+use Rattle.aom_machine_instructions.specs.Acts.{At_hand, In_going, DoesIn}
 use Rattle.aom_machine_instructions.proofs.Running.{begun_as, Aside, agrees_with, aside_moved, object_class, object_small, object_there, Top}
 use Rattle.aom_machine_instructions.proofs.Running.{by_top, reframed, moved_on, begun_registers, word_here, no_word, nothing_held, some_held}
-use Rattle.aom_machine_instructions.proofs.ObjectActs.{shown}
-use Rattle.aom_machine_instructions.proofs.WordActs.{plain_at}
+use Rattle.aom_machine_instructions.proofs.ObjectActs.{destroy_does, shown}
 use Rattle.aom_frames.specs.declared.item.Item.{Item}
 
 -- a method at its first place shows nothing, and has no word
@@ -131,23 +132,24 @@ module _ (p : Image) (m : Parts) (v : State) (us : List Machine_task) (ts : List
       ∙ ap (λ x. cond (same_place there q) None x) (ew q)) (λ q. ap (λ l. held l q) moves_so ∙ held_moved cs from there q empty)
 
 module _ (p : Image) (m : Parts) (refused : List ℕ) where
-  pub delete_does : (a : ℕ) → a < 16 → (register_here m.stack.tasks a ≡ null → ⊥)
-      → DoesIn p refused (Delete a) m (with_tasks (dying p m.cells (register_here m.stack.tasks a) (on_top (with_register a null) m.stack.tasks)) m)
-  delete_does a small is h here = plain_at p m _ refused (Delete a) refl h (λ c needs typed. by_top p m h
+  -- the destruction of what a register has
+  pub destroy_object_does : (i : Instr) (a : ℕ) → action_of i ≡ action.Destroy a → a < 16 → (register_here m.stack.tasks a ≡ null → ⊥)
+      → DoesIn p refused i m (with_tasks (dying p m.cells (register_here m.stack.tasks a) (on_top (with_register a null) m.stack.tasks)) m)
+  destroy_object_does i a is small some = destroy_does m refused p _ i a is (λ h c needs. by_top p m h
       (λ us. (register_here us a ≡ null → ⊥) → Agrees p (with_tasks (dying p m.cells (register_here us a) (on_top (with_register a null) us)) m)
-      (applied p h.frame h.below (requested (Delete a) h.state) (deletes h.frame (held h.state.cells (Register (length h.below) a)) a)))
-      (λ f ms top is. let x = some_held (held h.state.cells (Register (length h.below) a)) (λ n. is (shown p m h f ms top a (no_word _ needs.0) ∙ n)) in
-      subst (λ o. Agrees p (deleted f ms) (applied p h.frame h.below (requested (Delete a) h.state) (deletes h.frame o a))) (sym x.1)
-      (object f ms top (no_word _ needs.0) x.0 x.1 (sym (ap is_no_message x.1) ∙ needs.1.0))) is)
+      (applied p h.frame h.below h.state (deletes h.frame (held h.state.cells (Register (length h.below) a)) a)))
+      (λ f ms top some. let x = some_held (held h.state.cells (Register (length h.below) a)) (λ n. some (shown p m h f ms top a (no_word _ needs.0) ∙ n)) in
+      subst (λ o. Agrees p (deleted f ms) (applied p h.frame h.below h.state (deletes h.frame o a))) (sym x.1)
+      (object h f ms top (no_word _ needs.0) x.0 x.1 (sym (ap is_no_message x.1) ∙ needs.1.0))) some)
     where
       deleted : Machine_frame → List Machine_task → Parts
       deleted f ms =
           with_tasks (dying p m.cells (slice_index_or f.registers a null) (Runs_frame (record f { registers = slice_set f.registers a null }) ∷ ms)) m
 
-      object : (f : Machine_frame) (ms : List Machine_task) → Top m h.state h.frame h.below f ms →
+      object : (h : At_hand p m) (f : Machine_frame) (ms : List Machine_task) → Top m h.state h.frame h.below f ms →
           word h.frame a ≡ None → (o : Object) → held h.state.cells (Register (length h.below) a) ≡ Some o → is_object o.thing ≡ true
-          → Agrees p (deleted f ms) (applied p h.frame h.below (requested (Delete a) h.state) (deletes h.frame (Some o) a))
-      object f ms top none o e cell =
+          → Agrees p (deleted f ms) (applied p h.frame h.below h.state (deletes h.frame (Some o) a))
+      object h f ms top none o e cell =
           let s = h.state in
           let fr = h.frame in
           let ts = h.below in

@@ -1,15 +1,20 @@
--- The cell of the method that runs lives, and where an instruction reads or writes its words there is one.
+-- The cell of the method that runs lives; the needs of the instruction that is next are met; and where it reads or writes words of its method there is a cell.
 use Rattle.std.proofs.lemmas.Bool.Decides.{nat_tests}
 use Rattle.std.proofs.Common.{arith, List, ◌≡◌, ℕ, true, [], Some, subst}
 use Rattle.std.specs.Prelude.{nat_lt}
 use Rattle.aom_image.specs.Image.{Image}
 use Rattle.aom_image.specs.Views.{instr_at}
+use Rattle.aom_instructions.specs.Table.{action_of, transfer_of}
+use Rattle.aom_instructions.specs.declared.action.Action.TheVariants as action
 use Rattle.aom_instructions.specs.declared.instr.Instr.{Instr}
+use Rattle.aom_instructions.specs.declared.transfer.Transfer.TheVariants as transfer
 use Rattle.aom_roles.specs.Tests.{AllTrue}
 use Rattle.aom_roles.specs.Things.{holder_of, word_count}
 use Rattle.aom_cells.specs.Heap.{Lives}
+use Rattle.aom_semantics.specs.Calls.{needs_return}
 use Rattle.aom_semantics.specs.State.{Choice, Frame, State, Task}
 use Rattle.aom_semantics.specs.Moves.{needs}
+use Rattle.aom_semantics.specs.Objects.{needs_delete}
 use Rattle.aom_safety.specs.WellTyped.{Keeps}
 use Rattle.aom_frames.specs.Tasks.{Runs}
 use Rattle.aom_machine_state.specs.declared.parts.Parts.{Parts}
@@ -17,6 +22,7 @@ use Rattle.aom_machine_instructions.specs.Acts.{At_hand, requested}
 use Rattle.aom_machine_state.specs.Fields.{this, ThisLives}
 use Rattle.aom_machine_instructions.specs.Next.{IsNext, counting}
 use Rattle.aom_machine_state.specs.Stands.{Stands}
+use Rattle.aom_machine_instructions.proofs.InstructionsLemmas.{delete_is, return_is}
 use Rattle.aom_machine_instructions.proofs.Running.{an_open}
 use Rattle.aom_machine_instructions.proofs.Stepping.{met, frame_of, at_step, step_of_instr}
 use Rattle.aom_machine_instructions.proofs.FieldActs.{is_housed, has_cell}
@@ -56,6 +62,22 @@ module _ (p : Image) (m : Parts) where
         c.0,
         k.0,
       )
+
+  -- those of one that returns
+  pub return_needs : (i : Instr) (a : ℕ) (next : IsNext p i m) → transfer_of i ≡ transfer.Return a →
+      (let h = at_hand p (counting next.counts m) next.stands next.runs in AllTrue (needs_return p h.frame h.below (requested i (at_step h.state)) a))
+  return_needs i a next is =
+      let h = at_hand p (counting next.counts m) next.stands next.runs in
+      let n = needs_met i next in
+      subst (λ j. AllTrue (needs p n.0 h.frame h.below (requested i (at_step h.state)) j)) (return_is i a is) n.1
+
+  -- those of one that destroys
+  pub destroy_needs : (i : Instr) (a : ℕ) (next : IsNext p i m) → action_of i ≡ action.Destroy a → (c : Choice) ×
+      (let h = at_hand p (counting next.counts m) next.stands next.runs in AllTrue (needs_delete p c h.frame h.below (requested i (at_step h.state)) a))
+  destroy_needs i a next is =
+      let h = at_hand p (counting next.counts m) next.stands next.runs in
+      let n = needs_met i next in
+      (n.0, subst (λ j. AllTrue (needs p n.0 h.frame h.below (requested i (at_step h.state)) j)) (delete_is i a is) n.1)
 
   -- so is what they say
   pub needs_say : (i : Instr) (Q : Type 0) → ((c : Choice) (fr : Frame) (ts : List Task) (s : State) → AllTrue (needs p c fr ts s i) → Q) → IsNext p i m → Q

@@ -96,8 +96,9 @@ module _ (m : Parts) (refused : List ℕ) where
   left_with p h a some free = subst (λ w. Agrees p (leaving (cast_signed w32 (register_here m.stack.tasks a)) m) (applied p h.frame h.below h.state
       (Leaves w Same))) (word_read p m h a some) (leaves_at p m h.state h.frame h.below (cast_signed w32 (register_here m.stack.tasks a)) h.top h.agrees free)
 
-  pub leave_does : (a : ℕ) → Does refused (Leave a) m (leaving (cast_signed w32 (register_here m.stack.tasks a)) m)
-  leave_does a = plain_does m (leaving (cast_signed w32 (register_here m.stack.tasks a)) m) refused (Leave a) refl (λ p h c met. left_with p h a met.0 met.1.1.0)
+  pub leave_does : (a : ℕ) (code : ℤ) → code ≡ cast_signed w32 (register_here m.stack.tasks a) → Does refused (Leave a) m (leaving code m)
+  leave_does a code is = subst (λ w. Does refused (Leave a) m (leaving w m)) (sym is)
+      (plain_does m (leaving (cast_signed w32 (register_here m.stack.tasks a)) m) refused (Leave a) refl (λ p h c met. left_with p h a met.0 met.1.1.0))
 
   left_negative : (a : ℕ) → int_lt (cast_signed w32 (register_here m.stack.tasks a)) (pos 0) ≡ true →
       Does refused (LeaveIf a) m (leaving (cast_signed w32 (register_here m.stack.tasks a)) m)

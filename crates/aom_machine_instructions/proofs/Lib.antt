@@ -34,7 +34,6 @@ mod EntryActs
 mod DealActs
 mod Topping
 mod Resulting
-mod Silent
 mod Standing
 mod UnwindActs
 mod Vanishing
@@ -45,6 +44,7 @@ pub use Rattle.aom_active.proofs.ActiveLemmas
 pub use Rattle.aom_classes.proofs.ClassesLemmas
 pub use Rattle.aom_families.proofs.FamiliesLemmas
 pub use Rattle.aom_image.proofs.ImageLemmas
+pub use Rattle.aom_instructions.proofs.InstructionsLemmas
 pub use Rattle.aom_machine_state.proofs.MachineStateLemmas
 pub use Rattle.aom_progress.proofs.ProgressLemmas
 pub use Rattle.aom_roles.proofs.RolesLemmas

@@ -1,6 +1,6 @@
 -- A destructor returns to the going of its cell: the next of the line begins, if there is one.
 use Rattle.std.proofs.lemmas.Bool.Decides.{nat_tests}
-use Rattle.std.proofs.Common.{IsSome, List, None, Some, ap, arith, cond, length, refl, subst, sym, true, ℕ, ◌<◌, ◌∙◌, ◌∷◌, ◌≡◌}
+use Rattle.std.proofs.Common.{IsSome, List, None, Some, ap, arith, cond, length, subst, sym, true, ℕ, ◌<◌, ◌∙◌, ◌∷◌, ◌≡◌}
 use Rattle.std.specs.Prelude.{is_some}
 use Rattle.std.proofs.lemmas.Bool.{eq-eqb}
 use Rattle.aom_machine_instructions.proofs.ImageLemmas.{some_given}
@@ -8,7 +8,9 @@ use Rattle.aom_image.specs.Image.{Image}
 use Rattle.aom_image.specs.Views.{class_in, gives_of, method_at, method_class}
 use Rattle.aom_image.specs.declared.method.Gives.TheVariants.{Nothing}
 use Rattle.aom_image.specs.declared.method.Role.TheVariants.{Destruct}
-use Rattle.aom_instructions.specs.declared.instr.Instr.TheVariants.{Return}
+use Rattle.aom_instructions.specs.Table.{transfer_of}
+use Rattle.aom_instructions.specs.declared.instr.Instr.{Instr}
+use Rattle.aom_instructions.specs.declared.transfer.Transfer.TheVariants as transfer
 use Rattle.aom_roles.specs.Families.{parent_above}
 use Rattle.aom_active.specs.Agrees.{Active}
 use Rattle.aom_machine_instructions.proofs.FamiliesLemmas.{families_inherit}
@@ -34,9 +36,8 @@ use Rattle.aom_machine_instructions.specs.Requests.{IsOver}
 use Rattle.aom_machine_instructions.proofs.CancelEnds.{ended_agrees}
 use Rattle.aom_machine_instructions.proofs.GoingActs.{destructs}
 use Rattle.aom_machine_instructions.proofs.LeavingActs.{none_owned}
-use Rattle.aom_machine_instructions.proofs.ReturnActs.{to_waiting}
+use Rattle.aom_machine_instructions.proofs.ReturnActs.{return_does, to_waiting}
 use Rattle.aom_machine_instructions.proofs.Running.{Top, aside_of, by_top}
-use Rattle.aom_machine_instructions.proofs.WordActs.{plain_at}
 
 -- what follows in a line is of a class
 next_class : (p : Image) (k m : ℕ) → next_destructor p m ≡ Some k → (c : ℕ) × (method_class p k ≡ Some c)
@@ -49,7 +50,8 @@ pub next_there : (p : Image) (k m : ℕ) → next_destructor p m ≡ Some k → 
 next_there p k m e = some_given (λ q. class_destructor p q ≡ Some k) (parent_above p m) e (λ none. cc)
     (λ c at role. ap is_some (families_inherit.roles p c k Destruct role).there)
 
-module _ (p : Image) (m : Parts) (refused : List ℕ) (a : ℕ) (act : Active) (is_over : IsOver p m act) where
+module _ (p : Image) (m : Parts) (refused : List ℕ) (i : Instr) (a : ℕ) (is_return : transfer_of i ≡ transfer.Return a) (act : Active)
+    (is_over : IsOver p m act) where
   abbrev mid : Parts
   mid = record m { active = act }
 
@@ -91,8 +93,8 @@ module _ (p : Image) (m : Parts) (refused : List ℕ) (a : ℕ) (act : Active) (
   abbrev pub goes : List Machine_task → Parts
   goes us = with_tasks (destructed p (next_destructor p (method_here us)) (going_here (below_first us)) (below_first us)) mid
 
-  pub return_to_going : IsDestroying (below_first m.stack.tasks) → DoesIn p refused (Return a) m (goes m.stack.tasks)
-  return_to_going going h here = plain_at p m (goes m.stack.tasks) refused (Return a) refl h (λ c needs typed.
+  pub return_to_going : IsDestroying (below_first m.stack.tasks) → DoesIn p refused i m (goes m.stack.tasks)
+  return_to_going going = return_does p m (goes m.stack.tasks) refused i a is_return (λ h needs typed.
       let met = all_parts (result_needs p h.frame h.below h.state (gives_of p h.frame.method) a) _ needs in
       by_top p m h (λ us. IsDestroying (below_first us) → Agrees p (goes us) (after h h.below))
       (λ f ms top has. go h f ms h.below h.top (top_over h h.below f ms top) (tops A_going ms has) (alike ms h.below top.below) met.1.1.0) going)

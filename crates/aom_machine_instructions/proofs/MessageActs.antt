@@ -15,18 +15,18 @@ use Rattle.aom_frames.specs.declared.task.Task.TheVariants.{Run as Runs_frame}
 use Rattle.aom_cells.specs.Heap.{Heap}
 use Rattle.aom_image.specs.Image.{Image}
 use Rattle.aom_image.specs.declared.method.Thing.TheVariants.{Message}
-use Rattle.aom_instructions.specs.declared.instr.Instr.TheVariants.{Reply, TakeMessage}
+use Rattle.aom_instructions.specs.declared.instr.Instr.TheVariants.{TakeMessage}
 use Rattle.aom_roles.specs.Tests.{AllTrue}
 use Rattle.aom_machine_state.specs.LineBuffer.{LineBuffer}
 use Rattle.aom_cells.specs.Store.{Changes, Store, count, first_number}
 use Rattle.aom_roles.specs.Tables.{put_at}
 use Rattle.aom_machine_instructions.proofs.SemanticsLemmas.{held_moved, held_without}
 use Rattle.aom_machine_instructions.proofs.SafetyLemmas.{has_sender, stands_message}
+use Rattle.aom_semantics.specs.Calls.{needs_reply}
 use Rattle.aom_semantics.specs.Lines.{message_line}
-use Rattle.aom_semantics.specs.Moves.{needs}
 use Rattle.aom_semantics.specs.Objects.{is_thing}
 use Rattle.aom_semantics.specs.Places.{Elsewhere, In_service, Object, Place, Register, changed, held, moved, service_of, without}
-use Rattle.aom_semantics.specs.State.{Choice, Run, State, next, set_word}
+use Rattle.aom_semantics.specs.State.{Run, State, next, set_word}
 use Rattle.aom_semantics.specs.Tokens.{order_in, redeemed_by, token_of}
 use Rattle.aom_semantics.specs.Words.{read}
 use Rattle.aom_cells.specs.Tokens.{class_at}
@@ -38,7 +38,7 @@ use Rattle.aom_machine_state.specs.Serving.{message_name}
 use Rattle.aom_machine_instructions.proofs.MachineStateLemmas.{cells_completed, cells_moved, completed_lines, message_sent, message_told, moves}
 use Rattle.aom_machine_instructions.proofs.MachineStateLemmas.{natives_completed, natives_moved, requests_completed, requests_moved, served_written}
 use Rattle.aom_machine_instructions.proofs.MachineStateLemmas.{services_completed, services_moved, value_written, was_taken, word_written}
-use Rattle.aom_machine_instructions.specs.Acts.{At_hand, Does, Tells}
+use Rattle.aom_machine_instructions.specs.Acts.{At_hand, Does}
 use Rattle.aom_machine_instructions.specs.Serving.{Completes, completion_lines}
 use Rattle.aom_machine_instructions.proofs.GoingOn.{framed, goes_on_with, written}
 use Rattle.aom_machine_instructions.proofs.ObjectActs.{shown_here}
@@ -88,8 +88,8 @@ pub record InRegister (p : Image) (m : Parts) (h : At_hand p m) (a : ℕ) : Type
   pub message : object.thing ≡ Message
   pub number : object.name ≡ register_here m.stack.tasks a
 
-pub in_register : (p : Image) (m : Parts) (h : At_hand p m) (a b : ℕ) (c : Choice) → AllTrue (needs p c h.frame h.below h.state (Reply a b)) → InRegister p m h a
-in_register p m h a b c met = go (held h.state.cells (Register (length h.below) a)) refl met.1.0 met.1.1.0
+pub in_register : (p : Image) (m : Parts) (h : At_hand p m) (a b : ℕ) → AllTrue (needs_reply p h.frame h.below h.state a b) → InRegister p m h a
+in_register p m h a b met = go (held h.state.cells (Register (length h.below) a)) refl met.1.0 met.1.1.0
   where
     go : (x : Option Object) → held h.state.cells (Register (length h.below) a) ≡ x → is_some (held h.state.cells (Register (length h.below) a)) ≡ true →
         is_thing p Message (held h.state.cells (Register (length h.below) a)) ≡ true → InRegister p m h a
@@ -120,61 +120,67 @@ module _ (p : Image) (m : Parts) (h : At_hand p m) (a : ℕ) (x : InRegister p m
   pub it_was_sent : has_sender h.state.cells x.object.name ≡ true
   it_was_sent = message_sent p h.typing h.state h.typed (Register (length h.below) a) x.object x.there x.message h.kept.fit.sources no_token_there
 
-module _ (m : Parts) where
-  pub reply_does : (refused : List ℕ) (a b place : ℕ) (store : Store) → a < 16 → first_number + place ≡ register_here m.stack.tasks a →
-      class_at m.tokens place ≡ None → Changes m.messages store place None → count store + 1 ≡ count m.messages →
-      Does refused (Reply a b) m (places.next (record (set_register a null m) { clients = after_complete place m.clients; messages = store }))
-  reply_does refused a b place store small named sent gone fewer = plain_does m
-      (places.next (record (set_register a null m) { clients = after_complete place m.clients; messages = store })) refused (Reply a b) refl (λ p h c met.
-      let s = h.state in
-      let x = in_register p m h a b c met in
-      let g = Register (length h.below) a in
-      let name : x.object.name ≡ message_name place = x.number ∙ sym named in
-      let mid = record m { clients = after_complete place m.clients; messages = store } in
-      subst (λ order. Agrees p (places.next (record (set_register a null m) { clients = after_complete place m.clients; messages = store }))
-      (replied p h a b order)) (sym (nothing_told p m h a x place name sent)) (goes_on_with p m h mid (without g s.cells) s.items s.rest
-      (put_at None h.frame.words a None) (on_top (with_register a null)) (with_register a null) (λ f ms. refl) (record {
-        stack = refl;
-        cells = cells_completed p h.typing s h.typed g x.object x.there x.message place name m.cells h.agrees.cells;
-        entries = h.agrees.entries;
-        requests = requests_completed p h.typing s h.typed g x.object x.there x.message place name m.active h.agrees.requests;
-        natives = natives_completed p h.typing s h.typed g x.object x.there x.message place name m.sessions h.formed.header.cells h.agrees.natives;
-        services = services_completed p h.typing s h.typed g x.object x.there x.message place name h.wired h.kept refl
-            (it_was_sent p m h a x place name sent) m.clients m.messages m.tokens m.listed h.agrees.services store gone fewer;
-        rest = h.agrees.rest;
-        room = h.agrees.entry_room;
-      })
-      (λ f ms e top. written p m h mid (without g s.cells) a null None None small refl f ms top
-      (completed_values (Runs_frame f ∷ ms) m.cells m.entries.items (others m) place) (held_without s.cells g))))
+-- where a register's message is replied to
+module _ (p : Image) (m : Parts) (h : At_hand p m) (a b : ℕ) (met : AllTrue (needs_reply p h.frame h.below h.state a b)) where
+  abbrev g : Place
+  g = Register (length h.below) a
 
-  -- its line
-  pub reply_tells : (told : LineBuffer) (a b place : ℕ) (code : ℤ) →
-      first_number + place ≡ register_here m.stack.tasks a → code ≡ cast_signed w32 (register_here m.stack.tasks b) →
-      Tells (Reply a b) m told (record told { lines = told.lines ++ completion_lines (completion (place_at m.clients place)) code })
-  reply_tells told a b place code named read p h c met =
-      let s = h.state in
-      let x = in_register p m h a b c met in
-      let g = Register (length h.below) a in
-      let name : x.object.name ≡ message_name place = x.number ∙ sym named in
-      let taken = was_taken p h.typing s h.typed g x.object x.there x.message place name h.wired h.kept refl m.clients h.agrees.services.clients in
-      ap (λ l. record told { lines = told.lines ++ l })
-      (lines_so (completion (place_at m.clients place)) code ∙ sym (message_told m.clients s.cells s.clients h.agrees.services.clients x.object place code
-      name taken) ∙ ap (λ o. message_line s.cells o code) (sym x.there) ∙ ap (message_line s.cells (held s.cells g)) (read ∙ word_read p m h b met.1.1.1.0))
-    where
-      lines_so : (x : Option Completion) (code : ℤ) → completion_lines x code ≡ completed_lines code x
-      lines_so None code = refl
-      lines_so (Some x) code = refl
+  it : InRegister p m h a
+  it = in_register p m h a b met
 
--- ---- as the code does it
+  module _ (place : ℕ) (named : first_number + place ≡ register_here m.stack.tasks a) where
+    name : it.object.name ≡ message_name place
+    name = it.number ∙ sym named
 
--- the register is null, the message is completed, and the method goes on
+    -- the machine with that message completed stands for the state then
+    complete_agrees : (store : Store) → a < 16 → class_at m.tokens place ≡ None → Changes m.messages store place None → count store + 1 ≡ count m.messages →
+        Agrees p (places.next (record (set_register a null m) { clients = after_complete place m.clients; messages = store }))
+        (replied p h a b (token_of h.state.cells (held h.state.cells g)))
+    complete_agrees store small sent gone fewer =
+        let s = h.state in
+        let mid = record m { clients = after_complete place m.clients; messages = store } in
+        subst (λ order. Agrees p (places.next (record (set_register a null m) { clients = after_complete place m.clients; messages = store }))
+        (replied p h a b order)) (sym (nothing_told p m h a it place name sent)) (goes_on_with p m h mid (without g s.cells) s.items s.rest
+        (put_at None h.frame.words a None) (on_top (with_register a null)) (with_register a null) (λ f ms. refl) (record {
+          stack = refl;
+          cells = cells_completed p h.typing s h.typed g it.object it.there it.message place name m.cells h.agrees.cells;
+          entries = h.agrees.entries;
+          requests = requests_completed p h.typing s h.typed g it.object it.there it.message place name m.active h.agrees.requests;
+          natives = natives_completed p h.typing s h.typed g it.object it.there it.message place name m.sessions h.formed.header.cells h.agrees.natives;
+          services = services_completed p h.typing s h.typed g it.object it.there it.message place name h.wired h.kept refl
+              (it_was_sent p m h a it place name sent) m.clients m.messages m.tokens m.listed h.agrees.services store gone fewer;
+          rest = h.agrees.rest;
+          room = h.agrees.entry_room;
+        })
+        (λ f ms e top. written p m h mid (without g s.cells) a null None None small refl f ms top
+        (completed_values (Runs_frame f ∷ ms) m.cells m.entries.items (others m) place) (held_without s.cells g)))
+
+    -- and its line is what the message's sender is told
+    complete_lines : (code : ℤ) → code ≡ cast_signed w32 (register_here m.stack.tasks b) →
+        completion_lines (completion (place_at m.clients place)) code ≡ message_line h.state.cells (held h.state.cells g) (read h.frame h.below h.state b)
+    complete_lines code is =
+        let s = h.state in
+        let taken = was_taken p h.typing s h.typed g it.object it.there it.message place name h.wired h.kept refl m.clients h.agrees.services.clients in
+        lines_so (completion (place_at m.clients place)) code ∙ sym (message_told m.clients s.cells s.clients h.agrees.services.clients it.object place code
+        name taken) ∙ ap (λ o. message_line s.cells o code) (sym it.there) ∙ ap (message_line s.cells (held s.cells g)) (is ∙ word_read p m h b met.1.1.1.0)
+      where
+        lines_so : (x : Option Completion) (code : ℤ) → completion_lines x code ≡ completed_lines code x
+        lines_so None code = refl
+        lines_so (Some x) code = refl
+
+-- as the code does it: the register is null, the message is completed, and the method goes on
 module _ (m mid new : Parts) (told now : LineBuffer) (n : ℕ) (code : ℤ)
     (a b : ℕ) (emptied : mid ≡ set_register a null m) (number_so : n ≡ register_here m.stack.tasks a) (completes : Completes n code mid new told now) where
-  pub reply_done : (refused : List ℕ) (last : Parts) → class_at mid.tokens completes.place ≡ None → a < 16 → last ≡ places.next new → Does refused (Reply a b) m last
-  reply_done refused last sent small goes_on =
-      grind (arith, nat_tests, reply_does m refused a b completes.place new.messages small (completes.number ∙ number_so))
+  pub completed_agrees : (last : Parts) → class_at mid.tokens completes.place ≡ None → a < 16 → last ≡ places.next new →
+      (p : Image) (h : At_hand p m) → AllTrue (needs_reply p h.frame h.below h.state a b) →
+      Agrees p last (replied p h a b (token_of h.state.cells (held h.state.cells (Register (length h.below) a))))
+  completed_agrees last sent small goes_on p h met =
+      grind (arith, nat_tests, complete_agrees p m h a b met completes.place (completes.number ∙ number_so) new.messages small)
 
-  pub reply_told : code ≡ cast_signed w32 (register_here m.stack.tasks b) → Tells (Reply a b) m told now
-  reply_told read = subst (λ x. Tells (Reply a b) m told x) (sym (completes.line ∙ ap (λ (x : Parts). record told {
+  pub completed_told : code ≡ cast_signed w32 (register_here m.stack.tasks b) → (p : Image) (h : At_hand p m) →
+      AllTrue (needs_reply p h.frame h.below h.state a b) → now ≡ record told {
+        lines = told.lines ++ message_line h.state.cells (held h.state.cells (Register (length h.below) a)) (read h.frame h.below h.state b);
+      }
+  completed_told is p h met = completes.line ∙ ap (λ (x : Parts). record told {
     lines = told.lines ++ completion_lines (completion (place_at x.clients completes.place)) code;
-  }) emptied)) (reply_tells m told a b completes.place code (completes.number ∙ number_so) read)
+  }) emptied ∙ ap (λ ls. record told { lines = told.lines ++ ls }) (complete_lines p m h a b met completes.place (completes.number ∙ number_so) code is)

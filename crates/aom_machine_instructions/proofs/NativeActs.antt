@@ -101,6 +101,7 @@ module _ (p : Image) (m new : Parts) (refused : List ℕ) (n : ℕ) (serves : na
   pub connect_does : (a : ℕ) (w : Standing) → Sets m.sessions w (this m) (opens (is_killed m.sessions n) (is_open m.sessions (this m)) (heard_by m)) →
       WritesWord a (connected (is_killed m.sessions n) (is_open m.sessions (this m)) (heard_by m)) (record m { sessions = w }) new →
       DoesIn p refused (Connect a) m new
+  unfolding DoesIn
   connect_does a w set writes h here = heard_at p m new refused (Connect a) refl h (λ c hears met typed.
       let on = on_object p m h (native_listed _ met.0) in
       let flag = subst (λ b. Sets m.sessions w (this m) b) (heard_told p m h on n serves opens c hears) set in
@@ -108,6 +109,7 @@ module _ (p : Image) (m new : Parts) (refused : List ℕ) (n : ℕ) (serves : na
       session_put p m h on w _ flag new a _ (free _ met.1.0) word)
 
   pub ask_does : (a b x : ℕ) → WritesWord a (replied (is_killed m.sessions n) (is_open m.sessions (this m)) (heard_by m)) m new → DoesIn p refused (Ask a b x) m new
+  unfolding DoesIn
   ask_does a b x writes h here = heard_at p m new refused (Ask a b x) refl h (λ c hears met typed.
       let on = on_object p m h (native_listed _ met.1.1.0) in
       word_put p m new h a _ (free _ met.1.1.1.0) (subst (λ v. WritesWord a v m new) (heard_told p m h on n serves replied c hears) writes))

@@ -8,16 +8,20 @@ use Rattle.std.proofs.lemmas.List.{length-replicate}
 use Rattle.std.proofs.lemmas.Bool.{eq-eqb, eqb-true, false≢true}
 use Rattle.aom_image.specs.Image.{Image}
 use Rattle.aom_image.specs.Views.{instr_at}
+use Rattle.aom_instructions.specs.Table.{action_of}
+use Rattle.aom_instructions.specs.declared.action.Action.TheVariants as action
 use Rattle.aom_instructions.specs.declared.instr.Instr.{Instr}
-use Rattle.aom_instructions.specs.declared.instr.Instr.TheVariants.{JumpNull, New, Delete}
+use Rattle.aom_instructions.specs.declared.instr.Instr.TheVariants.{JumpNull, New}
 use Rattle.aom_image.specs.declared.method.Thing.TheVariants.{Object as An_object_of}
 use Rattle.aom_cells.specs.Heap.{Heap, null, cell_at, word_of, field_of, count, blank, Changes}
 use Rattle.aom_roles.specs.Tables.{at, put_at}
+use Rattle.aom_roles.specs.Tests.{AllTrue}
 use Rattle.aom_roles.specs.Things.{words_of}
 use Rattle.aom_semantics.specs.Places.{Place, Register, Field, Cell, held, with_new, word_field}
 use Rattle.aom_semantics.specs.Effects.{applied, deletes, jumps_unless}
-use Rattle.aom_semantics.specs.State.{word, next, set_word, Run, Counters, raised}
+use Rattle.aom_semantics.specs.State.{Choice, word, next, set_word, Run, Counters, raised}
 use Rattle.aom_semantics.specs.Moves.{is_refused, makes, makes_cell}
+use Rattle.aom_semantics.specs.Objects.{needs_delete}
 use Rattle.aom_machine_state.specs.LineBuffer.{LineBuffer}
 use Rattle.aom_frames.specs.Tasks.{on_top, with_register, register_here}
 use Rattle.aom_frames.specs.declared.frame.Frame.{Frame as Machine_frame}
@@ -27,12 +31,13 @@ use Rattle.aom_machine_instructions.proofs.MachineStateLemmas.{all_same, cases, 
 use Rattle.aom_machine_state.specs.declared.parts.Parts.{Parts}
 use Rattle.aom_machine_state.specs.Places.{Others, others, value_in, set_register}
 use Rattle.aom_machine_state.specs.Agrees.{Represents, number, SameCells, Agrees, heard_by}
-use Rattle.aom_machine_instructions.specs.Acts.{At_hand, requested, Does, DoesIn}
+use Rattle.aom_machine_instructions.specs.Acts.{At_hand, Does, DoesIn}
 use Rattle.aom_machine_state.specs.Cells.{refuses, refuses_entry, Made}
 use Rattle.aom_machine_state.specs.Places as places
 use Rattle.aom_machine_instructions.proofs.Running.{Top, by_top, register_shows, free, no_word, null_unnamed, unnamed, nothing_held, some_held, heard_fits}
 use Rattle.aom_machine_instructions.proofs.GoingOn.{goes_on_with, still_none, written}
-use Rattle.aom_machine_instructions.proofs.WordActs.{jumps, passes, plain_does, plain_at}
+use Rattle.aom_machine_instructions.proofs.InstructionsLemmas.{delete_is}
+use Rattle.aom_machine_instructions.proofs.WordActs.{jumps, passes, plain_does, plain_in}
 use Rattle.aom_frames.specs.declared.item.Item.{Item}
 
 -- what a register shows that has no word
@@ -82,10 +87,19 @@ module _ (m : Parts) (refused : List ℕ) where
         room = h.agrees.entry_room;
       }) (λ f ms e top. written p m h mid s.cells a null None None small refl f ms top (λ q. refl) (still_none p m h a none))
 
-  pub delete_null_does : (p : Image) (a : ℕ) → a < 16 → register_here m.stack.tasks a ≡ null → DoesIn p refused (Delete a) m (places.next (set_register a null m))
-  delete_null_does p a small is h here = plain_at p m _ refused (Delete a) refl h (λ c needs typed.
-      let none = nothing_held p m h.typing h.state h.typed h.agrees (Register (length h.below) a) (sym is ∙ shown_here p m h a (no_word _ needs.0)) in
-      subst (λ o. Agrees p (places.next (set_register a null m)) (applied p h.frame h.below (requested (Delete a) h.state) (deletes h.frame o a))) (sym none)
+  -- what a destruction does where its needs are met
+  pub destroy_does : (p : Image) (new : Parts) (i : Instr) (a : ℕ) → action_of i ≡ action.Destroy a → ((h : At_hand p m) (c : Choice) →
+      AllTrue (needs_delete p c h.frame h.below h.state a) →
+      Agrees p new (applied p h.frame h.below h.state (deletes h.frame (held h.state.cells (Register (length h.below) a)) a))) → DoesIn p refused i m new
+  destroy_does p new i a is act =
+      subst (λ j. DoesIn p refused j m new) (sym (delete_is i a is)) (plain_in p m new refused _ refl (λ h c needs typed. act h c needs))
+
+  -- the destruction of nothing
+  pub destroy_null_does : (p : Image) (i : Instr) (a : ℕ) → action_of i ≡ action.Destroy a → a < 16 → register_here m.stack.tasks a ≡ null →
+      DoesIn p refused i m (places.next (set_register a null m))
+  destroy_null_does p i a is small null_there = destroy_does p (places.next (set_register a null m)) i a is (λ h c needs.
+      let none = nothing_held p m h.typing h.state h.typed h.agrees (Register (length h.below) a) (sym null_there ∙ shown_here p m h a (no_word _ needs.0)) in
+      subst (λ o. Agrees p (places.next (set_register a null m)) (applied p h.frame h.below h.state (deletes h.frame o a))) (sym none)
       (nulled p h a m.rest _ small h.agrees.rest none))
 
 -- the fields of a new cell are null, and so are those of one that is not there
@@ -151,6 +165,7 @@ module _ (m : Parts) (lines : LineBuffer) where
   asked heap = record m { cells = heap; rest = record m.rest { requests = raised m.rest.requests } }
 
   refused_does : (a class : ℕ) → a < 16 → true ≡ refuses lines m → Does lines.refused (New a class) m (places.next (set_register a null (asked m.cells)))
+  unfolding DoesIn
   refused_does a class small full p h here = (
     record { name = null; refused = true; answer = heard_by m },
     record { name = null_unnamed p m h.state h.agrees; refusal = full ∙ same_refusal p lines m h (New a class) here refl; answer = heard_fits m },
@@ -186,6 +201,7 @@ module _ (m : Parts) (lines : LineBuffer) where
 
   made_does : (a class n : ℕ) (heap : Heap) → a < 16 → false ≡ refuses lines m → class < 256 → cell_at m.cells n ≡ None → n ≢ null → Changes m.cells heap n
       (Some (blank class)) → count heap ≡ count m.cells + 1 → n < heap.limit → Does lines.refused (New a class) m (places.next (set_register a n (asked heap)))
+  unfolding DoesIn
   made_does a class n heap small granted fits none some ch more within p h here = (
     record { name = n; refused = false; answer = heard_by m },
     record { name = unnamed p m h.state n h.agrees (new_small p m h heap n class ch within) none; refusal = granted ∙ same_refusal p lines m h (New a class) here refl; answer = heard_fits m },

@@ -18,7 +18,7 @@ use Rattle.aom_image.specs.declared.class.Provider.TheVariants.{Timer as A_timer
 use Rattle.aom_image.specs.declared.method.Role.TheVariants.{Cancel as Cancels_role}
 use Rattle.aom_image.specs.declared.method.Thing.{Thing}
 use Rattle.aom_instructions.specs.declared.instr.Instr.{Instr}
-use Rattle.aom_instructions.specs.declared.instr.Instr.TheVariants.{Abort, Cancel, Enlist, Issue, JumpActive, JumpAdded, SetActive, Status}
+use Rattle.aom_instructions.specs.declared.instr.Instr.TheVariants.{Abort, Cancel, Issue, JumpActive, JumpAdded, SetActive, Status}
 use Rattle.aom_roles.specs.Things.{is_object}
 use Rattle.aom_roles.specs.Tests.{AllTrue}
 use Rattle.aom_roles.specs.Kinds.{is_active_kind, is_listed_kind}
@@ -72,7 +72,7 @@ use Rattle.aom_machine_instructions.proofs.GoingOn.{goes_on_as}
 use Rattle.aom_machine_instructions.proofs.Housing.{at_hand, needs_met}
 use Rattle.aom_machine_instructions.proofs.Running.{begun_as, by_top, free, object_class}
 use Rattle.aom_machine_instructions.proofs.Stepping.{at_step}
-use Rattle.aom_machine_instructions.proofs.WordActs.{heard_at, jumps, passes, plain_at, plain_does, word_put, word_read}
+use Rattle.aom_machine_instructions.proofs.WordActs.{heard_at, jumps, passes, plain_in, plain_does, word_put, word_read}
 
 -- ---- the cells with another request of one of them
 
@@ -374,9 +374,6 @@ module _ (p : Image) (m : Parts) where
   pub status_lives : (a : ℕ) → IsNext p (Status a) m → Lives m.cells (this m)
   status_lives a next = finds_cell p m (Status a) next (λ c fr ts s n. active_listed (home_kind p fr.home) n.0)
 
-  pub enlist_lives : (priority : ℤ) → IsNext p (Enlist priority) m → Lives m.cells (this m)
-  enlist_lives priority next = finds_cell p m (Enlist priority) next (λ c fr ts s n. n.0)
-
   pub issue_lives : (a b : ℕ) → IsNext p (Issue a b) m → Lives m.cells (this m)
   issue_lives a b next = finds_cell p m (Issue a b) next (λ c fr ts s n. active_listed (home_kind p fr.home) (issuing_active (home_kind p fr.home) n.1.1.0))
 
@@ -388,10 +385,6 @@ module _ (p : Image) (m : Parts) where
 
   pub abort_lives : IsNext p Abort m → Lives m.cells (this m)
   abort_lives next = finds_cell p m Abort next (λ c fr ts s n. active_listed (home_kind p fr.home) n.0)
-
-  -- an object that is enlisted is not so yet
-  pub enlist_fresh : (priority : ℤ) → IsNext p (Enlist priority) m → request_at m.active.table (this m) ≡ None
-  enlist_fresh priority next = grind (arith, nat_tests, needs_met p m (Enlist priority) next, finds_object p m (Enlist priority) next, fresh_told p, free)
 
   -- one that makes a request is idle, and its class has a provider
   pub issue_idle : (a b : ℕ) → IsNext p (Issue a b) m → state_at m.active.table (this m) ≡ Some (held_state Idle)
@@ -497,6 +490,7 @@ requests_made p m h on a _ w status r is begins issues = requests_become p m h o
 pub issue_does : (p : Image) (m : Parts) (refused : List ℕ) (a : Active) (q : Provider) (b x : ℕ) →
     provider_of (kind_here p m) ≡ Some q → Issues q m.sessions (heard_by m) m.rest.clock (cast_signed w32 (register_here m.stack.tasks b)) m.active a (this m) →
     DoesIn p refused (Issue b x) m (places.next (record m { active = a }))
+unfolding DoesIn
 issue_does p m refused a q b x provider issues h here = heard_at p m _ refused (Issue b x) refl h (λ c hears met typed.
     let clock = h.state.rest.clock in
     let asking = asking_with p c h.frame h.below h.state in
@@ -563,7 +557,7 @@ module _ (p : Image) (m : Parts) (refused : List ℕ) (a : Active) (k : ℕ) whe
   pub cancel_does : (class counted : ℕ) → class_at m.cells (this m) ≡ Some class →
       Some counted ≡ or_else (class_above (view_here m.stack.tasks)) (Some class) → role_of p counted Cancels_role ≡ Some k →
       is_waited_for (request_at m.active.table (this m)) ≡ true → Makes m.active a (this m) cancelling → DoesIn p refused Cancel m cancels
-  cancel_does class counted is counts role waited makes h here = plain_at p m _ refused Cancel refl h (λ c met typed.
+  cancel_does class counted is counts role waited makes = plain_in p m _ refused Cancel refl (λ h c met typed.
       let on = on_object p m h (active_listed _ met.0) in
       let active = sym (active_told p m h on) ∙ waited in
       let r = in_one enlisted.is_active _ active in

@@ -6,7 +6,9 @@ use Rattle.std.proofs.lemmas.Bool.{OnTrue_at, eq-eqb, eqb-true, false≢true, ne
 use Rattle.std.proofs.lemmas.List.{length-set}
 use Rattle.aom_image.specs.Image.{Image}
 use Rattle.aom_image.specs.Views.{gives_of, instr_at}
-use Rattle.aom_instructions.specs.declared.instr.Instr.TheVariants.{Return}
+use Rattle.aom_instructions.specs.Table.{transfer_of}
+use Rattle.aom_instructions.specs.declared.instr.Instr.{Instr}
+use Rattle.aom_instructions.specs.declared.transfer.Transfer.TheVariants as transfer
 use Rattle.aom_image.specs.declared.method.Gives.{Gives}
 use Rattle.aom_image.specs.declared.method.Gives.TheVariants.{Left, Maybe as A_maybe, Nothing, Own as An_own, Word as A_word}
 use Rattle.aom_cells.specs.Heap.{Heap, null}
@@ -18,7 +20,7 @@ use Rattle.aom_rules.specs.Typing.{Typing}
 use Rattle.aom_machine_instructions.proofs.SafetyLemmas.{all_parts, claim_register, claim_register_above, dispatch_layer, ended_alike, fit_steady}
 use Rattle.aom_machine_instructions.proofs.SafetyLemmas.{fits_unowning, mark_layer, method_layer, sits_lives, stands_object, steady_ended, tasks_steady}
 use Rattle.aom_machine_instructions.proofs.SafetyLemmas.{under_dispatch}
-use Rattle.aom_semantics.specs.Calls.{answered_by, below_top, end_needs, ended_well, result_needs, result_register, returned, told_answer}
+use Rattle.aom_semantics.specs.Calls.{answered_by, below_top, end_needs, ended_well, needs_return, result_needs, result_register, returned, told_answer}
 use Rattle.aom_safety.specs.Claims.{Layer, Method, Mark, tasks_of, claim, declared}
 use Rattle.aom_semantics.specs.Places.{Cell, named, Session, Tidy, Elsewhere, Entry, Field, Going, Object}
 use Rattle.aom_semantics.specs.Places.{Place, Register, changed, held, moved, same_place, seen}
@@ -66,7 +68,8 @@ use Rattle.aom_machine_instructions.specs.Serving.{CanServe, opened_by, served}
 use Rattle.aom_machine_instructions.specs.Acts.{requested as counted}
 use Rattle.aom_machine_instructions.specs.Next.{IsNext, counting}
 use Rattle.aom_machine_instructions.specs.Requests.{IsOver}
-use Rattle.aom_machine_instructions.proofs.Housing.{at_hand, needs_met}
+use Rattle.aom_machine_instructions.proofs.Housing.{at_hand, return_needs}
+use Rattle.aom_machine_instructions.proofs.InstructionsLemmas.{return_is}
 use Rattle.aom_machine_instructions.proofs.Stepping.{at_step}
 use Rattle.aom_machine_instructions.proofs.Running.{Aside, Top, agrees_with, aside_moved, aside_of, aside_unmarked, by_top}
 use Rattle.aom_machine_instructions.proofs.Running.{free, moved_on, no_word, object_lives_at, register_shows, retasked}
@@ -75,7 +78,7 @@ use Rattle.std.specs.Prelude.{IsSome, is_some}
 use Rattle.std.proofs.lemmas.Option.{none-some}
 use Rattle.aom_roles.specs.Things.{is_object}
 use Rattle.aom_roles.specs.Tests.{AllTrue}
-use Rattle.aom_machine_instructions.proofs.WordActs.{plain_at, word_read}
+use Rattle.aom_machine_instructions.proofs.WordActs.{plain_in, word_read}
 
 -- the machine once the method is gone, and the cancel that it may have ended is over
 pub dropped : (m ended new : Parts) → ended ≡ record m { active = ended.active } →
@@ -478,7 +481,16 @@ told_same p m h _ a met = refl
 
 -- ---- the return, once the cancel that the method may have ended is over
 
-module _ (p : Image) (m : Parts) (refused : List ℕ) (a : ℕ) (act : Active) (is_over : IsOver p m act) where
+-- what a return does where its needs are met
+pub return_does : (p : Image) (m new : Parts) (refused : List ℕ) (i : Instr) (a : ℕ) → transfer_of i ≡ transfer.Return a →
+    ((h : At_hand p m) → AllTrue (needs_return p h.frame h.below h.state a) → (let over = record h.state { cells = ended_cells p h.frame h.state.cells } in
+    WellTyped p h.typing (returned p h.frame h.below over (gives_of p h.frame.method) a h.below) →
+    Agrees p new (returned p h.frame h.below over (gives_of p h.frame.method) a h.below))) → DoesIn p refused i m new
+return_does p m new refused i a is act =
+    subst (λ j. DoesIn p refused j m new) (sym (return_is i a is)) (plain_in p m new refused _ refl (λ h c needs typed. act h needs typed))
+
+module _ (p : Image) (m : Parts) (refused : List ℕ) (i : Instr) (a : ℕ) (is_return : transfer_of i ≡ transfer.Return a) (act : Active)
+    (is_over : IsOver p m act) where
   -- the machine then, the state that it stands for, and that once the method is gone
   abbrev mid : Parts
   mid = record m { active = act }
@@ -502,14 +514,14 @@ module _ (p : Image) (m : Parts) (refused : List ℕ) (a : ℕ) (act : Active) (
   by_return : (P : List Machine_task → Type 0) (G : List Machine_task → Parts) → P m.stack.tasks
       → ((h : At_hand p m) (f : Machine_frame) (ms : List Machine_task) → Top mid (past h) h.frame h.below f ms → Alike ms h.below → AllTrue
       (result_needs p h.frame h.below h.state (gives_of p h.frame.method) a) → AllTrue (end_needs p h.frame h.below h.state h.below) → WellTyped p h.typing
-      (after h h.below) → P (Runs_frame f ∷ ms) → Agrees p (G (Runs_frame f ∷ ms)) (after h h.below)) → DoesIn p refused (Return a) m (G m.stack.tasks)
-  by_return P G has each h here = plain_at p m (G m.stack.tasks) refused (Return a) refl h (λ c needs typed.
+      (after h h.below) → P (Runs_frame f ∷ ms) → Agrees p (G (Runs_frame f ∷ ms)) (after h h.below)) → DoesIn p refused i m (G m.stack.tasks)
+  by_return P G has each = return_does p m (G m.stack.tasks) refused i a is_return (λ h needs typed.
       let met = all_parts (result_needs p h.frame h.below h.state (gives_of p h.frame.method) a) _ needs in
       by_top p m h (λ us. P us → Agrees p (G us) (after h h.below))
       (λ f ms top has. each h f ms (top_over h h.below f ms top) (alike ms h.below top.below) met.0 met.1.1.1.1 typed has) has)
 
   pub return_to_method : (x : ℕ) → Runs (below_first m.stack.tasks) → x < 16 →
-      x ≡ result_register (instr_at p (method_here (below_first m.stack.tasks)) (place_here (below_first m.stack.tasks))) → DoesIn p refused (Return a) m
+      x ≡ result_register (instr_at p (method_here (below_first m.stack.tasks)) (place_here (below_first m.stack.tasks))) → DoesIn p refused i m
       (places.next (resulted (gives_of p (method_here m.stack.tasks)) x (register_here m.stack.tasks a) (with_tasks (below_first m.stack.tasks) mid)))
   return_to_method x runs small is = by_return
       (λ us. Runs (below_first us) × (x ≡ result_register (instr_at p (method_here (below_first us)) (place_here (below_first us))))) (λ us. places.next
@@ -531,7 +543,7 @@ module _ (p : Image) (m : Parts) (refused : List ℕ) (a : ℕ) (act : Active) (
 
   pub return_through : (es : Machine_items) (x : ℕ) → IsTrapped (below_first m.stack.tasks) → Runs (below_first (below_first m.stack.tasks)) → m.entries
       ≡ record es { items = Is_mark ∷ es.items } → suc x < 16 → x ≡ result_register (instr_at p (method_here (below_first (below_first m.stack.tasks)))
-      (place_here (below_first (below_first m.stack.tasks)))) → DoesIn p refused (Return a) m (places.next (places.set_register (suc x) 0 (resulted (gives_of p
+      (place_here (below_first (below_first m.stack.tasks)))) → DoesIn p refused i m (places.next (places.set_register (suc x) 0 (resulted (gives_of p
       (method_here m.stack.tasks)) x (register_here m.stack.tasks a) (record (with_tasks (below_first (below_first m.stack.tasks)) mid) { entries = es }))))
   return_through es x trapped runs marked small is = by_return (λ us. IsTrapped (below_first us) × Runs (below_first (below_first us))
       × (x ≡ result_register (instr_at p (method_here (below_first (below_first us))) (place_here (below_first (below_first us))))))
@@ -556,21 +568,21 @@ module _ (p : Image) (m : Parts) (refused : List ℕ) (a : ℕ) (act : Active) (
 
   -- to what waits: nothing goes over
   to_waits : (P : List Machine_task → Type 0) → ((ms : List Machine_task) (ts : List Task) → P ms → Alike ms ts → (h : At_hand p m) →
-      after h ts ≡ record (past h) { tasks = ts }) → P (below_first m.stack.tasks) → DoesIn p refused (Return a) m (with_tasks (below_first m.stack.tasks) mid)
+      after h ts ≡ record (past h) { tasks = ts }) → P (below_first m.stack.tasks) → DoesIn p refused i m (with_tasks (below_first m.stack.tasks) mid)
   to_waits P waits has = by_return (λ us. P (below_first us)) (λ us. with_tasks (below_first us) mid) has (λ h f ms top same met last typed has.
       let is = waits ms h.below has same h in
       subst (Agrees p (with_tasks ms mid)) (sym is)
       (to_waiting p mid h.typing (past h) h.frame (agree h) f a ms h.below top
       (λ i. none_above p h.typing (record (past h) { tasks = h.below }) _ i (subst (WellTyped p h.typing) is typed) (omega arith))))
 
-  pub return_to_unwinding : IsUnwinding (below_first m.stack.tasks) → DoesIn p refused (Return a) m (with_tasks (below_first m.stack.tasks) mid)
+  pub return_to_unwinding : IsUnwinding (below_first m.stack.tasks) → DoesIn p refused i m (with_tasks (below_first m.stack.tasks) mid)
   return_to_unwinding = to_waits IsUnwinding (λ ms ts has same h. go h (tops A_leave ms has) same)
     where
       go : (h : At_hand p m) {ms : List Machine_task} {ts : List Task} → Tops A_leave ms → Alike ms ts → after h ts ≡ record (past h) { tasks = ts }
       go h (leave_on_top code ms) (both_unwind _ c _ ts _ _ _) = refl
 
   pub return_to_dispatch : (g : Gives) (d : Machine_dispatch) → gives_of p (method_here m.stack.tasks) ≡ g → ending_here (below_first m.stack.tasks) ≡ Some d
-      → DoesIn p refused (Return a) m (with_tasks (Ends (heard (told_by g (register_here m.stack.tasks a)) d) ∷ below_first (below_first m.stack.tasks)) mid)
+      → DoesIn p refused i m (with_tasks (Ends (heard (told_by g (register_here m.stack.tasks a)) d) ∷ below_first (below_first m.stack.tasks)) mid)
   return_to_dispatch g d gives ending = by_return (λ us. ending_here (below_first us) ≡ Some d)
       (λ us. with_tasks (Ends (heard answer d) ∷ below_first (below_first us)) mid) ending (λ h f ms top same met last typed has.
       let told = ap (λ k. told_by k (register_here m.stack.tasks a)) (sym gives ∙ ap (gives_of p) (method_is p m h))
@@ -590,7 +602,7 @@ module _ (p : Image) (m : Parts) (refused : List ℕ) (a : ℕ) (act : Active) (
           redispatched p mid (past h) x (heard answer d) ms e _ ts (heard_same answer _ d e told (subst (λ x. SameDispatch x e) at same)) waits
 
   pub return_to_end : (es : Machine_items) → IsEnding (below_first (below_first m.stack.tasks)) →
-      IsTrapped (below_first m.stack.tasks) → m.entries ≡ record es { items = Is_mark ∷ es.items } → DoesIn p refused (Return a) m
+      IsTrapped (below_first m.stack.tasks) → m.entries ≡ record es { items = Is_mark ∷ es.items } → DoesIn p refused i m
       (served (register_here m.stack.tasks a) (record (with_tasks (below_first (below_first m.stack.tasks)) mid) { entries = es }))
   return_to_end es ending trapped marked = by_return (λ us. IsTrapped (below_first us) × IsEnding (below_first (below_first us)))
       (λ us. served (register_here us a) (record (with_tasks (below_first (below_first us)) mid) { entries = es })) (trapped, ending)
@@ -693,10 +705,10 @@ module _ (p : Image) (m : Parts) (h : At_hand p m) (a : ℕ) where
       go f _ _ top tasks (last_trap_on_top x ms) (both_trapped _ _ _ (both_end _ d _ ts same below _)) met =
           (subst (λ e. Can f x ms e ts) same.1 (can_by_kind f x ms same.0 ts (accepting_or x))) top tasks met
 
-pub can_serve : (p : Image) (m : Parts) (a : ℕ) → IsNext p (Return a) m → IsTrapped (below_first m.stack.tasks) →
+pub can_serve : (p : Image) (m : Parts) (i : Instr) (a : ℕ) → IsNext p i m → transfer_of i ≡ transfer.Return a → IsTrapped (below_first m.stack.tasks) →
     IsEnding (below_first (below_first m.stack.tasks)) → CanServe (register_here m.stack.tasks a) (below_first (below_first m.stack.tasks))
-can_serve p m a next trapped ending =
-    let n = needs_met p m (Return a) next in
+can_serve p m i a next is trapped ending =
     let k = counting next.counts m in
     let h = at_hand p k next.stands next.runs in
-    can_give p k h a (all_parts (result_needs p h.frame h.below (counted (Return a) (at_step h.state)) (gives_of p h.frame.method) a) _ n.1).0 trapped ending
+    let n = return_needs p m i a next is in
+    can_give p k h a (all_parts (result_needs p h.frame h.below (counted i (at_step h.state)) (gives_of p h.frame.method) a) _ n).0 trapped ending

@@ -3,12 +3,16 @@ use Rattle.std.proofs.lemmas.Bool.Decides.{nat_tests}
 use Rattle.std.proofs.Common.{Bool, List, None, Option, Some, [], ap, arith, cond, false, inl, length, refl, subst}
 use Rattle.std.proofs.Common.{suc, sym, true, ℕ, ℤ, pos, ◌&&◌, ◌==◌, ◌+◌, ◌-◌, ◌<◌, ◌∙◌, ◌∷◌, ◌≡◌, ◌≤◌}
 use Rattle.aom_machine_instructions.proofs.ImageLemmas.{false_given, some_given}
+use Rattle.aom_machine_instructions.proofs.InstructionsLemmas.{call_is, operation_is, push_is, return_is, trap_is}
 use Rattle.std.proofs.lemmas.Bool.{ne_eqb}
 use Rattle.std.specs.Prelude.{is_some, not, ◌||◌}
 use Rattle.aom_image.specs.Image.{Image}
 use Rattle.aom_image.specs.Views.{arguments_of, gives_of, instr_at, is_quiet, leaves, method_class, method_role}
+use Rattle.aom_instructions.specs.Table.{action_of, transfer_of}
+use Rattle.aom_instructions.specs.declared.action.Action.TheVariants as action
+use Rattle.aom_instructions.specs.declared.action.Manner.{Manner}
+use Rattle.aom_instructions.specs.declared.action.Manner.TheVariants.{Plain, Trapped as Under_trap}
 use Rattle.aom_instructions.specs.declared.instr.Instr.{Instr}
-use Rattle.aom_instructions.specs.declared.instr.Instr.TheVariants.{Call, Cancel, Delete, Push, PushOperation, Trap}
 use Rattle.aom_instructions.specs.declared.instr.Target.{Target}
 use Rattle.aom_image.specs.declared.method.Argument.{Argument}
 use Rattle.aom_image.specs.declared.method.Argument.TheVariants.{Own as Takes_own, Word as Takes_word}
@@ -32,8 +36,10 @@ use Rattle.aom_shape.specs.declared.kind.CleanupEntry.TheVariants.{Operation}
 use Rattle.aom_shape.specs.declared.kind.Kind.{Kind}
 use Rattle.aom_shape.specs.declared.kind.Kind.TheVariants.{Maybe, Null, Own}
 use Rattle.aom_typings.specs.Strongest.{IsStrongest}
-use Rattle.aom_typings.specs.Calls.{Among, MayCall, callees, cancels, destructors, object_class, thing_class}
-use Rattle.aom_typings.specs.Heights.{CallsOver, Enters, StandsWith}
+use Rattle.aom_typings.specs.Calls.{Among, MayCall, called_for, callees, cancels, destructors, object_class, thing_class}
+use Rattle.aom_typings.specs.Charges.{A_call, A_cancel, A_destruction, An_operation, Charge, charge_of}
+use Rattle.aom_typings.specs.Heights.{CallsOver, IsCall, StandsWith}
+use Rattle.aom_typings.specs.Layers.{MayRun}
 use Rattle.aom_machine_instructions.proofs.SafetyLemmas.{all_parts, body_leaves, body_quiet, cancel_family, cancel_quiet, destroys, ended_alike, held_served}
 use Rattle.aom_machine_instructions.proofs.SafetyLemmas.{held_set_word, length_forms, length_objects, none_left, only_then, redeemed_by_alike}
 use Rattle.aom_machine_instructions.proofs.SafetyLemmas.{rerequested_alike, resessioned_alike, returnable}
@@ -159,6 +165,22 @@ abbrev pub LineGoes : Image → List Cell → ℕ → List Task → Type 0
 LineGoes p cs m (Destroy ∷ below) = NextGoes p cs m below
 LineGoes p cs m _ = Unit {0}
 
+-- what an instruction is charged for, by what it does
+call_charged : (i : Instr) (how : Manner) (target : Target) (m first x : ℕ) → action_of i ≡ action.Call how target m first x → charge_of i ≡ A_call m
+call_charged i how target m first x is = grind arith
+
+operation_charged : (i : Instr) (a m : ℕ) → action_of i ≡ action.PushOperation a m → charge_of i ≡ An_operation m
+operation_charged i a m is = grind arith
+
+push_charged : (i : Instr) (a : ℕ) → action_of i ≡ action.Push a → charge_of i ≡ A_destruction a
+push_charged i a is = grind arith
+
+destruction_charged : (i : Instr) (a : ℕ) → action_of i ≡ action.Destroy a → charge_of i ≡ A_destruction a
+destruction_charged i a is = grind arith
+
+cancel_charged : (i : Instr) → action_of i ≡ action.Cancel → charge_of i ≡ A_cancel
+cancel_charged i is = grind arith
+
 -- the tables of depths and of heights
 pub record Tables (p : Image) (t : Typing) (depth heights : ℕ → ℕ) : Type 0 where
   pub wired : IsWired p
@@ -256,47 +278,65 @@ module _ (p : Image) (t : Typing) (depth heights : ℕ → ℕ) (tables : Tables
     moves : (cs' : List Cell) → ((e : Place) → IsDealt e → held cs' e ≡ held s.cells e) → Roomy p depth heights cs' s.items (Run fr ∷ ts)
     moves cs' same = recelled p depth heights s.cells cs' s.items (Run fr ∷ ts) (same_all s.cells cs' (length s.items) (length (Run fr ∷ ts)) same) w
 
+    -- what the rule of an instruction asks, and where it leads
+    abbrev Ruled : Instr → Type 0
+    Ruled i = AllTrue (rule_needs p fr.method fr.place h.shape i)
+
+    abbrev Leading : Instr → Type 0
+    Leading i = AllLead t fr.method (flows p fr.method fr.place h.shape i)
+
     -- ---- calls
 
+    -- what may run for the charge of an instruction is less deep
+    less_deep : (i : Instr) (g : Charge) (k : ℕ) → instr_at p fr.method fr.place ≡ Some i → charge_of i ≡ g →
+        Among k (called_for p fr.method h.shape g) → depth k < depth fr.method
+    less_deep i g k stands charge among =
+        may_call fr h.shape h.there i k stands (subst (λ x. Among k (called_for p fr.method h.shape x)) (sym charge) among)
+
     -- a method that is called finds room for its entries
-    finds : (i : Instr) (m : ℕ) → instr_at p fr.method fr.place ≡ Some i → Enters p i m → may_push p fr.method ≡ true → entries_in s.items + heights m ≤ 1024
-    finds i m stands enters may =
+    finds : (i : Instr) (k m : ℕ) → instr_at p fr.method fr.place ≡ Some i → charge_of i ≡ A_call k → MayRun p k m → may_push p fr.method ≡ true →
+        entries_in s.items + heights m ≤ 1024
+    finds i k m stands charge runs may =
         let more = tables.under fr.method m (length h.shape.entries) (record {
           place = fr.place;
           shape = h.shape;
           stands = record { states = at [] t fr.method; strongest = tables.strongest.each fr.method (ap is_some (of_method p fr.method fr.place i stands).1); there = h.there };
           instr = i;
           here = stands;
-          enters = enters;
+          enters = subst (λ g. IsCall p g m) (sym charge) runs;
           count = refl;
         }) in
         let fit = w.2.0 may in
         omega (arith, more, fit, counted_own)
 
-    call_room : (target : Target) (m first x : ℕ) → instr_at p fr.method fr.place ≡ Some (Call target m first x) →
-        AllTrue (rule_needs p fr.method fr.place h.shape (Call target m first x)) → R (applied p fr ts s (Calls target m first))
-    call_room target m first x stands n =
+    call_room : (i : Instr) (target : Target) (m first x : ℕ) → instr_at p fr.method fr.place ≡ Some i → action_of i ≡ action.Call Plain target m first x →
+        Ruled i → R (applied p fr ts s (Calls target m first))
+    call_room i target m first x stands is r =
+        let n = subst Ruled (call_is i target m first x is) r in
         let parts = all_parts (rule_target p fr.method h.shape target m (method_class p m) (is_construct (method_role p m)) first (length (arguments_of p m))) _ n in
         let more = all_parts (each_argument p h.shape (arguments_of p m) first) _ parts.1.1 in
         let view = target_view p fr ts s target (method_class p m) in
         let k = run_by p fr ts s target m in
-        let there = (tables.wired.called fr.method fr.place target m first x stands).there in
+        let there = (tables.wired.called fr.method fr.place target m first x (stands ∙ ap (λ j. Some j) (call_is i target m first x is))).there in
+        let charge = call_charged i Plain target m first x is in
         begins p depth heights (given_cells p fr ts s (over_caller p fr ts s) m first) s.items (entered p fr ts s target m first (length s.items))
-        (Run fr ∷ ts) refl (may_call fr h.shape h.there (Call target m first x) k stands (run_among p m k (body_runs p m view)))
-        (λ may. finds (Call target m first x) k stands (body_runs p m view) (pushes_from (is_quiet p fr.method) (is_quiet p k) (leaves p fr.method) (leaves p k)
+        (Run fr ∷ ts) refl (less_deep i (A_call m) k stands charge (run_among p m k (body_runs p m view)))
+        (λ may. finds i m k stands charge (body_runs p m view) (pushes_from (is_quiet p fr.method) (is_quiet p k) (leaves p fr.method) (leaves p k)
         (λ q. body_quiet p tables.wired.overriders m view (only_then (is_quiet p fr.method) (is_quiet p m) more.1.1.0 q))
         (λ l. only_then (leaves p m) (leaves p fr.method) more.1.1.1.1.0 (body_leaves p tables.wired.overriders m view there l)) may))
         (moves (given_cells p fr ts s (over_caller p fr ts s) m first) (λ e dealt. passed_same p fr ts s _ (arguments_of p m) first 0 s.cells e dealt))
 
-    trap_room : (target : Target) (m first x : ℕ) → instr_at p fr.method fr.place ≡ Some (Trap target m first x) → not (is_quiet p fr.method) ≡ true →
-        R (applied p fr ts s (Sets_trap target m first))
-    trap_room target m first x stands loud =
+    trap_room : (i : Instr) (target : Target) (m first x : ℕ) → instr_at p fr.method fr.place ≡ Some i → action_of i ≡ action.Call Under_trap target m first x →
+        Ruled i → R (applied p fr ts s (Sets_trap target m first))
+    trap_room i target m first x stands is r =
         let cells' = given_cells p fr ts s (over_trap p fr ts s) m first in
+        let loud : not (is_quiet p fr.method) ≡ true = (subst Ruled (trap_is i target m first x is) r).0 in
         let may = pushes_loud (is_quiet p fr.method) (leaves p fr.method) loud in
+        let runs = body_runs p m (target_view p fr ts s target (method_class p m)) in
+        let charge = call_charged i Under_trap target m first x is in
         begins p depth heights cells' (A_mark ∷ s.items) (entered p fr ts s target m first (length (A_mark ∷ s.items))) (Trapped ∷ Run fr ∷ ts) refl
-        (may_call fr h.shape h.there (Trap target m first x) (run_by p fr ts s target m) stands
-        (run_among p m (run_by p fr ts s target m) (body_runs p m (target_view p fr ts s target (method_class p m))))) (λ _. finds (Trap target m first x)
-        (run_by p fr ts s target m) stands (body_runs p m (target_view p fr ts s target (method_class p m))) may) (item_pushed p depth heights cells' A_mark
+        (less_deep i (A_call m) (run_by p fr ts s target m) stands charge (run_among p m (run_by p fr ts s target m) runs))
+        (λ _. finds i m (run_by p fr ts s target m) stands charge runs may) (item_pushed p depth heights cells' A_mark
         s.items (Run fr ∷ ts) all_low (λ k e. absurd e) w.3 (moves cells' (λ e dealt. passed_same p fr ts s _ (arguments_of p m) first 0 s.cells e dealt)))
 
     -- ---- returns
@@ -376,15 +416,16 @@ module _ (p : Image) (t : Typing) (depth heights : ℕ → ℕ) (tables : Tables
     -- ---- cancels
 
     -- the method that cancels is quiet, and comes to no entries
-    cancel_room : (m : ℕ) → instr_at p fr.method fr.place ≡ Some Cancel → cancel_method p fr ≡ Some m → R (applied p fr ts s (Cancels m))
-    cancel_room m stands e =
+    cancel_room : (i : Instr) (m : ℕ) → instr_at p fr.method fr.place ≡ Some i → action_of i ≡ action.Cancel → cancel_method p fr ≡ Some m →
+        R (applied p fr ts s (Cancels m))
+    cancel_room i m stands is e =
         let its = cancel_family p fr m h.view e in
         let quiet = cancel_quiet p tables.wired fr m e in
         let stays : leaves p m ≡ false = grind (arith, nat_tests, false_given) in
         let among : Among m (cancels p (method_class p fr.method)) =
         subst (λ o. Among m (cancels p o)) (sym its.2) (cancel_among p (Some its.1) m (its.0, its.3, its.4)) in
         begins p depth heights (begun_cells fr s.cells) s.items (frame_as m fr.home fr.view (length s.items)) (Run fr ∷ ts) refl
-        (may_call fr h.shape h.there Cancel m stands among) (λ may. absurd (pushes_none (is_quiet p m) (leaves p m) quiet stays may))
+        (less_deep i A_cancel m stands (cancel_charged i is) among) (λ may. absurd (pushes_none (is_quiet p m) (leaves p m) quiet stays may))
         (moves (begun_cells fr s.cells) (λ e dealt. (rerequested_alike s.cells fr.home (on_request cancelling (own_request s.cells fr.home))).held_so e))
 
     -- ---- the cleanup stack
@@ -402,13 +443,14 @@ module _ (p : Image) (t : Typing) (depth heights : ℕ → ℕ) (tables : Tables
         let fit = w.2.0 (pushes_where (is_quiet p fr.method) (leaves p fr.method) leave) in
         omega (arith, more, fit, counted_own)
 
-    push_room : (a : ℕ) → instr_at p fr.method fr.place ≡ Some (Push a) → leaves p fr.method ≡ true →
+    push_room : (i : Instr) (a : ℕ) → instr_at p fr.method fr.place ≡ Some i → action_of i ≡ action.Push a → leaves p fr.method ≡ true →
         Leads t fr.method (suc fr.place) (with_entry (entry_of (register h.shape a)) (set_register h.shape a Null)) → After (Pushed a)
-    push_room a stands leave leads = item_pushed p depth heights (moved (here fr ts s a) (Entry (length s.items)) s.cells) An_object s.items
+    push_room i a stands is leave leads = item_pushed p depth heights (moved (here fr ts s a) (Entry (length s.items)) s.cells) An_object s.items
         (Run fr ∷ ts) all_low (λ m e. some_given (λ o. (Fits p (seen s.cells) o (register h.shape a)) × Destructs p o m)
         (held s.cells (here fr ts s a)) (h.fits a, subst (λ x. Destructs p x m) there_now e) (λ given. given.1)
-        (λ o _ given. may_call fr h.shape h.there (Push a) m stands (destructs_as p (seen s.cells) o (register h.shape a) m given.0 given.1)))
-        (let few = pushes (Push a) (with_entry (entry_of (register h.shape a)) (set_register h.shape a Null)) stands leave leads refl in omega (arith, few))
+        (λ o _ given. less_deep i (A_destruction a) m stands (push_charged i a is)
+        (destructs_as p (seen s.cells) o (register h.shape a) m given.0 given.1)))
+        (let few = pushes i (with_entry (entry_of (register h.shape a)) (set_register h.shape a Null)) stands leave leads refl in omega (arith, few))
         (recelled p depth heights s.cells (moved (here fr ts s a) (Entry (length s.items)) s.cells) s.items (Run fr ∷ ts) (
           λ k lt. held_apart s.cells (here fr ts s a) (Entry (length s.items)) (Entry k) refl (entry_apart (length s.items) k lt),
           λ k lt. held_apart s.cells (here fr ts s a) (Entry (length s.items)) (Going k) refl refl,
@@ -419,11 +461,11 @@ module _ (p : Image) (t : Typing) (depth heights : ℕ → ℕ) (tables : Tables
         there_now = held_moved s.cells (here fr ts s a) (Entry (length s.items)) (Entry (length s.items)) h.free
             ∙ ap (λ b. cond b (held s.cells (here fr ts s a)) (held s.cells (Entry (length s.items)))) (same_place_refl (Entry (length s.items)))
 
-    push_operation_room : (a m : ℕ) (v : ℤ) → instr_at p fr.method fr.place ≡ Some (PushOperation a m) → leaves p fr.method ≡ true →
-        Leads t fr.method (suc fr.place) (with_entry Operation h.shape) → After (Pushed_operation m v)
-    push_operation_room a m v stands leave leads = item_pushed p depth heights s.cells (An_operation m v) s.items (Run fr ∷ ts) all_low
-        (λ k e. subst (λ x. depth x < depth fr.method) (sym e) (may_call fr h.shape h.there (PushOperation a m) m stands (inl refl)))
-        (let few = pushes (PushOperation a m) (with_entry Operation h.shape) stands leave leads refl in omega (arith, few)) w
+    push_operation_room : (i : Instr) (a m : ℕ) (v : ℤ) → instr_at p fr.method fr.place ≡ Some i → action_of i ≡ action.PushOperation a m →
+        leaves p fr.method ≡ true → Leads t fr.method (suc fr.place) (with_entry Operation h.shape) → After (Pushed_operation m v)
+    push_operation_room i a m v stands is leave leads = item_pushed p depth heights s.cells (An_operation m v) s.items (Run fr ∷ ts) all_low
+        (λ k e. subst (λ x. depth x < depth fr.method) (sym e) (less_deep i (An_operation m) m stands (operation_charged i a m is) (inl refl)))
+        (let few = pushes i (with_entry Operation h.shape) stands leave leads refl in omega (arith, few)) w
 
     -- the last item is the method's own
     low_below : not (no_entry h.shape.entries) ≡ true → AllLow (length (below_top s.items)) (Run fr ∷ ts)
@@ -449,15 +491,6 @@ module _ (p : Image) (t : Typing) (depth heights : ℕ → ℕ) (tables : Tables
             ) (popped_top p depth heights s.cells items (Run fr ∷ ts) low room)
 
     -- ---- the effects
-
-    abbrev Ruled : Instr → Type 0
-    Ruled i = AllTrue (rule_needs p fr.method fr.place h.shape i)
-
-    abbrev Leading : Instr → Type 0
-    Leading i = AllLead t fr.method (flows p fr.method fr.place h.shape i)
-
-    stands_as : (i j : Instr) → instr_at p fr.method fr.place ≡ Some i → i ≡ j → instr_at p fr.method fr.place ≡ Some j
-    stands_as i j stands e = stands ∙ ap (λ x. Some x) e
 
     spot_apart : (x : Spot) (e : Place) → IsDealt e → same_place (spot_place p fr ts s x) e ≡ false
     spot_apart x e dealt = grind (arith, nat_tests, register_apart, field_apart fr.home, field_stays fr.home)
@@ -490,17 +523,24 @@ module _ (p : Image) (t : Typing) (depth heights : ℕ → ℕ) (tables : Tables
     updated_room i stands r n (Sessioned b) f = moves (cells_after p fr ts s (Sessioned b)) (λ e dealt. (resessioned_alike s.cells fr.home b).held_so e)
     updated_room i stands r n (Replied a code) f = moves (cells_after p fr ts s (Replied a code)) (replied_same a code)
     updated_room i stands r n (Handed name a) f = moves (cells_after p fr ts s (Handed name a)) (handed_same name a)
-    updated_room i stands r n (Pushed a) f = push_room a (stands_as i _ stands f.0) (subst Ruled f.0 r).1.0 (subst Leading f.0 n).0
-    updated_room i stands r n (Pushed_operation m v) f = push_operation_room f.0 m v (stands_as i _ stands f.1) (subst Ruled f.1 r).1.0 (subst Leading f.1 n).0
+    updated_room i stands r n (Pushed a) f =
+        let is = ap action_of f.0 in
+        let it = push_is i a is in
+        push_room i a stands is (subst Ruled it r).1.0 (subst Leading it n).0
+    updated_room i stands r n (Pushed_operation m v) f =
+        let is = ap action_of f.1 in
+        let it = operation_is i f.0 m is in
+        push_operation_room i f.0 m v stands is (subst Ruled it r).1.0 (subst Leading it n).0
     updated_room i stands r n (Popped a) f = pop_room a (subst Ruled f.0 r).1.0
     updated_room i stands r n Popped_operation f = popped_top p depth heights s.cells s.items (Run fr ∷ ts) (low_below (subst Ruled f.0 r).0) w
 
     -- an object of a register goes
-    delete_room : (o : Object) (a : ℕ) (words : List (Option ℤ)) → instr_at p fr.method fr.place ≡ Some (Delete a) →
+    delete_room : (i : Instr) (o : Object) (a : ℕ) (words : List (Option ℤ)) → instr_at p fr.method fr.place ≡ Some i → action_of i ≡ action.Destroy a →
         held s.cells (here fr ts s a) ≡ Some o → Fits p (seen s.cells) (Some o) (register h.shape a) → R (applied p fr ts s (Destroys o a words))
-    delete_room o a words stands there fits = begins_over (moved (here fr ts s a) (Going (length (Run fr ∷ ts))) s.cells) s.items o
+    delete_room i o a words stands is there fits = begins_over (moved (here fr ts s a) (Going (length (Run fr ∷ ts))) s.cells) s.items o
         (Run (with_words fr words) ∷ ts) (goes_there_now s.cells (here fr ts s a) (length (Run fr ∷ ts)) unheld refl ∙ there)
-        (λ m e. may_call fr h.shape h.there (Delete a) m stands (destructs_as p (seen s.cells) o (register h.shape a) m fits e)) (λ server. tt)
+        (λ m e. less_deep i (A_destruction a) m stands (destruction_charged i a is) (destructs_as p (seen s.cells) o (register h.shape a) m fits e))
+        (λ server. tt)
         (recelled p depth heights s.cells (moved (here fr ts s a) (Going (length (Run fr ∷ ts))) s.cells) s.items (Run fr ∷ ts) (
           λ k lt. held_apart s.cells (here fr ts s a) (Going (length (Run fr ∷ ts))) (Entry k) refl refl,
           λ k lt. held_apart s.cells (here fr ts s a) (Going (length (Run fr ∷ ts))) (Going k) refl (going_apart (length (Run fr ∷ ts)) k lt),
@@ -511,17 +551,18 @@ module _ (p : Image) (t : Typing) (depth heights : ℕ → ℕ) (tables : Tables
     acts_room i stands r n (Jumps to) f = w
     acts_room i stands r n (Counts d rounds) f = w
     acts_room i stands r n (Repeats d rounds to) f = w
-    acts_room i stands r n (Calls target m first) f = call_room target m first f.0 (stands_as i _ stands f.1) (subst Ruled f.1 r)
-    acts_room i stands r n (Cancels m) f = cancel_room m (stands_as i _ stands f.0) f.1
-    acts_room i stands r n (Sets_trap target m first) f = trap_room target m first f.0 (stands_as i _ stands f.1) (subst Ruled f.1 r).0
+    acts_room i stands r n (Calls target m first) f = call_room i target m first f.0 stands (ap action_of f.1) r
+    acts_room i stands r n (Cancels m) f = cancel_room i m stands (ap action_of f.0) f.1
+    acts_room i stands r n (Sets_trap target m first) f = trap_room i target m first f.0 stands (ap action_of f.1) r
     acts_room i stands r n (Returns g a) f = return_room g a ts h.low_under line (λ nothing. ended_high
-        (none_left p fr h.shape a nothing (returnable p fr h.shape a (subst Ruled f.0 r)))) (dropped p depth heights s.cells s.items fr ts w)
+        (none_left p fr h.shape a nothing (returnable p fr h.shape a (subst Ruled (return_is i a (ap transfer_of f.0)) r))))
+        (dropped p depth heights s.cells s.items fr ts w)
     acts_room i stands r n (Leaves code u) f =
         let cs = cells_after p fr ts s u in
         let items = items_after u s.items in
         off_to_trap p depth heights cs items ts (dropped p depth heights cs items fr ts (updated_room i stands r n u f.2))
     acts_room i stands r n (Destroys o a words) f =
-        delete_room o a words (stands_as i _ stands f.0) f.1 (subst (λ x. Fits p (seen s.cells) x (register h.shape a)) f.1 (h.fits a))
+        delete_room i o a words stands (ap action_of f.0) f.1 (subst (λ x. Fits p (seen s.cells) x (register h.shape a)) f.1 (h.fits a))
     acts_room i stands r n (Destroys_last o) f = clears s.cells
         (below_top s.items) o (Run fr ∷ ts) f.2 unheld tt (low_below (subst Ruled f.0 r).0) (subst (λ is. Roomy p depth heights s.cells is (Run fr ∷ ts)) f.1 w)
     acts_room i stands r n (Operates m v) f = undoes s.cells (below_top s.items) m v (Run fr ∷ ts)

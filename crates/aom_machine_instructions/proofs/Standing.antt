@@ -1,5 +1,5 @@
--- What stands behind an instruction that says whether a method runs, and behind one after which a cell goes with nothing before it: by cases.
-use Rattle.std.proofs.Common.{arith, ℕ, Bool, true, false, not, cond, List, ◌∷◌, Option, Some, None, ◌≡◌, ◌<◌, ◌∙◌, ap, refl, subst}
+-- A destruction of a cell that goes with nothing before it.
+use Rattle.std.proofs.Common.{arith, ℕ, Bool, true, false, not, cond, List, ◌∷◌, Some, None, ◌≡◌, ◌<◌, ◌∙◌, ap, subst}
 use Rattle.aom_cells.specs.Heap.{null, class_at}
 use Rattle.aom_classes.specs.Roles.{role_of}
 use Rattle.aom_frames.specs.Tasks.{on_top, register_here, with_register}
@@ -7,31 +7,14 @@ use Rattle.aom_frames.specs.declared.task.Task.{Task}
 use Rattle.aom_frames.specs.declared.task.Task.TheVariants.{Closing, Destroy}
 use Rattle.aom_image.specs.Image.{Image}
 use Rattle.aom_image.specs.declared.method.Role.TheVariants.{Destruct}
-use Rattle.aom_instructions.specs.declared.instr.Instr.TheVariants.{Delete}
+use Rattle.aom_instructions.specs.Table.{action_of}
+use Rattle.aom_instructions.specs.declared.action.Action.TheVariants as action
+use Rattle.aom_instructions.specs.declared.instr.Instr.{Instr}
 use Rattle.aom_machine_state.specs.declared.parts.Parts.{Parts}
 use Rattle.aom_machine_state.specs.Places.{with_tasks}
-use Rattle.aom_machine_instructions.proofs.GoingActs.{delete_does}
-use Rattle.aom_machine_instructions.specs.Acts.{DoesIn, after_of, going_at, standing}
+use Rattle.aom_machine_instructions.proofs.GoingActs.{destroy_object_does}
+use Rattle.aom_machine_instructions.specs.Acts.{DoesIn, going_at}
 use Rattle.aom_machine_instructions.specs.Going.{begun, destructed, is_server_class}
-use Rattle.aom_machine_instructions.specs.declared.after.After.TheVariants.{RunsOn, CellGoes, Other}
-
--- ---- by whether a method runs
-
-pub stands_still : (b : Bool) (m : Parts) → standing (after_of b) m ≡ m
-stands_still true m = refl
-stands_still false m = refl
-
-pub runs_where : (b : Bool) → after_of b ≡ RunsOn → b ≡ true
-runs_where x is = grind arith
-
-pub never_goes : (b : Bool) (n : ℕ) → after_of b ≡ CellGoes n → ⊥
-never_goes x n is = grind arith
-
-pub told_where : (b : Bool) → (after_of b ≡ Other → ⊥) → b ≡ true
-told_where true told = refl
-told_where false told = absurd (told refl)
-
--- ---- with nothing before it
 
 pub plain_where : (b : Bool) → not b ≡ true → b ≡ false
 plain_where x is = grind arith
@@ -42,14 +25,14 @@ begun_alone p class none plain n ts =
     ap (λ b. cond b (Closing ∷ Destroy n ∷ ts) (destructed p (role_of p class Destruct) n (Destroy n ∷ ts))) plain
     ∙ ap (λ d. destructed p d n (Destroy n ∷ ts)) none
 
-module _ (p : Image) (m : Parts) (refused : List ℕ) (a : ℕ) where
+module _ (p : Image) (m : Parts) (refused : List ℕ) (i : Instr) (a : ℕ) where
   abbrev there : ℕ
   there = register_here m.stack.tasks a
 
   abbrev emptied : List Task
   emptied = on_top (with_register a null) m.stack.tasks
 
-  pub delete_alone : a < 16 → (there ≡ null → ⊥) → (class : ℕ) → class_at m.cells there ≡ Some class
-      → begun p (Some class) there emptied ≡ Destroy there ∷ emptied → DoesIn p refused (Delete a) m (going_at there (with_tasks emptied m))
-  delete_alone small is class here alone =
-      subst (λ ts. DoesIn p refused (Delete a) m (with_tasks ts m)) (ap (λ c. begun p c there emptied) here ∙ alone) (delete_does p m refused a small is)
+  pub destroy_alone_does : action_of i ≡ action.Destroy a → a < 16 → (there ≡ null → ⊥) → (class : ℕ) → class_at m.cells there ≡ Some class
+      → begun p (Some class) there emptied ≡ Destroy there ∷ emptied → DoesIn p refused i m (going_at there (with_tasks emptied m))
+  destroy_alone_does is small some class here alone = subst (λ ts. DoesIn p refused i m (with_tasks ts m))
+      (ap (λ c. begun p c there emptied) here ∙ alone) (destroy_object_does p m refused i a is small some)

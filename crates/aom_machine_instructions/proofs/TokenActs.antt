@@ -50,13 +50,13 @@ use Rattle.aom_machine_state.specs.Tokens as meant
 use Rattle.aom_machine_state.specs.Tokens.{LetsGo, class_in, no_words}
 use Rattle.aom_machine_state.specs.declared.parts.Parts.{Parts}
 use Rattle.aom_cells.specs.Tokens.{Kept, Sets, class_at, redeemed}
-use Rattle.aom_machine_instructions.specs.Acts.{At_hand, Does, Tells}
+use Rattle.aom_machine_instructions.specs.Acts.{At_hand, Does, Tells, DoesIn}
 use Rattle.aom_machine_instructions.specs.Next.{IsNext, counting}
 use Rattle.aom_machine_instructions.specs.Tokens.{Answers, Hands, HandsNone, HandsOne, IsAnswerable, Pends, Redeems, RedeemsOne}
 use Rattle.aom_machine_instructions.proofs.GoingActs.{thing_is}
 use Rattle.aom_machine_instructions.proofs.GoingOn.{goes_on_with, still_none, written}
 use Rattle.aom_machine_instructions.proofs.Housing.{at_hand, needs_met}
-use Rattle.aom_machine_instructions.proofs.MessageActs.{InRegister, in_register, it_was_sent, replied, reply_done, reply_told}
+use Rattle.aom_machine_instructions.proofs.MessageActs.{InRegister, completed_agrees, completed_told, in_register, it_was_sent, replied}
 use Rattle.aom_machine_instructions.proofs.RequestActs.{OnObject, cells_rerequested, finds_cell, finds_object, idle_only, idle_untold, in_one, on_object}
 use Rattle.aom_machine_instructions.proofs.RequestActs.{own_told, requests_become, requests_set, services_become, state_told, thing_here}
 use Rattle.aom_machine_instructions.proofs.Running.{free, heard_fits, lives_below, no_thing}
@@ -82,7 +82,7 @@ module _ (m : Parts) (a b place : ℕ) (store : Store) (active : Active) (w : Ke
     g = Register (length h.below) a
 
     it : InRegister p m h a
-    it = in_register p m h a b c met
+    it = in_register p m h a b met
 
     name : it.object.name ≡ message_name place
     name = it.number ∙ sym named_so
@@ -149,18 +149,22 @@ module _ (m mid new : Parts) (told now : LineBuffer) (n : ℕ) (code : ℤ) (a b
       small r.released r.count r.freed r.lets r.answers))
 
   redeem_told : RedeemsOne n code mid new told now → Tells (Reply a b) m told now
-  redeem_told does p h c met = does.silent ∙ ap (λ ls. record told { lines = ls }) (sym (append-nil told.lines))
-      ∙ ap (λ ls. record told { lines = told.lines ++ ls }) (sym (redeem_silent m a b does.place new.messages new.active new.tokens code
-      (does.number ∙ number_so) (subst (λ (x : Parts). is_some (class_at x.tokens does.place) ≡ true) emptied does.token) read_so p h c met))
+  redeem_told does = record {
+    lines = λ p h c met. does.silent ∙ ap (λ ls. record told { lines = ls }) (sym (append-nil told.lines))
+        ∙ ap (λ ls. record told { lines = told.lines ++ ls }) (sym (redeem_silent m a b does.place new.messages new.active new.tokens code
+        (does.number ∙ number_so) (subst (λ (x : Parts). is_some (class_at x.tokens does.place) ≡ true) emptied does.token) read_so p h c met));
+  }
 
   -- a message is a token, or a client's
   pub answer_done : (refused : List ℕ) (last : Parts) → a < 16 → last ≡ places.next new → Answers n code mid new told now → Does refused (Reply a b) m last
   answer_done refused last small goes_on (inl does) = redeem_done refused last small goes_on does
-  answer_done refused last small goes_on (inr does) = reply_done m mid new told now n code a b emptied number_so does.completes refused last does.sent small goes_on
+  answer_done refused last small goes_on (inr does) = plain_does m last refused (Reply a b) refl
+      (λ p h c met. completed_agrees m mid new told now n code a b emptied number_so does.completes last does.sent small goes_on p h met)
 
   pub answer_told : Answers n code mid new told now → Tells (Reply a b) m told now
   answer_told (inl does) = redeem_told does
-  answer_told (inr does) = reply_told m mid new told now n code a b emptied number_so does.completes read_so
+  answer_told (inr does) =
+      record { lines = λ p h c met. completed_told m mid new told now n code a b emptied number_so does.completes read_so p h met }
 
 -- the method is as it was, but for its tokens
 pub answer_rest : (n : ℕ) (code : ℤ) (old new : Parts) (told now : LineBuffer) → Answers n code old new told now → new.stack ≡ old.stack
@@ -207,7 +211,7 @@ module _ (p : Image) (m : Parts) where
       let n = needs_met p m (Reply a b) is_next in
       let before = counting is_next.counts m in
       let h = at_hand p before is_next.stands is_next.runs in
-      let x = in_register p before h a b n.0 n.1 in
+      let x = in_register p before h a b n.1 in
       let g = Register (length h.below) a in
       let place = place_of p h.typing h.state h.typed g x.object x.there x.message m.messages h.agrees.services.messages in
       record {
@@ -328,6 +332,7 @@ module _ (m : Parts) (refused : List ℕ) (a class : ℕ) (small : a < 16) (clas
         ((rerequested_alike s.cells (Inside on.object (Elsewhere Root)) (Some (promised next_order asks.0))).held_so q))))
 
   hand_one : (n : ℕ) (new : Parts) → HandsOne n (this m) class m new → Does refused (Hand a) m (places.next (set_register a n new))
+  unfolding DoesIn
   hand_one n new does = subst (λ x. Does refused (Hand a) m (places.next (set_register a n x))) (sym does.rest) (λ p h at_it. (
     record { name = message_name does.place; refused = is_refused p refused h.state; answer = heard_by m },
     record { name = place_unnamed p m h does.place does.free; refusal = refl; answer = heard_fits m },

@@ -1,22 +1,27 @@
 -- What the code needs to know of the cleanup stack, and of the methods that a trap calls.
 use Rattle.std.proofs.lemmas.Bool.Decides.{nat_tests}
-use Rattle.std.proofs.Common.{suc, ◌≡◌, ◌<◌, ◌+◌, ◌^◌, ℕ, Bool, true, length, List, [], ◌∷◌, IsSome, refl, sym, ap, ◌∙◌, subst, arith}
+use Rattle.std.proofs.Common.{suc, ◌≡◌, ◌<◌, ◌+◌, ◌^◌, ℕ, Bool, true, length, List, [], ◌∷◌, Option, Some, None}
+use Rattle.std.proofs.Common.{IfNone, IfSome, IsSome, refl, sym, ap, ◌∙◌, subst, arith}
 use Rattle.std.specs.Prelude.{is_some}
 use Rattle.std.proofs.lemmas.Bool.{eqb-true}
 use Rattle.aom_image.specs.Image.{Image}
 use Rattle.aom_image.specs.Views.{gives_of, instr_at}
-use Rattle.aom_instructions.specs.declared.instr.Instr.TheVariants.{Pop, PopOperation, Return}
+use Rattle.aom_instructions.specs.Table.{transfer_of}
+use Rattle.aom_instructions.specs.declared.instr.Instr.{Instr}
+use Rattle.aom_instructions.specs.declared.transfer.Transfer.TheVariants as transfer
 use Rattle.aom_image.specs.declared.method.Gives.{Gives}
-use Rattle.aom_frames.specs.Items.{IsAboveMark, IsMarked, IsNotAboveMark}
+use Rattle.aom_frames.specs.Items.{IsAboveMark, IsEntry, IsMarked, IsNotAboveMark, Stack as Machine_items}
 use Rattle.aom_frames.specs.declared.item.Item.{Item as Machine_item}
 use Rattle.aom_frames.specs.declared.item.Item.TheVariants.{Mark as Is_mark}
+use Rattle.aom_roles.specs.Tests.{AllTrue}
 use Rattle.aom_rules.specs.Typing.{Typing}
 use Rattle.aom_shape.specs.declared.kind.CleanupEntry.{CleanupEntry}
 use Rattle.aom_semantics.specs.Calls.{is_level, result_needs, result_register}
 use Rattle.aom_safety.specs.Claims.{Method, Form, Mark_form, forms, items_of, objects}
 use Rattle.aom_semantics.specs.Cleanup.{tops_entry, tops_object, top_is_whole}
 use Rattle.aom_semantics.specs.Places.{Entry, held}
-use Rattle.aom_semantics.specs.State.{Frame, Task, Run, Trapped, Item, State}
+use Rattle.aom_semantics.specs.Moves.{needs}
+use Rattle.aom_semantics.specs.State.{Choice, Frame, Task, Run, Trapped, Item, State}
 use Rattle.aom_safety.specs.WellTyped.{Good, LeavesNone, WellTyped}
 use Rattle.aom_machine_instructions.proofs.SafetyLemmas.{all_parts, entry_object, length_forms, length_objects, mark_layer, method_layer}
 use Rattle.aom_frames.specs.Tasks.{Runs, method_here, place_here, below_first}
@@ -36,7 +41,7 @@ use Rattle.aom_machine_instructions.proofs.MachineStateLemmas.{A_catcher, A_meth
 use Rattle.aom_machine_instructions.proofs.MachineStateLemmas.{by_item, by_items, catcher_on_top, items_alike, method_on_top, same_below, same_items_length}
 use Rattle.aom_machine_instructions.proofs.MachineStateLemmas.{top_value, tops, trap_on_top}
 use Rattle.aom_machine_instructions.proofs.Finding.{class_fits, object_lives}
-use Rattle.aom_machine_instructions.proofs.Housing.{at_hand, needs_met}
+use Rattle.aom_machine_instructions.proofs.Housing.{at_hand, needs_met, return_needs}
 use Rattle.aom_machine_instructions.proofs.Stepping.{at_step}
 
 -- ---- what is last
@@ -64,14 +69,23 @@ top_lives p m t s typed agrees whole = go refl (items_alike m.entries.items s.it
         (object_lives p m t s typed agrees (Entry (length js)) o n e (entry_object p t s typed o (length js) e) name, class_fits p m s agrees n))
     go was _ whole = tt
 
-module _ (p : Image) (m : Parts) where
-  pub pops_object : (a : ℕ) → IsNext p (Pop a) m → TopsObject m.entries.items
+-- an instruction that needs one there finds it
+module _ (p : Image) (m : Parts) (i : Instr) (next : IsNext p i m) where
+  pub finds_object_last : ((c : Choice) (fr : Frame) (ts : List Task) (s : State) → AllTrue (needs p c fr ts s i) → tops_object s.items ≡ true) →
+      TopsObject m.entries.items
   unfolding at_hand
-  pops_object a next = let n = needs_met p m (Pop a) next in object_tops m.entries.items next.stands.0.items next.stands.1.agrees.entries n.1.1.1.0
+  finds_object_last says =
+      let h = at_hand p (counting next.counts m) next.stands next.runs in
+      let n = needs_met p m i next in
+      object_tops m.entries.items next.stands.0.items next.stands.1.agrees.entries (says n.0 h.frame h.below (requested i (at_step h.state)) n.1)
 
-  pub pops_entry : IsNext p PopOperation m → IsAboveMark m.entries.items
+  pub finds_entry_last : ((c : Choice) (fr : Frame) (ts : List Task) (s : State) → AllTrue (needs p c fr ts s i) → tops_entry s.items ≡ true) →
+      IsAboveMark m.entries.items
   unfolding at_hand
-  pops_entry next = let n = needs_met p m PopOperation next in entry_tops m.entries.items next.stands.0.items next.stands.1.agrees.entries n.1.0
+  finds_entry_last says =
+      let h = at_hand p (counting next.counts m) next.stands next.runs in
+      let n = needs_met p m i next in
+      entry_tops m.entries.items next.stands.0.items next.stands.1.agrees.entries (says n.0 h.frame h.below (requested i (at_step h.state)) n.1)
 
 -- ---- a return through a trap finds its mark
 
@@ -96,27 +110,33 @@ marked_under p t s fr ts is typed top same flat =
     let even = sym (ap length h.0) ∙ length_forms s.items ∙ level p fr (Trapped ∷ ts) s (gives_of p fr.method) none flat ∙ h.1.stack.1.height in
     mark_tops is s.items (items_of ls) same (h.0 ∙ no_more sh.entries (Mark_form ∷ items_of ls) even)))
 
-pub finds_mark : (p : Image) (m : Parts) (a : ℕ) → IsNext p (Return a) m → IsTrapped (below_first m.stack.tasks) → IsMarked m.entries.items
+pub finds_mark : (p : Image) (m : Parts) (i : Instr) (a : ℕ) → IsNext p i m → transfer_of i ≡ transfer.Return a →
+    IsTrapped (below_first m.stack.tasks) → IsMarked m.entries.items
 unfolding at_hand
-finds_mark p m a next trapped =
-    let n = needs_met p m (Return a) next in
+finds_mark p m i a next is trapped =
     let h = at_hand p (counting next.counts m) next.stands next.runs in
-    let s = requested (Return a) (at_step h.state) in
-    let flat = (all_parts (result_needs p h.frame h.below s (gives_of p h.frame.method) a) _ n.1).1.0 in
+    let s = requested i (at_step h.state) in
+    let flat = (all_parts (result_needs p h.frame h.below s (gives_of p h.frame.method) a) _ (return_needs p m i a next is)).1.0 in
     let same = subst (SameTasks m.stack.tasks) h.top next.stands.1.agrees.tasks in
     go h.frame h.below h.top flat (tops A_trap (below_first m.stack.tasks) trapped)
     (alike (below_first m.stack.tasks) h.below (same_below m.stack.tasks (Run h.frame) h.below same))
   where
-    go : (fr : Frame) (ts : List Task) → next.stands.0.tasks ≡ Run fr ∷ ts → is_level p fr ts (requested (Return a) (at_step next.stands.0))
+    go : (fr : Frame) (ts : List Task) → next.stands.0.tasks ≡ Run fr ∷ ts → is_level p fr ts (requested i (at_step next.stands.0))
         (gives_of p fr.method) ≡ true → {ms : List Machine_task} → Tops A_trap ms → Alike ms ts → IsMarked m.entries.items
     go fr _ top flat (trap_on_top _) (both_trapped _ ts _ _) =
         marked_under p next.stands.1.typing next.stands.0 fr ts m.entries.items next.stands.1.typed top next.stands.1.agrees.entries flat
 
 -- an entry is last or not
-pub not_both : (is : List Machine_item) → IsAboveMark is → IsNotAboveMark is → ⊥
+not_both : (is : List Machine_item) → IsAboveMark is → IsNotAboveMark is → ⊥
 not_both [] above not = above
 not_both (Is_mark ∷ is) above not = above
 not_both (_ ∷ is) above not = not
+
+-- so an entry that is last comes off
+pub comes_off : (was now : Machine_items) (o : Option Machine_item) → IsAboveMark was.items → IfNone o (IsNotAboveMark was.items × (now ≡ was)) →
+    IfSome o (λ i. IsEntry i × (was ≡ record now { items = i ∷ now.items })) → (i : Machine_item) × (was ≡ record now { items = i ∷ now.items })
+comes_off was now None above none some = absurd (not_both was.items above none.0)
+comes_off was now (Some i) above none some = (i, some.1)
 
 -- what a method returns to through a trap
 caught_within : (p : Image) {ms : List Machine_task} → ReturnsTo p ms → Tops A_catcher ms

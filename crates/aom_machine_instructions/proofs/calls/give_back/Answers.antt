@@ -33,7 +33,8 @@ returns-in-Some-Run-clause-does c = λ refused.
     let under = below_first c.args.parts.now.stack.tasks in
     let runs : Runs under = rw e.rest at (runs_on _ _ c.in-Some-Run.ensures.some c.in-Some-Run.field-0-is) in
     let x = result_register (instr_at c.args.linked.now (method_here under) (place_here under)) in
-    rw (c.receive.ensures.received, c.register-number.ensures.value, e.gives, e.rest) (return_to_method c.args.linked.now c.args.parts.now refused c.args.from
+    rw (c.receive.ensures.received, c.register-number.ensures.value, e.gives, e.rest)
+    (return_to_method c.args.linked.now c.args.parts.now refused _ c.args.from refl
     c.end_method-gives.new.parts.active e.over x runs (rw e.rest at c.receive.ensures.in_range) refl)
 
 pub returns-in-Some-Run-clause-runs : goal.returns-in-Some-Run-clause-runs
@@ -62,7 +63,7 @@ returns-then-is_running-clause-does c = λ refused.
     let under = below_first (below_first c.args.parts.now.stack.tasks) in
     let x = result_register (instr_at c.args.linked.now (method_here under) (place_here under)) in
     rw (c.receive_trapped.ensures, c.register-number.ensures.value, c.drop_task.ensures, e.gives, e.rest)
-    (return_through c.args.linked.now c.args.parts.now refused c.args.from c.end_method-gives.new.parts.active e.over c.unmark.new.self x
+    (return_through c.args.linked.now c.args.parts.now refused _ c.args.from refl c.end_method-gives.new.parts.active e.over c.unmark.new.self x
     (rw e.rest at trapped) (rw e.rest at runs) marked (rw e.rest at coded) refl)
 
 pub returns-then-is_running-clause-runs : goal.returns-then-is_running-clause-runs
@@ -79,7 +80,7 @@ serve-requires-clause-can c =
     let ending = ends_under c.args.linked.now _ e.returns trapped
     (λ runs. false≢true (sym c.if-is_running.false ∙ c.is_running.ensures.1 (rw c.drop_task.ensures runs))) in
     rw (c.register-number.ensures.value, c.drop_task.ensures, e.rest)
-    (can_serve c.args.linked.now c.args.parts.now c.args.from c.requires (rw e.rest at trapped) (rw e.rest at ending))
+    (can_serve c.args.linked.now c.args.parts.now _ c.args.from c.requires refl (rw e.rest at trapped) (rw e.rest at ending))
 
 pub returns-else-is_running-clause-does : goal.returns-else-is_running-clause-does
 returns-else-is_running-clause-does c = λ refused.
@@ -88,7 +89,7 @@ returns-else-is_running-clause-does c = λ refused.
     let ending = ends_under c.args.linked.now _ e.returns trapped
     (λ runs. false≢true (sym c.if-is_running.false ∙ c.is_running.ensures.1 (rw c.drop_task.ensures runs))) in
     rw (c.serve.ensures, c.register-number.ensures.value, c.drop_task.ensures, e.rest)
-    (return_to_end c.args.linked.now c.args.parts.now refused c.args.from c.end_method-gives.new.parts.active e.over c.unmark.new.self
+    (return_to_end c.args.linked.now c.args.parts.now refused _ c.args.from refl c.end_method-gives.new.parts.active e.over c.unmark.new.self
     (rw e.rest at ending) (rw e.rest at trapped) (rw (c.drop_task.ensures, e.rest) at c.unmark.ensures))
 
 -- ---- to the going of a cell, to a leave, or to a dispatch
@@ -103,19 +104,19 @@ returns-in-Some-Destroy-clause-does c = λ refused.
     let going = rw e.rest at (goes_on_top _ _ c.in-Some-Destroy.ensures.some c.in-Some-Destroy.field-0-is) in
     let number = number_on_top _ _ c.in-Some-Destroy.ensures.some c.in-Some-Destroy.field-0-is in
     rw (c.go_up.ensures, c.method-method.ensures, number, e.rest)
-    (return_to_going c.args.linked.now c.args.parts.now refused c.args.from c.end_method-gives.new.parts.active e.over going)
+    (return_to_going c.args.linked.now c.args.parts.now refused _ c.args.from refl c.end_method-gives.new.parts.active e.over going)
 
 pub returns-in-Some-Unwind-clause-does : goal.returns-in-Some-Unwind-clause-does
 returns-in-Some-Unwind-clause-does c = λ refused.
     let e = c.end_method-gives.ensures in
-    rw e.rest (return_to_unwinding c.args.linked.now c.args.parts.now refused c.args.from c.end_method-gives.new.parts.active e.over
+    rw e.rest (return_to_unwinding c.args.linked.now c.args.parts.now refused _ c.args.from refl c.end_method-gives.new.parts.active e.over
     (rw e.rest at (leaves_on_top _ _ c.in-Some-Unwind.ensures.some c.in-Some-Unwind.field-0-is)))
 
 pub returns-in-Some-Dispatched-clause-does : goal.returns-in-Some-Dispatched-clause-does
 returns-in-Some-Dispatched-clause-does c = λ refused.
     let e = c.end_method-gives.ensures in
     let ending = ends_on_top _ _ c.in-Some-Dispatched.ensures.some c.in-Some-Dispatched.field-0-is in
-    rw (c.hear.ensures, c.register-number.ensures.value, e.rest) (return_to_dispatch c.args.linked.now c.args.parts.now refused c.args.from
+    rw (c.hear.ensures, c.register-number.ensures.value, e.rest) (return_to_dispatch c.args.linked.now c.args.parts.now refused _ c.args.from refl
     c.end_method-gives.new.parts.active e.over _ _ (sym e.gives) (rw e.rest at ending))
 
 -- ---- nothing else stands below it

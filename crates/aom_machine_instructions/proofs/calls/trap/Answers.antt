@@ -18,7 +18,7 @@ callee-whom-requires-clause-small c = (trap_lives c.args.linked.now c.args.parts
 
 pub mark-requires : goal.mark-requires
 mark-requires c = mark_room c.args.linked.now c.args.parts.now _ c.args.method c.requires.1
-    (λ wired. (wired.trapped _ _ c.args.on c.args.method c.args.first c.requires.0 c.requires.1.here).there) (λ n sh. inl refl)
+    (λ wired. (traps_well c.args.linked.now c.args.parts.now c.args.on c.args.method c.args.first c.requires.0 c.requires.1).0) (λ n sh. inl refl)
 
 pub enter_trap-requires-clause-within : goal.enter_trap-requires-clause-within
 enter_trap-requires-clause-within c =

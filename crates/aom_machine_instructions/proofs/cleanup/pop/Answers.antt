@@ -1,10 +1,10 @@
 use Rattle.std.proofs.Common.{rules, ap, ◌∙◌, ◌∷◌}
 use Rattle.aom_machine_instructions.proofs.EntryActs.{pop_does}
-use Rattle.aom_machine_instructions.proofs.Topping.{pops_object}
+use Rattle.aom_machine_instructions.proofs.Topping.{finds_object_last}
 use Rattle.aom_machine_instructions.proofs.cleanup.pop.Goals as goal
 
 pub unreachable-requires : goal.unreachable-requires
-unreachable-requires c = let h = pops_object c.requires.0 c.args.parts.now c.args.to c.requires.1 in search rules
+unreachable-requires c = let h = finds_object_last c.requires.0 c.args.parts.now _ c.requires.1 (λ ch fr ts s n. n.1.1.0) in search rules
 
 pub returns : goal.returns
 returns c = λ refused.

@@ -2,8 +2,7 @@ use Rattle.std.proofs.Common.{ap, subst, sym, ◌<◌, ◌∙◌}
 use Rattle.std.specs.Int.{w32}
 use Rattle.std.proofs.lemmas.Int.{to_z-of_z}
 use Rattle.aom_machine_instructions.specs.Going.{is_server_class}
-use Rattle.aom_machine_instructions.proofs.RequestActs.{enlist_fresh, enlist_lives}
-use Rattle.aom_machine_instructions.proofs.EnlistActs.{enlist_free, enlist_plain_does, enlist_server_does}
+use Rattle.aom_machine_instructions.proofs.EnlistActs.{enlist_free, enlist_fresh, enlist_lives, enlist_plain_does, enlist_server_does}
 use Rattle.aom_machine_instructions.proofs.requests.enlist.Goals as goal
 use Rattle.aom_machine_instructions.proofs.requests.enlist.Goals.{then-is_server, else-is_server}
 
