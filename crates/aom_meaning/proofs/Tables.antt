@@ -17,11 +17,11 @@ pub keyword_is_plain : (key : Keyword) → list_all is_plain (keyword_text key) 
 keyword_is_plain = elim [ k.Image ↦ refl | _ ↦ refl ]
 
 pub mnemonic_reads : (m : Mnemonic) → mnemonic_of (mnemonic_text m) ≡ Some m
-mnemonic_reads = elim [ m.Sub ↦ refl | _ ↦ refl ]
+mnemonic_reads = elim [ m.And ↦ refl | _ ↦ refl ]
 
 pub mnemonic_is_plain : (m : Mnemonic) → list_all is_plain (mnemonic_text m) ≡ true
-mnemonic_is_plain = elim [ m.Sub ↦ refl | _ ↦ refl ]
+mnemonic_is_plain = elim [ m.And ↦ refl | _ ↦ refl ]
 
 -- a mnemonic is no label
 pub mnemonic_is_no_label : (m : Mnemonic) → label_of (mnemonic_text m) ≡ None
-mnemonic_is_no_label = elim [ m.Sub ↦ refl | _ ↦ refl ]
+mnemonic_is_no_label = elim [ m.And ↦ refl | _ ↦ refl ]

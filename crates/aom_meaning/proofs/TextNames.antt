@@ -70,10 +70,10 @@ record Silent (key : Keyword) : Type 0 where
   labelled : (label : List ℕ) (ws : List (List ℕ)) → name_after key ((76 ∷ label) ∷ ws) ≡ None
 
 silent_class : Silent k.Class
-silent_class = record { plain = elim [ instr.Sub a b c ↦ refl | _ ↦ refl ]; labelled = λ label. elim [ [] ↦ refl | w ∷ ws ↦ refl ] }
+silent_class = record { plain = elim [ instr.And a b c ↦ refl | _ ↦ refl ]; labelled = λ label. elim [ [] ↦ refl | w ∷ ws ↦ refl ] }
 
 silent_method : Silent k.Method
-silent_method = record { plain = elim [ instr.Sub a b c ↦ refl | _ ↦ refl ]; labelled = λ label. elim [ [] ↦ refl | w ∷ ws ↦ refl ] }
+silent_method = record { plain = elim [ instr.And a b c ↦ refl | _ ↦ refl ]; labelled = λ label. elim [ [] ↦ refl | w ∷ ws ↦ refl ] }
 
 module _ (key : Keyword) (silent : Silent key) where
   instruction_silent : (b : Bool) (place : ℕ) (i : Instr) → name_after key (label_words b place ++ words_statement i) ≡ None
