@@ -296,12 +296,12 @@ module _ (p : Image) (t : Typing) (c : Choice) (s : State) (fr : Frame) (ts : Li
   acts_wait (Counts d n) deleted fits = w
   acts_wait (Repeats d n to) deleted fits = w
   acts_wait (Calls target m first) deleted fits =
-      let is = call_is i target m first fits.0 (ap action_of fits.1) in
+      let is = call_is i target m first fits.0 fits.1 in
       calls (suc (length ts)) m first (after_of p m) target _ (omega arith)
       (subst (λ j. AllTrue (needs p c fr ts s j)) is met) (λ sh. ap (λ j. while_waiting p (Some j) sh) is)
-  acts_wait (Cancels m) deleted fits = cancels (ap action_of fits.0)
+  acts_wait (Cancels m) deleted fits = cancels fits.0
   acts_wait (Sets_trap target m first) deleted fits =
-      let is = trap_is i target m first fits.0 (ap action_of fits.1) in
+      let is = trap_is i target m first fits.0 fits.1 in
       calls (suc (suc (length ts))) m first (resting p (method_class p m)) target _
       (omega arith) (subst (λ j. AllTrue (needs p c fr ts s j)) is met) (λ sh. ap (λ j. while_waiting p (Some j) sh) is)
   acts_wait (Returns g a) deleted fits = returns g a ts refl
@@ -384,7 +384,7 @@ module _ (p : Image) (t : Typing) (c : Choice) (s u : State) (typed : WellTyped 
       go (Acts fr ts i e top there met fits same) = subst V (sym same)
           (acts_wait p t c (counted p s) fr ts top i there met (runs_typed p t s fr ts typed top) (over_these (Run fr ∷ ts) top) e
           (λ o a words is. let may = subst (May p c fr ts (counted p s) i) is fits in
-          subst V same (destroyed fr ts i o a top there (ap action_of may.0) may.1)) fits)
+          subst V same (destroyed fr ts i o a top there may.0 may.1)) fits)
       go (Vanishes ts o top there owns same) = subst V (sym same) (resumed_wait p t _ ts
           (still_wait p t s.cells _ ts (gone_same (service_of s.cells o.name).sessions (length ts) o.name (length ts) s.cells) (over_these (Destroy ∷ ts) top)))
       go (Empties ts o top there same) = subst V (sym same) (parting_waits ts o (first_session s.cells o.name (service_of s.cells o.name).sessions) top refl)

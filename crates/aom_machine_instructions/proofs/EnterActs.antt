@@ -20,7 +20,7 @@ use Rattle.std.proofs.lemmas.Bool.{eq-eqb, eqb-true, false≢true, ne_eqb}
 use Rattle.std.proofs.lemmas.Bool.Decides.{leb_tells}
 use Rattle.std.proofs.lemmas.List.{length-set}
 use Rattle.aom_image.specs.Image.{Image}
-use Rattle.aom_image.specs.Views.{arguments_of, method_at, method_class}
+use Rattle.aom_image.specs.Views.{action_in, arguments_of, method_at, method_class}
 use Rattle.aom_instructions.specs.declared.instr.Instr.TheVariants.{Call, Trap}
 use Rattle.aom_instructions.specs.declared.instr.Target.{Target}
 use Rattle.aom_instructions.specs.declared.instr.Target.TheVariants.{This, Register as On_register, Field as On_field, Entry as On_entry}
@@ -485,14 +485,14 @@ trap_does p m refused target k first x = plain_in p m _ refused (Trap target k f
 pub calls_well : (p : Image) (m : Parts) (target : Target) (k first x : ℕ) → IsNext p (Call target k first x) m →
     IsSome (method_at p k) × ((first + length (arguments_of p k)) ≤ 16)
 calls_well p m target k first x next = (
-  (next.stands.1.sound.wired.called (method_here m.stack.tasks) (place_here m.stack.tasks) target k first x next.here).there,
+  (next.stands.1.sound.wired.called (method_here m.stack.tasks) (place_here m.stack.tasks) target k first x (ap action_in next.here)).there,
   needs_say p m (Call target k first x) _ (λ c fr ts s n. entering_fits p fr ts s target k first _ n) next,
 )
 
 pub traps_well : (p : Image) (m : Parts) (target : Target) (k first x : ℕ) → IsNext p (Trap target k first x) m →
     IsSome (method_at p k) × ((first + length (arguments_of p k)) ≤ 16)
 traps_well p m target k first x next = (
-  (next.stands.1.sound.wired.trapped (method_here m.stack.tasks) (place_here m.stack.tasks) target k first x next.here).there,
+  (next.stands.1.sound.wired.trapped (method_here m.stack.tasks) (place_here m.stack.tasks) target k first x (ap action_in next.here)).there,
   needs_say p m (Trap target k first x) _ (λ c fr ts s n. entering_fits p fr ts s target k first _ n) next,
 )
 

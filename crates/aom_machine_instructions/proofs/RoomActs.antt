@@ -7,8 +7,9 @@ use Rattle.aom_machine_instructions.proofs.InstructionsLemmas.{call_is, operatio
 use Rattle.std.proofs.lemmas.Bool.{ne_eqb}
 use Rattle.std.specs.Prelude.{is_some, not, ◌||◌}
 use Rattle.aom_image.specs.Image.{Image}
-use Rattle.aom_image.specs.Views.{arguments_of, gives_of, instr_at, is_quiet, leaves, method_class, method_role}
-use Rattle.aom_instructions.specs.Table.{action_of, transfer_of}
+use Rattle.aom_image.specs.Views.{action_in, arguments_of, gives_of, instr_at, is_quiet, leaves, method_class, method_role}
+use Rattle.aom_instructions.specs.Table.{action_of}
+use Rattle.aom_instructions.specs.declared.action.Action.{Action}
 use Rattle.aom_instructions.specs.declared.action.Action.TheVariants as action
 use Rattle.aom_instructions.specs.declared.action.Manner.{Manner}
 use Rattle.aom_instructions.specs.declared.action.Manner.TheVariants.{Plain, Trapped as Under_trap}
@@ -317,7 +318,7 @@ module _ (p : Image) (t : Typing) (depth heights : ℕ → ℕ) (tables : Tables
         let more = all_parts (each_argument p h.shape (arguments_of p m) first) _ parts.1.1 in
         let view = target_view p fr ts s target (method_class p m) in
         let k = run_by p fr ts s target m in
-        let there = (tables.wired.called fr.method fr.place target m first x (stands ∙ ap (λ j. Some j) (call_is i target m first x is))).there in
+        let there = (tables.wired.called fr.method fr.place target m first x (ap action_in stands ∙ ap (λ (a : Action). Some a) is)).there in
         let charge = call_charged i Plain target m first x is in
         begins p depth heights (given_cells p fr ts s (over_caller p fr ts s) m first) s.items (entered p fr ts s target m first (length s.items))
         (Run fr ∷ ts) refl (less_deep i (A_call m) k stands charge (run_among p m k (body_runs p m view)))
@@ -524,13 +525,11 @@ module _ (p : Image) (t : Typing) (depth heights : ℕ → ℕ) (tables : Tables
     updated_room i stands r n (Replied a code) f = moves (cells_after p fr ts s (Replied a code)) (replied_same a code)
     updated_room i stands r n (Handed name a) f = moves (cells_after p fr ts s (Handed name a)) (handed_same name a)
     updated_room i stands r n (Pushed a) f =
-        let is = ap action_of f.0 in
-        let it = push_is i a is in
-        push_room i a stands is (subst Ruled it r).1.0 (subst Leading it n).0
+        let it = push_is i a f.0 in
+        push_room i a stands f.0 (subst Ruled it r).1.0 (subst Leading it n).0
     updated_room i stands r n (Pushed_operation m v) f =
-        let is = ap action_of f.1 in
-        let it = operation_is i f.0 m is in
-        push_operation_room i f.0 m v stands is (subst Ruled it r).1.0 (subst Leading it n).0
+        let it = operation_is i f.0 m f.1 in
+        push_operation_room i f.0 m v stands f.1 (subst Ruled it r).1.0 (subst Leading it n).0
     updated_room i stands r n (Popped a) f = pop_room a (subst Ruled f.0 r).1.0
     updated_room i stands r n Popped_operation f = popped_top p depth heights s.cells s.items (Run fr ∷ ts) (low_below (subst Ruled f.0 r).0) w
 
@@ -551,18 +550,18 @@ module _ (p : Image) (t : Typing) (depth heights : ℕ → ℕ) (tables : Tables
     acts_room i stands r n (Jumps to) f = w
     acts_room i stands r n (Counts d rounds) f = w
     acts_room i stands r n (Repeats d rounds to) f = w
-    acts_room i stands r n (Calls target m first) f = call_room i target m first f.0 stands (ap action_of f.1) r
-    acts_room i stands r n (Cancels m) f = cancel_room i m stands (ap action_of f.0) f.1
-    acts_room i stands r n (Sets_trap target m first) f = trap_room i target m first f.0 stands (ap action_of f.1) r
+    acts_room i stands r n (Calls target m first) f = call_room i target m first f.0 stands f.1 r
+    acts_room i stands r n (Cancels m) f = cancel_room i m stands f.0 f.1
+    acts_room i stands r n (Sets_trap target m first) f = trap_room i target m first f.0 stands f.1 r
     acts_room i stands r n (Returns g a) f = return_room g a ts h.low_under line (λ nothing. ended_high
-        (none_left p fr h.shape a nothing (returnable p fr h.shape a (subst Ruled (return_is i a (ap transfer_of f.0)) r))))
+        (none_left p fr h.shape a nothing (returnable p fr h.shape a (subst Ruled (return_is i a f.0) r))))
         (dropped p depth heights s.cells s.items fr ts w)
     acts_room i stands r n (Leaves code u) f =
         let cs = cells_after p fr ts s u in
         let items = items_after u s.items in
         off_to_trap p depth heights cs items ts (dropped p depth heights cs items fr ts (updated_room i stands r n u f.2))
     acts_room i stands r n (Destroys o a words) f =
-        delete_room i o a words stands (ap action_of f.0) f.1 (subst (λ x. Fits p (seen s.cells) x (register h.shape a)) f.1 (h.fits a))
+        delete_room i o a words stands f.0 f.1 (subst (λ x. Fits p (seen s.cells) x (register h.shape a)) f.1 (h.fits a))
     acts_room i stands r n (Destroys_last o) f = clears s.cells
         (below_top s.items) o (Run fr ∷ ts) f.2 unheld tt (low_below (subst Ruled f.0 r).0) (subst (λ is. Roomy p depth heights s.cells is (Run fr ∷ ts)) f.1 w)
     acts_room i stands r n (Operates m v) f = undoes s.cells (below_top s.items) m v (Run fr ∷ ts)

@@ -4,6 +4,9 @@ use Rattle.aom_machine_instructions.proofs.Rooms.{mark_room}
 use Rattle.aom_machine_instructions.proofs.ShapeLemmas.{arguments_there, class_there}
 use Rattle.aom_machine_instructions.proofs.calls.trap.Goals as goal
 
+pub method-called-requires : goal.method-called-requires
+method-called-requires c = (traps_well c.args.linked.now c.args.parts.now c.args.on c.args.method c.args.first c.requires.0 c.requires.1).0
+
 pub callee-whom-requires-clause-there : goal.callee-whom-requires-clause-there
 callee-whom-requires-clause-there c = (traps_well c.args.linked.now c.args.parts.now c.args.on c.args.method c.args.first c.requires.0 c.requires.1).0
 
