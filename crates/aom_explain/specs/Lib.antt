@@ -4,6 +4,8 @@ pub mod Lines
 pub mod Linking
 pub mod Compared
 pub mod Entries
+pub mod Forms
+pub mod Misshapen
 pub mod Known
 pub mod Places
 pub mod Sources

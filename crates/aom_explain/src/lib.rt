@@ -7,6 +7,7 @@
 //! instruction are written as in a listing; `put_source` and `put_declared` write in their place the statements of a text, as
 //! `specs/Sources.antt` says, and `put_lined` all in one line, as `specs/Lines.antt` says. `put_link_place` and `put_link_source` write
 //! where an image fails a link condition (`specs/Linking.antt`), and `put_known` what is known where a method stands (`specs/Known.antt`).
+//! `put_form` writes how the instruction of a line is to be written whose words have another form (`specs/Forms.antt`, `specs/Misshapen.antt`).
 //!
 //! The way back from an image to its text: `image_statement`, `class_statement`, `method_statement` and `instruction_statement` answer
 //! the statements, with their lines, that `specs/Declarations.antt` finds in a text by counting those that begin with `class` or `method`;
@@ -21,12 +22,14 @@ mod budget;
 mod compared;
 mod entry;
 mod finding;
+mod form;
 mod known;
 mod laws;
 mod lined;
 mod link;
 mod linking;
 mod load;
+mod misshapen;
 mod naming;
 mod place;
 mod script;
@@ -42,6 +45,7 @@ pub use known::put_known;
 pub use laws::statements_declare;
 pub use lined::{budget_line, class_lines, image_line, method_lines, put_lined, refusal_line};
 pub use linking::{link_line, put_link_place, put_link_source};
+pub use misshapen::put_form;
 pub use naming::{class_names, method_names};
 pub use place::{put_line, put_method, put_word};
 pub use source::{put_declared, put_source};

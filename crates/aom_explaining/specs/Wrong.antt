@@ -4,7 +4,8 @@ use Rattle.aom_asm.specs.Denoted.{denoted}
 use Rattle.aom_text.specs.Words.{is_blank}
 use Rattle.aom_text.specs.declared.fault.AsmFault.{AsmFault}
 use Rattle.aom_text.specs.declared.fault.AsmFaultKind.{AsmFaultKind}
-use Rattle.aom_text.specs.declared.fault.AsmFaultKind.TheVariants.{UnknownWord, BadNumber}
+use Rattle.aom_text.specs.declared.fault.AsmFaultKind.TheVariants.{UnknownWord, BadNumber, BadShape, DoubleName}
+use Rattle.aom_explain.specs.Misshapen.{form_text}
 use Rattle.aom_explain.specs.Places.{word_text}
 
 -- ---- words and lines in a text
@@ -57,12 +58,18 @@ pub record TellsWord (text : List ℕ) (fault : AsmFault) (before after : List �
   pub wrong : IsWrongEnd text fault end
   pub put : after ≡ before ++ end_text text end
 
--- it is told where a word should be one of the language, or a number
+-- it is told where a word should be one of the language, a number, or a name that is new
 abbrev pub has_word : AsmFaultKind → Bool
 has_word UnknownWord = true
 has_word BadNumber = true
+has_word DoubleName = true
 has_word _ = false
+
+-- of a wrong shape the form of the instruction is told that has another one
+abbrev pub shape_text : AsmFaultKind → List ℕ → ℕ → List ℕ
+shape_text BadShape text line = form_text text line
+shape_text _ text line = []
 
 abbrev pub AddsWord : Bool → (text : List ℕ) → AsmFault → List ℕ → List ℕ → Type 0
 AddsWord true text fault before after = TellsWord text fault before after
-AddsWord false text fault before after = after ≡ before
+AddsWord false text fault before after = after ≡ before ++ shape_text fault.kind text fault.line

@@ -1,4 +1,4 @@
-//! Which word of a text is wrong: the first one behind which the text may end and is refused so already.
+//! Which word of a text is wrong: the first one behind which the text may end and is refused so already. Of a wrong shape the form is told.
 ghost use Rattle.std.specs.Prelude.{◌≡◌, ◌≢◌, ◌≤◌, ◌<◌, ◌↔◌, ◌++◌, IfOk, IsTrue, OnOk, Err, length, slice_index_or};
 ghost use Rattle.aom_asm.specs.Denoted.{denoted};
 ghost use Rattle.aom_text.specs.declared.fault.AsmFaultKind.TheVariants.{OutOfMemory};
@@ -6,7 +6,7 @@ ghost use Rattle.aom_explain.specs.Places.{line_text};
 ghost use Rattle.aom_explaining.specs.Wrong.{AddsWord, IsWrongEnd, TellsWord, ends_word, has_word, line_start, parts_words, word_start};
 
 use aom_asm::assemble;
-use aom_explain::{put_line, put_word};
+use aom_explain::{put_form, put_line, put_word};
 use aom_figures::FigureWriter;
 use aom_text::{AsmFault, AsmFaultKind};
 use std::alloc::{AllocError, Global};
@@ -117,7 +117,8 @@ fn put_wrong(
     }
 }
 
-/// Writes the line of a text in which it has a fault, and the word that is none of the language or no number, where that is it.
+/// Writes the line of a text in which it has a fault; then the word that is wrong, where it is one, or the form of an instruction
+/// that has another one.
 pub fn put_asm(
     alloc: Global,
     out: &mut FigureWriter,
@@ -128,7 +129,10 @@ pub fn put_asm(
 {
     put_line(out, text, fault.line)?;
     match fault.kind {
-        AsmFaultKind::UnknownWord | AsmFaultKind::BadNumber => put_wrong(alloc, out, text, fault),
+        AsmFaultKind::UnknownWord | AsmFaultKind::BadNumber | AsmFaultKind::DoubleName => {
+            put_wrong(alloc, out, text, fault)
+        }
+        AsmFaultKind::BadShape => put_form(alloc, out, text, fault.line),
         _ => Ok(()),
     }
 }
