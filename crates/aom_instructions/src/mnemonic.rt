@@ -545,6 +545,7 @@ impl Instr {
     }
 
     /// Where its method goes on from it.
+    #[inline(always)]
     pub fn transfer(&self) -> Transfer
         ensures { result ≡ transfer_of self.now }
     {
@@ -566,6 +567,7 @@ impl Instr {
     }
 
     /// What it does with methods and objects.
+    #[inline(always)]
     pub fn action(&self) -> Action
         ensures { result ≡ action_of self.now }
     {
