@@ -3,6 +3,7 @@ use Rattle.std.specs.Prelude.{ℕ, List, [], ◌∷◌, ◌++◌, Option, Some, 
 use Rattle.std.specs.List.{filter}
 use Rattle.aom_budget.specs.declared.fault.BudgetFault.{BudgetFault}
 use Rattle.aom_budget.specs.declared.fault.BudgetFault.TheVariants.{OverBudget, TooDeep, CleanupTooDeep, OutOfMemory}
+use Rattle.aom_classes.specs.Roles.{or_else}
 use Rattle.aom_explain.specs.Declarations.{begins, image_statement, instruction_statement, method_statement}
 use Rattle.aom_explain.specs.Sources.{budget_statement}
 use Rattle.aom_figures.specs.Places.{place_text}
@@ -14,11 +15,6 @@ use Rattle.aom_text.specs.declared.text.Statement.{Statement}
 -- the number of a statement's line, where there is one
 abbrev pub line_of : Option Statement → Option ℕ
 line_of found = option_map (λ s. s.line) found
-
--- a line, or where there is none the other
-abbrev pub or_else : Option ℕ → Option ℕ → Option ℕ
-or_else (Some line) other = Some line
-or_else None other = other
 
 -- of a place of a method, the line of the instruction there; behind the last one there is none, and it is the method's
 abbrev pub refusal_line : List ℕ → ℕ → ℕ → Option ℕ

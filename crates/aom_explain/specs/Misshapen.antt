@@ -1,5 +1,6 @@
 -- Which instruction of a text has words of another form.
 use Rattle.std.specs.Prelude.{ℕ, ◌==◌, ◌^◌, nat_le, Bool, true, false, is_some, if◌then◌else◌, List, [], ◌∷◌, length, Option, Some, None, Result, Ok, Err}
+use Rattle.aom_classes.specs.Roles.{or_else}
 use Rattle.aom_instructions.specs.Mnemonics.{mnemonic_of}
 use Rattle.aom_instructions.specs.declared.mnemonic.Mnemonic.{Mnemonic}
 use Rattle.aom_instructions.specs.declared.version.Version.TheVariants.{Two}
@@ -45,15 +46,10 @@ first_mnemonic ws = mnemonic_in (first_of ws)
 abbrev pub misshapen : List (List ℕ) → Option Mnemonic
 misshapen ws = if is_misshapen ws then first_mnemonic ws else None
 
--- the first that there is
-abbrev pub first_there : Option Mnemonic → Option Mnemonic → Option Mnemonic
-first_there (Some m) later = Some m
-first_there None later = later
-
 -- the first mnemonic of misshapen words among the statements in a line
 abbrev pub misshapen_in : ℕ → List Statement → Option Mnemonic
 misshapen_in line [] = None
-misshapen_in line (s ∷ ss) = if s.line == line then first_there (misshapen (unlabelled s.words)) (misshapen_in line ss) else misshapen_in line ss
+misshapen_in line (s ∷ ss) = if s.line == line then or_else (misshapen (unlabelled s.words)) (misshapen_in line ss) else misshapen_in line ss
 
 -- its form, where there is one
 abbrev pub form_of : Option Mnemonic → List ℕ

@@ -10,7 +10,7 @@ use aom_text::{AsmFaultKind, StatementCursor, WordCursor};
 use std::alloc::{AllocError, Global};
 
 /// No text is longer.
-const MOST_BYTES: usize = 1048576;
+const MOST_BYTES: usize = 1 << 20;
 
 /// Whether words are no instruction of any version, by their shape alone.
 fn is_misshapen(alloc: Global, words: WordCursor) -> bool
