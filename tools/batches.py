@@ -2,9 +2,10 @@
 
 import os
 import re
-from dataclasses import dataclass
+from dataclasses import dataclass, field
 
 import source
+from doubles import double_of
 from edit_files import apply_changes, read_text
 
 CALLS = re.compile(r";? ?it calls .*, which (is|are) not proved")
@@ -76,29 +77,48 @@ def turned_by(crate, folder, edit):
     return frozenset(found)
 
 
+@dataclass(frozen=True)
+class Placed:
+    """An edit with its place in a batch: the functions that it turns in the code as it stands, those that it turns in the batch's check, where it may
+    turn a double, the changes that do so, and the texts of the files that these want."""
+
+    edit: object
+    known: frozenset
+    turned: frozenset
+    changes: tuple
+    files: dict = field(default_factory=dict)
+
+    def asked(self):
+        """What a check of the edit alone is asked for."""
+        return sorted(it.path() for it in self.known)
+
+
 def plan(crate, folder, edits):
     """The edits in batches that turn each function once at most, and those that want a check of their own."""
     batches, alone = [], []
-    for edit in edits:
+    for number, edit in enumerate(edits):
         turned = turned_by(crate, folder, edit)
         if not turned:
             alone.append(edit)
             continue
-        free = next((it for it in batches if not any(turned & other for other in it.values())), None)
+        placed = Placed(edit, turned, turned, tuple(edit.changes))
+        if batches and any(turned & it.turned for it in batches[0]):
+            placed = double_of(crate, folder, placed, number) or placed
+        free = next((it for it in batches if not any(placed.turned & other.turned for other in it)), None)
         if free is None:
-            batches.append(free := {})
-        free[edit.name] = turned
-    by_name = {it.name: it for it in edits}
-    return [[(by_name[name], turned) for name, turned in it.items()] for it in batches], alone
+            batches.append(free := [])
+        free.append(placed)
+    return batches, alone
 
 
-def texts_of(folder, edits):
-    """The texts of the files that several edits change, by their places in the files as they stand."""
-    changes = {}
-    for edit in edits:
-        for it in edit.changes:
+def texts_of(folder, batch):
+    """The texts of the files that the edits of a batch change, by their places in the files as they stand, and of those that they bring."""
+    changes, texts = {}, {}
+    for placed in batch:
+        texts.update(placed.files)
+        for it in placed.changes:
             changes.setdefault(it.path, []).append(it)
-    return {path: apply_changes(read_text(f"{folder}/{path}"), its) for path, its in changes.items()}
+    return texts | {path: apply_changes(read_text(f"{folder}/{path}"), its) for path, its in changes.items()}
 
 
 def own_failures(crate, lines):
@@ -118,16 +138,16 @@ def own_failures(crate, lines):
     return found
 
 
-def shown(crate, batch, status, lines, folders=()):
-    """The edits of a batch that its check shows refused: a function that each turns has a failure of its own, or its proof stands in a
-    folder with a goal that is left open, and no function that is not turned has one."""
+def shown(crate, batch, status, lines):
+    """The names of the edits of a batch that its check shows refused: a function that each turns has a failure of its own, and no function that
+    is not turned has one."""
     if status != 1 or not any(it.startswith(("logic=not-proved", "only=")) for it in lines):
         return set()
     failed = own_failures(crate, lines)
-    everything = [it for _, turned in batch for it in turned]
+    everything = [it for placed in batch for it in placed.turned]
     if any(not any(it.is_told_by(path) for it in everything) for path in failed):
         return set()
-    return {edit.name for edit, turned in batch if any(it.folder() in folders or any(map(it.is_told_by, failed)) for it in turned)}
+    return {it.edit.name for it in batch if any(one.is_told_by(path) for one in it.turned for path in failed)}
 
 
 def refused_at(status, lines, functions):

@@ -11,6 +11,10 @@ LAWS, ROOT = "src/laws.rt", "src/lib.rt"
 USE = re.compile(r"(?m)^ghost use (\S+?)\.\{([^}]*)\};$")
 COPY = re.compile(r"(?:\./)?((?:specs|proofs)/Edited\d+_\w+\.antt|src/edited_\d+\.rt|proofs/edited_\d+/\w+/Answers\.antt):")
 TOLD = re.compile(r"fn \w+::edited_\d+::")
+# what a law's goal is tried with
+TACTIC = r"#\[tactic\(.*\)\]"
+# what a file of laws alone has
+LINES = re.compile(rf"(?m)^(//.*|ghost use .*|{TACTIC}|pub fn \w+\(\)\n(?:    .+\n)*\{{\}})$")
 # a file can say which files stand below it
 BELOW = re.compile(r"(?m)^(?:pub )?mod \w+\n")
 
@@ -46,7 +50,8 @@ class Laws:
                 paths = [os.path.relpath(f"{at}/{it}", folder) for it in names if it.endswith(".antt")]
                 self.files.update({it.removesuffix(".antt").replace("/", "."): it for it in paths})
         self.texts = {it: read_text(f"{folder}/{path}") for it, path in self.files.items()}
-        self.named = re.compile(rf"\bRattle\.{crate}\.((?:specs|proofs)(?:\.\w+)+)")
+        # a name of the crate's logic, and one in an attribute
+        self.named = re.compile(rf"\b(Rattle\.{crate}\.|crate::)((?:specs|proofs)(?:(?:\.|::)\w+)+)")
 
     def module_of(self, words):
         """The file that a name of the crate's logic begins with; empty where it is of none."""
@@ -55,7 +60,7 @@ class Laws:
         return words
 
     def named_in(self, text):
-        return {self.module_of(it[1]) for it in self.named.finditer(text)} - {""}
+        return {self.module_of(it[2].replace("::", ".")) for it in self.named.finditer(text)} - {""}
 
     def reached(self, text):
         """The modules that a text stands on."""
@@ -68,7 +73,7 @@ class Laws:
     def law(self, name):
         """The text of a law, with what it imports alone."""
         text = read_text(f"{self.folder}/{LAWS}")
-        found = re.search(rf"(?m)^pub fn {name}\(\)\n(?:    .+\n)*\{{\}}$", text)
+        found = re.search(rf"(?m)^(?:{TACTIC}\n)?pub fn {name}\(\)\n(?:    .+\n)*\{{\}}$", text)
         if not found:
             return ""
         words = set(re.findall(r"\w+", found[0]))
@@ -95,11 +100,13 @@ class Laws:
         def renamed(text):
             """A text that names the copies."""
 
-            def other(found):
-                of = self.module_of(found[1])
-                return f"Rattle.{self.crate}.{names.get(of, of)}{found[1][len(of) :]}" if of else found[0]
+            def name_of(found):
+                words = found[2].replace("::", ".")
+                of = self.module_of(words)
+                other = f"{names.get(of, of)}{words[len(of) :]}" if of else words
+                return found[1] + (other if found[1].startswith("Rattle") else other.replace(".", "::"))
 
-            return self.named.sub(other, text)
+            return self.named.sub(name_of, text)
 
         texts = {f"src/{module}.rt": renamed(text)}
         if answer:
@@ -114,7 +121,7 @@ class Laws:
 def has_laws_apart(folder):
     """Whether a crate has a file of laws alone."""
     path = f"{folder}/{LAWS}"
-    return os.path.isfile(path) and not re.search(r"\S", re.sub(r"(?m)^(//.*|ghost use .*|pub fn \w+\(\)\n(?:    .+\n)*\{\})$", "", read_text(path)))
+    return os.path.isfile(path) and not re.search(r"\S", LINES.sub("", read_text(path)))
 
 
 def copies_of(crate, folder, edits, places):

@@ -34,16 +34,6 @@ def turned_in(crate, folder, path, functions):
     return [Turned(homes[it.owner], it.owner, it.name) for it in functions]
 
 
-def with_facts(crate, folder):
-    """Where the proofs of those functions of a crate stand of which an attribute says what their goals are tried with."""
-    found = set()
-    for path, text, functions in sources_of(folder):
-        for one, it in zip(functions, turned_in(crate, folder, path, functions)):
-            if "#[tactic(" in text[text.rfind("\n\n", 0, one.start) + 1 : one.start]:
-                found.add(it.folder())
-    return found
-
-
 def write_proof(crate, folder, function):
     words = [it for it in (*function.module.split("::")[1:], function.owner, function.name) if it]
     at = "/".join([folder, "proofs", *words])

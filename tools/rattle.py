@@ -31,9 +31,9 @@ def words_of(house, name):
 
 
 def check(house, name, folder, functions, kept):
-    """Checks the crate in a folder over what another folder keeps, or these of its functions, where the proofs of others may be holes:
+    """Checks the crate in a folder, over what another folder keeps if one is named, or these of its functions, where the proofs of others may be holes:
     the status, what was said, and the processor's seconds. A check that fails without a reason was broken off, and is begun once more."""
-    words = [f"{kit()}/bin/rattle", "check", *words_of(house, name), "--incremental", kept]
+    words = [f"{kit()}/bin/rattle", "check", *words_of(house, name), *(["--incremental", kept] if kept else [])]
     for it in functions:
         words += ["--only", it]
     if functions:

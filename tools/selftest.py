@@ -105,11 +105,6 @@ pub fn two() -> u8
     1
 }
 """
-# a goal that is open, one that is closed, and one that is none
-GOALS = """- double-is-threefold.edit: proofs/double returns c
-- harmless.edit: proofs/part returns c
-- threefold-is-double.edit: proofs/threefold returns-otherwise c
-"""
 WHERE = """- no-text-of-the-logic.edit: laws::sixfold_is_so
 - sixfold-in-other-words.edit: laws::sixfold_is_so
 - sixfold-is-sevenfold.edit: laws::sixfold_is_so
@@ -121,7 +116,6 @@ FILES = {
     "crates/sample/src/lib.rt": SAMPLE,
     "crates/sample/proofs/fivefold/Answers.antt": FIVEFOLD,
     "crates/sample/proofs/again/Answers.antt": AGAIN,
-    "crates/sample/must-fail/goals.md": GOALS,
     "crates/stated/src/lib.rt": STATED,
     "crates/stated/src/laws.rt": STATED_LAWS,
     "crates/stated/specs/Lib.antt": "pub mod Amounts\n",
@@ -137,9 +131,14 @@ EDITS = [
     # beside another that it calls, and that is refused
     ("sample", "fourfold-in-other-words", CODE, "double(number) + double(number)", "double(number) * 2", ""),
     ("sample", "harmless", CODE, "number / 2", "number / 4", ""),
+    # of a double, which is refused for what it turns alone
+    ("sample", "harmless-too", CODE, "number / 2", "number / 8", ""),
+    ("sample", "part-is-more", CODE, "number / 2", "number | 1", GOAL),
     ("sample", "stands-nowhere", CODE, "number / 3", "number", ""),
     ("sample", "fivefold-is-sixfold", CODE, "fourfold(number) + number as u16", "fourfold(number) + double(number)", GOAL),
     ("sample", "fivefold-in-other-words", CODE, "fourfold(number) + number as u16", "threefold(number) + double(number)", NAME),
+    ("sample", "fivefold-the-other-way", CODE, "fourfold(number) + number as u16", "number as u16 + fourfold(number)", ""),
+    ("sample", "fivefold-is-fourfold", CODE, "fourfold(number) + number as u16", "fourfold(number)", GOAL),
     ("sample", "again-in-other-words", CODE, "let once = number as u16;", "let once = number as u16 * 1;", ANSWER),
     # the same way, and no page shows it
     ("sample", "again-without-a-page", CODE, "let once = number as u16;", "let once = number as u16 + 0;", ANSWER),

@@ -34,10 +34,10 @@ def kind_of(found):
     return next((it for it in KINDS if it in kinds), GOAL)
 
 
-def kind_in_batch(lines, turned, is_left_open):
-    """By what a check refuses an edit that turns these functions, where a goal of one is left open or not."""
+def kind_in_batch(lines, turned):
+    """By what a check refuses an edit that turns these functions there."""
     folders = {it.folder() for it in turned}
-    found, is_open = [], is_left_open
+    found, is_open = [], False
     for it in messages(lines):
         told, refused = FUNCTION.match(it), REFUSED.match(it)
         if OPEN.match(it):
@@ -45,10 +45,10 @@ def kind_in_batch(lines, turned, is_left_open):
         elif told:
             if any(one.is_told_by(told[1]) for one in turned) and (is_open or "did not prove" in told[2]):
                 return GOAL
-            is_open = is_left_open
+            is_open = False
         elif refused and refused[1].replace("/+", "/") in folders:
             found.append(refused[2])
-    return GOAL if is_left_open else kind_of(found)
+    return kind_of(found)
 
 
 def kind_alone(lines):

@@ -14,12 +14,15 @@ CLAUSE = re.compile(r"\b(requires|ensures|ghost)\b")
 
 @dataclass(frozen=True)
 class Function:
-    """A function with a body: its words in the names of a check, and the span of its body, braces included."""
+    """A function with a body: its words in the names of a check, the span of its body, braces included, where its `fn` stands, and
+    whether a trait says which functions stand beside it."""
 
     name: str
     owner: str
     start: int
     end: int
+    at: int
+    is_of_trait: bool
 
     def holds(self, start, end):
         return self.start < start and end < self.end
@@ -92,14 +95,14 @@ def functions_of(text):
     """The functions of a file, those of its `impl` blocks, traits and inner modules too."""
     code = blanked(text)
     found = []
-    collect(code, 0, len(code), "", found)
+    collect(code, 0, len(code), "", False, found)
     return found
 
 
 ITEM = re.compile(r"\b(?:(?P<fn>fn)\s+(?P<name>[a-z_][A-Za-z0-9_]*)|(?P<block>impl|trait|mod)\b(?P<head>[^{;]*)\{)")
 
 
-def collect(code, at, end, owner, found):
+def collect(code, at, end, owner, is_of_trait, found):
     while at < end:
         item = ITEM.search(code, at, end)
         if not item:
@@ -107,10 +110,11 @@ def collect(code, at, end, owner, found):
         if item["fn"]:
             body = body_of(code, item.end())
             if body:
-                found.append(Function(item["name"], owner, *body))
+                found.append(Function(item["name"], owner, *body, item.start(), is_of_trait))
             at = body[1] if body else item.end()
             continue
         block = closing(code, item.end() - 1)
         inner = owner_of(item["block"] + item["head"]) if item["block"] != "mod" else plain(item["head"])
-        collect(code, item.end(), block - 1, inner, found)
+        is_of_trait = item["block"] == "trait" or bool(re.search(r"\bfor\s", item["head"]))
+        collect(code, item.end(), block - 1, inner, is_of_trait, found)
         at = block

@@ -9,8 +9,7 @@ import rattle
 from batches import plan, refused_at, shown, texts_of, unread
 from copies import copies_of, is_of_copies, texts_beside
 from edit_files import edit_faults, edit_files, places_of, read_edit, write_text
-from goals import goals_of, left_open, offered, without_tries, write_answers
-from holes import make_holes, with_facts
+from holes import make_holes
 from house import PARTS, copy_parts, tells_errors
 from showing import GOAL, KINDS as SHOWN, kind_alone, kind_in_batch
 from verdicts import Verdicts
@@ -31,8 +30,8 @@ class Trial:
         # by what each was refused, and those that neither their contract nor a page or a test shows
         self.kinds, self.unshown = {}, []
         self.seconds, self.checks = dict.fromkeys(KINDS, 0.0), dict.fromkeys(KINDS, 0)
-        # by crate: where its libraries lie, and what its checks have kept
-        self.libraries, self.kept, self.rest = {}, {}, {}
+        # by crate: where its libraries lie, what its checks have kept, which come after the first, and whether any do
+        self.libraries, self.kept, self.rest, self.has_more = {}, {}, {}, {}
         self.proved, self.given_up = set(), set()
         # what is kept of a crate is read or replaced by one check at a time
         self.lock, self.moving = threading.Lock(), threading.Lock()
@@ -40,7 +39,6 @@ class Trial:
         self.known = {it: self.known_of(it) for it in self.names}
         self.weight = {it: house.lines(it) for it in self.names}
         self.places = {it: places_of(house.folder(it)) for it in self.names}
-        self.goals = {it: goals_of(house.folder(it)) for it in self.names}
 
     def known_of(self, name):
         """The edits of a crate that an earlier run saw refused, as it and they stand."""
@@ -75,9 +73,8 @@ class Trial:
             (self.passed if well else self.failed).append(f"{name}/{edit}")
             self.say(f"must-fail {name}/{edit}: {text}")
 
-    def tell_refused(self, name, edit, kind, text, goals=()):
+    def tell_refused(self, name, edit, kind, text):
         with self.lock:
-            self.goals[name][edit] = list(goals)
             self.kinds[f"{name}/{edit}"] = kind
         if name in self.proved:
             self.keep_refused(name, edit)
@@ -93,7 +90,7 @@ class Trial:
         self.tell(name, edit, True, f"refused, as it must be, by {kind}{shown}{text}")
 
     def keep_refused(self, name, edit):
-        self.verdicts.keep_refused(name, edit, self.kinds[f"{name}/{edit}"], self.goals[name].get(edit, []))
+        self.verdicts.keep_refused(name, edit, self.kinds[f"{name}/{edit}"])
 
     def shown_by(self):
         """How many of the edits that are refused are so by each kind of what a check says."""
@@ -147,7 +144,7 @@ class Trial:
         adders = [lambda it=it, own=copies if it is batches[0] else (): self.add_batch(name, it, own) for it in batches]
         adders += [lambda it=it: self.add_alone(name, it) for it in left]
         at_once = len(adders) if kept else 1
-        self.rest[name] = adders[at_once:]
+        self.rest[name], self.has_more[name] = adders[at_once:], len(adders) > 1
         for add in adders[:at_once]:
             add()
 
@@ -168,7 +165,7 @@ class Trial:
         if len(batch) + len(copies) > 1:
             self.add(name, len(batch) + len(copies), lambda: self.try_batch(name, batch, copies))
         elif batch:
-            self.add_alone(name, batch[0][0], [it.path() for it in batch[0][1]])
+            self.add_alone(name, batch[0].edit, batch[0].asked())
         elif copies:
             self.add_alone(name, copies[0].edit)
 
@@ -184,27 +181,27 @@ class Trial:
         """Adds a check of the whole crate with an edit."""
         self.add(name, 0, lambda: self.try_whole(name, edit))
 
-    def check_with(self, kind, name, texts, functions, goals=()):
+    def check_with(self, kind, name, texts, functions):
         """Checks a copy of a crate with these texts in place of its own, over what is kept of the crate: all of it, or these functions,
-        with holes for the others. These goals are answered. What cannot be judged so is checked without holes."""
-        answer = self.check_copy(kind, name, texts, functions, bool(functions), goals)
+        with holes for the others. What cannot be judged so is checked without holes."""
+        answer = self.check_copy(kind, name, texts, functions, bool(functions))
         if functions and not rattle.is_judged(answer[1]):
-            answer = self.check_copy(kind, name, texts, functions, False, goals)
+            answer = self.check_copy(kind, name, texts, functions, False)
         self.add_rest(name)
         return answer
 
-    def check_copy(self, kind, name, texts, functions, with_holes, goals):
+    def check_copy(self, kind, name, texts, functions, with_holes):
         with tempfile.TemporaryDirectory(dir=self.place, ignore_cleanup_errors=True) as room:
             copy_parts(self.house.folder(name), f"{room}/c", PARTS)
             for path, text in texts.items():
                 write_text(f"{room}/c/{path}", text)
             if with_holes:
                 make_holes(name, f"{room}/c", functions)
-            write_answers(name, f"{room}/c", goals)
             with self.moving:
                 if self.kept[name]:
                     shutil.copytree(self.kept[name], f"{room}/kept")
-            answer = self.checked(kind, name, f"{room}/c", functions, f"{room}/kept")
+            kept = f"{room}/kept" if self.kept[name] or self.has_more[name] else ""
+            answer = self.checked(kind, name, f"{room}/c", functions, kept)
             if os.path.isdir(f"{room}/kept") and (not texts or not self.kept[name]):
                 self.keep(name, f"{room}/kept")
         return answer
@@ -220,30 +217,24 @@ class Trial:
     def try_batch(self, name, batch, copies=()):
         """Tries edits of different functions together, and edits of definitions beside them, by their copies."""
         folder = self.house.folder(name)
-        texts = texts_beside(folder, copies, texts_of(folder, [it for it, _ in batch]))
-        functions = sorted({it.path() for _, turned in batch for it in turned})
-        own = with_facts(name, folder)
-        folders = {edit.name: {it.folder() for it in turned} - own for edit, turned in batch}
-        goals = [it for edit in folders for it in self.goals[name].get(edit, []) if it.folder in folders[edit]]
+        texts = texts_beside(folder, copies, texts_of(folder, batch))
+        functions = sorted({it.path() for placed in batch for it in placed.turned})
         kind = "batches" if batch else "side by side"
-        status, lines = self.check_with(kind, name, texts, functions + [it.path() for it in copies], goals)
+        status, lines = self.check_with(kind, name, texts, functions + [it.path() for it in copies])
         unknown = rattle.unknown_functions(lines)
         if unknown:
             self.try_without(name, batch, unknown, copies)
             return
         self.judge_copies(name, copies, status, lines)
         lines = [it for it in lines if not is_of_copies(it)]
-        proofs = {it.folder for it in left_open(lines, goals)}
-        refused = shown(name, batch, status, without_tries(lines, goals), proofs)
-        seen = [*goals, *offered(lines)]
-        for edit, turned in batch:
-            if edit.name in refused:
-                kind = kind_in_batch(lines, turned, bool({it.folder() for it in turned} & proofs))
-                self.tell_refused(name, edit.name, kind, " (shown in a batch)", [it for it in seen if it.folder in folders[edit.name]])
-        left = [it for it in batch if it[0].name not in refused]
+        refused = shown(name, batch, status, lines)
+        for it in batch:
+            if it.edit.name in refused:
+                self.tell_refused(name, it.edit.name, kind_in_batch(lines, it.turned), " (shown in a batch)")
+        left = [it for it in batch if it.edit.name not in refused]
         if refused or len(left) < 4:
-            for edit, turned in left:
-                self.add_alone(name, edit, [] if refused else [it.path() for it in turned])
+            for it in left:
+                self.add_alone(name, it.edit, [] if refused and it.turned == it.known else it.asked())
             return
         # one edit can keep a check from judging the others
         half = len(left) // 2
@@ -262,10 +253,10 @@ class Trial:
 
     def try_without(self, name, batch, unknown, copies):
         """Tries the edits alone whose functions a check knows by other names, and the others in a batch."""
-        known = [it for it in batch if not any(turned.path() in unknown for turned in it[1])]
-        for edit, _ in batch:
-            if edit.name not in [it.name for it, _ in known]:
-                self.add_alone(name, edit)
+        known = [it for it in batch if not any(turned.path() in unknown for turned in it.turned)]
+        for it in batch:
+            if it not in known:
+                self.add_alone(name, it.edit)
         self.add_batch(name, known, [it for it in copies if it.path() not in unknown])
         for it in copies:
             if it.path() in unknown:

@@ -5,14 +5,12 @@ import json
 import os
 import subprocess
 import tempfile
-from dataclasses import astuple
 
-from goals import Goal
 from house import files_of, read_bytes
 from showing import KINDS
 
 # what decides how an edit is tried
-TOOLS = ("batches.py", "copies.py", "edit_files.py", "goals.py", "holes.py", "house.py", "rattle.py", "showing.py", "source.py", "trial.py", "verdicts.py")
+TOOLS = ("batches.py", "copies.py", "doubles.py", "edit_files.py", "holes.py", "house.py", "rattle.py", "showing.py", "source.py", "trial.py", "verdicts.py")
 
 
 def verdicts_folder():
@@ -56,32 +54,25 @@ class Verdicts:
         """Whether an earlier run found that the prover refuses this edit of the crate as it stands."""
         return not self.anew and self.kind_of(name, edit) is not None
 
-    def verdict_of(self, name, edit):
-        """By what an edit was refused where an earlier run saw that, and the goals that it left open; none of both where no run did."""
+    def kind_of(self, name, edit):
+        """By what an edit was refused where an earlier run saw that; None where no run did."""
         if not self.at:
-            return None, None
+            return None
         try:
             with open(self.file_of(name, edit), encoding="utf-8") as it:
-                *said, kind, goals = json.load(it)
-            return (kind, [Goal(*it) for it in goals]) if said == [name, edit, "refused"] and kind in KINDS else (None, None)
+                *said, kind = json.load(it)
+            return kind if said == [name, edit, "refused"] and kind in KINDS else None
         except (OSError, TypeError, ValueError):
-            return None, None
+            return None
 
-    def kind_of(self, name, edit):
-        return self.verdict_of(name, edit)[0]
-
-    def goals_of(self, name, edit):
-        """The goals that an edit left open where an earlier run saw it refused, as far as they were told; None where no run did."""
-        return self.verdict_of(name, edit)[1]
-
-    def keep_refused(self, name, edit, kind, goals=()):
-        """Keeps by what it was refused, and which goals it left open; where it cannot be kept the next run tries the edit again."""
+    def keep_refused(self, name, edit, kind):
+        """Keeps by what it was refused; where it cannot be kept the next run tries the edit again."""
         if not self.at:
             return
         try:
             os.makedirs(self.at, exist_ok=True)
             with tempfile.NamedTemporaryFile("w", dir=self.at, delete=False, encoding="utf-8") as it:
-                json.dump([name, edit, "refused", kind, [astuple(it) for it in goals]], it)
+                json.dump([name, edit, "refused", kind], it)
             os.replace(it.name, self.file_of(name, edit))
         except OSError:
             pass

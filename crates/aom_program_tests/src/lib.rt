@@ -1,5 +1,6 @@
 //! Tests of the program's libraries, of what cannot be said from outside: outputs that fail at some byte, memory that is refused, programs
-//! beside natives of the tests' own, and files and streams as the library takes them. Whole commands stand on the pages in tests/.
+//! beside natives of the tests' own, debugger sessions whose reader fails, and files and streams as the library takes them. Whole commands
+//! and sessions stand on the pages in tests/.
 #![tactic(auto)]
 
 #[cfg(test)]

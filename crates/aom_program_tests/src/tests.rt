@@ -1,6 +1,7 @@
 mod backlog;
 mod bell;
 mod cut;
+mod debugging;
 mod explaining;
 mod family;
 mod faults;

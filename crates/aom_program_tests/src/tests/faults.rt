@@ -2,6 +2,7 @@
 use super::pages::FIRST;
 use aom_budget::BudgetFault;
 use aom_commands::{ExitStatus, Fault, Translation, try_run, try_translate};
+use aom_debug_words::DebugFault;
 use aom_run::BootFault;
 use aom_test_sinks::Slip;
 use std::alloc::Global;
@@ -90,6 +91,23 @@ const OTHERS: [(Fault, &str); 8] = [
 #[test]
 fn each_other_fault_writes_its_word(rt: HostRuntime) -> Result<(), Fail> {
     for (fault, text) in &OTHERS {
+        writes(&rt, rt.alloc(), fault, text)?;
+    }
+    Ok(())
+}
+
+/// Those of a debugger's commands.
+const OF_COMMANDS: [(DebugFault, &str); 5] = [
+    (DebugFault::BadCommand, "fault 1"),
+    (DebugFault::NoSuch, "fault 2"),
+    (DebugFault::Ended, "fault 3"),
+    (DebugFault::OutOfMemory, "fault 4"),
+    (DebugFault::WriteFault, "fault 5"),
+];
+
+#[test]
+fn each_fault_of_a_command_writes_its_answer(rt: HostRuntime) -> Result<(), Fail> {
+    for (fault, text) in &OF_COMMANDS {
         writes(&rt, rt.alloc(), fault, text)?;
     }
     Ok(())

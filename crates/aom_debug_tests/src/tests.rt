@@ -1,5 +1,0 @@
-mod faults;
-mod programs;
-mod readers;
-mod sessions;
-mod sessions_memory;
