@@ -32,6 +32,11 @@ class Turned:
         """Where its proof stands."""
         return "/".join(["proofs", *self.path().split("::")[1:]])
 
+    def closures_folder(self):
+        """Where the proofs of its closures stand."""
+        within = [*self.module.split("::")[1:], "fn", self.owner, self.name]
+        return "/".join(["proofs", *[it for it in within if it]])
+
     def is_told_by(self, path):
         """Whether a name in a check's answer is that of this function, or of a closure in it."""
         head, _, rest = path.partition(f"{self.module}::")

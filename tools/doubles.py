@@ -34,9 +34,15 @@ def proofs_of(crate, folder, turned, double):
     return {f"{double.folder()}/{it}": named.sub(rf"\g<1>{name}", read_text(f"{folder}/{turned.folder()}/{it}")) for it in found}
 
 
+def has_more_proofs(folder, turned):
+    """Whether a function is proved by more than what a double takes along: by a proof of another file, or those of its closures."""
+    own, closures = f"{folder}/{turned.folder()}", f"{folder}/{turned.closures_folder()}"
+    return os.path.isdir(closures) or os.path.isdir(own) and any(it not in PROOFS for it in os.listdir(own))
+
+
 def double_of(crate, folder, placed, number):
     """An edit of a function as one of a double, which has this number. None where no function can be put beside it, since a trait says which ones
-    stand there or it is in a cycle of calls, or where the edit turns several."""
+    stand there or it is in a cycle of calls, where the edit turns several, or where a double would not have the whole proof."""
     paths = {it.path for it in placed.changes}
     if len(placed.turned) != 1 or len(paths) != 1:
         return None
@@ -44,7 +50,7 @@ def double_of(crate, folder, placed, number):
     text = read_text(f"{folder}/{path}")
     function = next(it for it in source.functions_of(text) if it.holds(placed.changes[0].start, placed.changes[0].end))
     head = head_of(text, function)
-    if function.is_of_trait or CYCLE in text[head : function.at]:
+    if function.is_of_trait or CYCLE in text[head : function.at] or has_more_proofs(folder, turned):
         return None
     double = replace(turned, name=f"{turned.name}_edited_{number}")
     turns = [replace(it, start=it.start - head, end=it.end - head) for it in placed.changes]

@@ -142,6 +142,7 @@ const VERSION: &str = "0.1.0";
 const NOTES: &str = "\
 A text is a program as you write it, and an image the same in bytes, as asm makes it. With --asm a command
 takes the text itself. A script says what happens to a run from outside, line by line; it may be empty.
+With --explain, check, run and asm say what a fault means, where it is and what usually mends it.
 
 Exit status:
  0 all is well

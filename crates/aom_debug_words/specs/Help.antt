@@ -35,6 +35,10 @@ help_looks =
     ++ (help_line (codes "clock") (codes "the time")
     ++ (help_line (codes "timers") (codes "who is due, and when") ++ help_line (codes "help") (codes "all commands"))))))))))
 
--- all commands, each on a line
+-- how a place is told
+abbrev pub help_places : List ℕ
+help_places = help_line (codes "METHOD PLACE") (codes "by their numbers; with a text also NAME PLACE or line LINE")
+
+-- all commands, each on a line, and how a place is told
 abbrev pub help_text : List ℕ
-help_text = help_on ++ (help_marks ++ help_looks)
+help_text = help_on ++ (help_marks ++ (help_looks ++ help_places))

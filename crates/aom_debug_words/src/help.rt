@@ -2,7 +2,7 @@
 ghost use Rattle.std.specs.Prelude.{◌≡◌};
 ghost use Rattle.aom_debug_words.specs.Help.{help_text};
 
-/// All commands, each on a line.
+/// All commands, each on a line, and how a place is told.
 pub fn help_text() -> &'static [u8]
     ensures { result.now ≡ help_text }
 {
@@ -26,6 +26,7 @@ recent: the latest instructions
 clock: the time
 timers: who is due, and when
 help: all commands
+METHOD PLACE: by their numbers; with a text also NAME PLACE or line LINE
 "
         .as_slice()
 }
