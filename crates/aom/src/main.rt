@@ -24,7 +24,7 @@ use aom_explaining::{
 use aom_host::{Input, Output, Unready, read_file};
 use aom_injection::{Part, Tries};
 use aom_natives::{Counter, Delay, Line, Native, NativeKind};
-use aom_run::{Sink, write_text};
+use aom_transcript::{Sink, write_text};
 use program::{Program, Telling};
 use std::alloc::Global;
 use std::env;

@@ -5,7 +5,7 @@ ghost use Rattle.aom_commands.specs.Assembly.{Makes, RefusesText};
 use aom_commands::{ExitStatus, Fault, assemble_bytes, tell};
 use aom_explaining::{tell_explained, tell_lined};
 use aom_host::{Unready, read_file};
-use aom_run::Sink;
+use aom_transcript::Sink;
 use std::alloc::Global;
 use std::mem;
 

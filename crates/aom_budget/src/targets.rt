@@ -6,7 +6,7 @@ ghost use Rattle.aom_budget.specs.Pricing.{null_targets, empty_targets, states_t
 
 use aom_image::{Instr, InstrPlace, States};
 use aom_instructions::{Condition, Transfer};
-use aom_rules::{enlisted, inactive, outstanding};
+use aom_ruling::{enlisted, inactive, outstanding};
 use aom_shape::{Filling, Kind};
 use aom_verify::ShapeView;
 use bitflags::Flags;

@@ -14,6 +14,6 @@ pub use Rattle.aom_budget.proofs.BudgetLemmas
 pub use Rattle.aom_determinism.proofs.DeterminismLemmas
 pub use Rattle.aom_machine.proofs.MachineLemmas
 pub use Rattle.aom_meaning.proofs.MeaningLemmas
-pub use Rattle.aom_run.proofs.RunLemmas
 pub use Rattle.aom_script.proofs.ScriptLemmas
+pub use Rattle.aom_transcript.proofs.TranscriptLemmas
 pub use Rattle.aom_typings.proofs.TypingsLemmas

@@ -1,7 +1,7 @@
 -- What is known of the bytes that were sent is what the status answers.
 use Rattle.std.proofs.lemmas.Bool.Decides.{nat_tests}
 use Rattle.std.proofs.Common.{arith, ◌≡◌, List, ℕ, true, sym, subst, inl, inr}
-use Rattle.aom_run.specs.Runs.{after}
+use Rattle.aom_transcript.specs.Sinks.{after}
 use Rattle.aom_commands.specs.declared.status.ExitStatus.{ExitStatus}
 use Rattle.aom_commands.specs.declared.status.ExitStatus.TheVariants.{Done, Fault as Faulty}
 use Rattle.aom_commands.specs.declared.faults.Fault.TheVariants as faults

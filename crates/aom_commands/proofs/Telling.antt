@@ -31,7 +31,7 @@ use Rattle.aom_commands.specs.declared.status.ExitStatus.{ExitStatus}
 use Rattle.aom_commands.specs.declared.status.ExitStatus.TheVariants as statuses
 use Rattle.aom_commands.specs.declared.faults.Fault.{Fault}
 use Rattle.aom_commands.specs.declared.faults.Fault.TheVariants as faults
-use Rattle.aom_run.specs.declared.fault.BootFault.TheVariants as boots
+use Rattle.aom_natives.specs.declared.fault.BootFault.TheVariants as boots
 use Rattle.aom_commands.specs.Status.{of_script, of_script_kind, status_of}
 use Rattle.aom_commands.specs.Acceptable.{IsSpelled, IsAcceptable, Refuses, RefusesOrWants as RefusesImage}
 use Rattle.aom_commands.specs.Headline.{Sent, outside_of, IsSilent, Told, Shows, Accepts, AcceptedAnswers, AllRunWell, CheckAnswers, Ends, EndsAs}

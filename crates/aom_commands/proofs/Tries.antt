@@ -17,10 +17,11 @@ use Rattle.aom_run.specs.Calls.{StandsFor, natives_of}
 use Rattle.aom_run.specs.declared.machine.Machine.{Machine}
 use Rattle.aom_run.specs.Outcomes.{outcome_of}
 use Rattle.aom_transcript.specs.declared.event.TimedEvent.{TimedEvent}
-use Rattle.aom_run.specs.Runs.{IsFresh, Ran, Told, after}
+use Rattle.aom_run.specs.Runs.{IsFresh, Ran, Told}
+use Rattle.aom_transcript.specs.Sinks.{after}
 use Rattle.aom_run.specs.declared.outcome.Outcome.{Outcome}
 use Rattle.aom_script.specs.Script.{Script}
-use Rattle.aom_commands.proofs.RunLemmas.{after_both, after_none, cut_next}
+use Rattle.aom_commands.proofs.TranscriptLemmas.{after_both, after_none, cut_next}
 use Rattle.aom_transcript.specs.Text.{transcript}
 use Rattle.aom_injection.specs.Planned.{clients_among, deaths_of, marks_times, natives_among, pairs_of, part_of, planned, some_pairs, unplanned}
 use Rattle.aom_injection.specs.Tallies.{Tally, counted, nothing_counted, tally_of}

@@ -1,6 +1,6 @@
 -- What follows of an answer follows of one that is not told yet, and what is said of a text of an equal one.
 use Rattle.std.proofs.Common.{arith, ◌≡◌, ◌∙◌, ℕ, List, Option, Ok, Err, Result, ap, subst, sym}
-use Rattle.aom_run.specs.Runs.{after}
+use Rattle.aom_transcript.specs.Sinks.{after}
 use Rattle.aom_commands.specs.declared.status.ExitStatus.{ExitStatus}
 use Rattle.aom_commands.specs.declared.faults.Fault.{Fault}
 use Rattle.aom_commands.specs.Headline.{Says, Sent}

@@ -16,7 +16,7 @@ use Rattle.aom_injection.specs.declared.injection.Injection.{Injection}
 use Rattle.aom_injection.specs.declared.tries.Tries.{Tries}
 use Rattle.aom_commands.specs.Headline.{Accepts, HasNatives, ImageWantsMemory, IsNoScript, IsRefused, IsSilent, Runs, Says, Sent, Tells, WantsNatives, outside_of}
 use Rattle.aom_commands.specs.declared.exploring.RunEnd.{RunEnd}
-use Rattle.aom_run.specs.declared.fault.BootFault.TheVariants.{TooFewNatives}
+use Rattle.aom_natives.specs.declared.fault.BootFault.TheVariants.{TooFewNatives}
 use Rattle.aom_commands.specs.declared.faults.Fault.{Fault}
 use Rattle.aom_commands.specs.declared.faults.Fault.TheVariants as faults
 use Rattle.aom_commands.specs.declared.status.ExitStatus.{ExitStatus}

@@ -10,15 +10,16 @@ use Rattle.aom_transcript.specs.declared.line.Ending.{Ending}
 use Rattle.aom_transcript.specs.declared.line.Ending.TheVariants as endings
 use Rattle.aom_determinism.specs.Hearing.{Follows, Oracle}
 use Rattle.aom_determinism.specs.Determined.{IsDetermined}
-use Rattle.aom_run.specs.declared.fault.BootFault.TheVariants.{TooFewNatives}
+use Rattle.aom_natives.specs.declared.fault.BootFault.TheVariants.{TooFewNatives}
 use Rattle.aom_run.specs.declared.machine.Machine.{Machine}
 use Rattle.aom_transcript.specs.Text.{ended, line_text}
-use Rattle.aom_run.specs.Naming.{transcript_by}
+use Rattle.aom_transcript.specs.Naming.{transcript_by}
 use Rattle.aom_progress.specs.Runs.{RunsWell}
 use Rattle.aom_progress.specs.Laws.{KeepsBudget}
 use Rattle.aom_run.specs.declared.outcome.Outcome.{Outcome}
 use Rattle.aom_run.specs.declared.outcome.Outcome.TheVariants as outcomes
-use Rattle.aom_run.specs.Runs.{after, CutShort, IsFresh}
+use Rattle.aom_run.specs.Runs.{CutShort, IsFresh}
+use Rattle.aom_transcript.specs.Sinks.{after}
 use Rattle.aom_script.specs.Script.{Script, WantsMemory, denoted}
 use Rattle.aom_script.specs.declared.fault.ScriptFault.{ScriptFault}
 use Rattle.aom_commands.specs.declared.status.ExitStatus.{ExitStatus}

@@ -11,7 +11,7 @@ use Rattle.aom_budget.specs.Figures.{Figures, AreFigures}
 use Rattle.aom_budget.specs.declared.fault.BudgetFault.{BudgetFault}
 use Rattle.aom_figures.specs.Names.{Names, unnamed}
 use Rattle.aom_figures.specs.Text.{figures_text}
-use Rattle.aom_run.specs.Runs.{after}
+use Rattle.aom_transcript.specs.Sinks.{after}
 use Rattle.aom_commands.specs.declared.status.ExitStatus.{ExitStatus}
 use Rattle.aom_commands.specs.declared.status.ExitStatus.TheVariants.{Done, ImageRefused, Fault as Faulty}
 use Rattle.aom_commands.specs.declared.faults.Fault.{Fault}

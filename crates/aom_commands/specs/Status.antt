@@ -17,9 +17,9 @@ use Rattle.aom_script.specs.Faults.{number_of as script_number}
 use Rattle.aom_script.specs.declared.fault.ScriptFault.{ScriptFault}
 use Rattle.aom_script.specs.declared.fault.ScriptFaultKind.{ScriptFaultKind}
 use Rattle.aom_script.specs.declared.fault.ScriptFaultKind.TheVariants as kinds
-use Rattle.aom_run.specs.Beside.{fault_number as boot_number}
-use Rattle.aom_run.specs.declared.fault.BootFault.{BootFault}
-use Rattle.aom_run.specs.declared.fault.BootFault.TheVariants as boots
+use Rattle.aom_natives.specs.Booting.{fault_number as boot_number}
+use Rattle.aom_natives.specs.declared.fault.BootFault.{BootFault}
+use Rattle.aom_natives.specs.declared.fault.BootFault.TheVariants as boots
 use Rattle.aom_text.specs.Faults.{number_of as asm_number}
 use Rattle.aom_text.specs.declared.fault.AsmFault.{AsmFault}
 use Rattle.aom_text.specs.declared.fault.AsmFaultKind.{AsmFaultKind}

@@ -2,7 +2,7 @@
 ghost use Rattle.std.specs.Prelude.{ℕ, ◌≤◌, IfErr, IfOk, List, length};
 ghost use Rattle.aom_natives.specs.Owed.{OweNothing};
 ghost use Rattle.aom_commands.specs.Acceptable.{IsSpelled};
-ghost use Rattle.aom_run.specs.Naming.{named_by};
+ghost use Rattle.aom_transcript.specs.Naming.{named_by};
 ghost use Rattle.aom_commands.specs.Headline.{AcceptedAnswers, EndsOrFails, RunAnswers, RunAnswersBy, CheckAnswers, Sends};
 ghost use Rattle.aom_commands.specs.Prices.{Checks, ChecksBy, PricesAnswers};
 ghost use Rattle.aom_commands.specs.Translations.{DrawsBy, IsTranslation, RefusesFile, Translates};
@@ -19,8 +19,9 @@ use crate::{ExitStatus, Fault};
 use aom_budget::Accepted;
 use aom_figures::Names;
 use aom_natives::Native;
-use aom_run::{Outcome, Sink, write_text};
+use aom_run::Outcome;
 use aom_script::read_script;
+use aom_transcript::{Sink, write_text};
 use std::alloc::Global;
 
 /// Runs an image under a script beside those natives, and writes the transcript. The image is looked at before the script, and

@@ -3,7 +3,7 @@ ghost use Rattle.std.specs.Prelude.{ℕ, ◌≡◌, ◌≤◌, All, List, IfOk, 
 ghost use Rattle.aom_natives.specs.Slots.{AllAgree};
 ghost use Rattle.aom_run.specs.Calls.{natives_of};
 ghost use Rattle.aom_run.specs.Outcomes.{outcome_of};
-ghost use Rattle.aom_run.specs.Runs.{after};
+ghost use Rattle.aom_transcript.specs.Sinks.{after};
 ghost use Rattle.aom_script.specs.Script.{IsTimely, denoted};
 ghost use Rattle.aom_injection.specs.Injections.{CanInject, injected};
 ghost use Rattle.aom_injection.specs.Planned.{AreTimes};
@@ -21,9 +21,9 @@ use crate::{ExitStatus, Fault, tell};
 use aom_budget::Accepted;
 use aom_injection::{Injection, Plan, Tally, Tries, times_of};
 use aom_natives::{Counter, Delay, Line, Native, NativeKind};
-use aom_run::{Machine, Outcome, Sink, run, write_text};
+use aom_run::{Machine, Outcome, run};
 use aom_script::{Script, read_script};
-use aom_transcript::{Ending, Page};
+use aom_transcript::{Ending, Page, Sink, write_text};
 use std::alloc::{AllocError, Global};
 
 /// How a run ended, how many cells were left, and how many allocation requests it made.

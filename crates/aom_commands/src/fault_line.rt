@@ -7,7 +7,7 @@ ghost use Rattle.aom_commands.specs.Status.{fault_line};
 
 use crate::Fault;
 use aom_budget::{BudgetFault, Payer};
-use aom_buffers::Text;
+use aom_transcript::Text;
 use aom_verify::Refusal;
 
 /// No fault's line is longer.

@@ -1,7 +1,7 @@
 //! A sink that keeps a text, or nothing of it.
 ghost use Rattle.std.specs.Prelude.{◌≡◌, [], false};
 
-use aom_run::Sink;
+use aom_transcript::Sink;
 use std::alloc::Global;
 
 /// Takes all that it is sent, and keeps it where that is asked.

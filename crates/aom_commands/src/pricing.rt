@@ -13,7 +13,7 @@ use crate::accepting::link_bytes;
 use crate::{ExitStatus, Fault};
 use aom_budget::{BudgetFault, Figures};
 use aom_figures::{Names, figures_text};
-use aom_run::{Sink, write_text};
+use aom_transcript::{Sink, write_text};
 use aom_verify::{Checked, check};
 use std::alloc::{AllocError, Global};
 

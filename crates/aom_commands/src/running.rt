@@ -4,7 +4,7 @@ ghost use Rattle.aom_natives.specs.Owed.{OweNothing};
 ghost use Rattle.aom_natives.specs.Slots.{AllAgree};
 ghost use Rattle.aom_run.specs.Calls.{natives_of};
 ghost use Rattle.aom_machine_state.specs.LineBuffer.{step_lines};
-ghost use Rattle.aom_run.specs.Naming.{named_by};
+ghost use Rattle.aom_transcript.specs.Naming.{named_by};
 ghost use Rattle.aom_script.specs.Script.{IsTimely};
 ghost use Rattle.aom_commands.specs.Headline.{AllRunWell, HasNatives, IsFreshOf, RefusesBoot, Shows, outside_of};
 ghost use Rattle.aom_commands.specs.declared.faults.Fault.TheVariants.{Memory};
@@ -13,8 +13,9 @@ use crate::Fault;
 use aom_budget::Accepted;
 use aom_machine_state::LineBuffer;
 use aom_natives::Native;
-use aom_run::{Machine, Outcome, Sink, run_named};
+use aom_run::{Machine, Outcome, run_named};
 use aom_script::Script;
+use aom_transcript::Sink;
 use std::alloc::{AllocError, Global};
 
 /// A machine that has booted beside those natives, or why it does not boot.

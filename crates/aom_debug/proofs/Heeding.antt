@@ -2,7 +2,7 @@
 use Rattle.std.proofs.Common.{◌≡◌, ◌≢◌, ◌∙◌, ℕ, Bool, false, List, [], Option, Some, None, Ok, Err, take, refl, sym, ap, subst, inl, inr}
 use Rattle.aom_run.specs.Calls.{StandsFor}
 use Rattle.aom_run.specs.declared.machine.Machine.{Machine}
-use Rattle.aom_debug.specs.Runs.{after}
+use Rattle.aom_transcript.specs.Sinks.{after}
 use Rattle.aom_debug.proofs.DebugMovesLemmas.{after_none}
 use Rattle.aom_debug_words.specs.declared.command.Command.{Command}
 use Rattle.aom_debug_words.specs.declared.fault.DebugFault.{DebugFault}

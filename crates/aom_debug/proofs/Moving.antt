@@ -7,7 +7,7 @@ use Rattle.aom_transcript.specs.declared.line.Line.{Line}
 use Rattle.aom_transcript.specs.Text.{text_of}
 use Rattle.aom_debug_moves.specs.Calls.{StandsFor}
 use Rattle.aom_debug_moves.specs.Sends.{Breaks, Leads, Machine, Sends}
-use Rattle.aom_debug_moves.specs.Runs.{after}
+use Rattle.aom_transcript.specs.Sinks.{after}
 use Rattle.aom_debug.proofs.DebugMovesLemmas.{after_both, cut_next, cut_short}
 use Rattle.aom_debug_words.specs.declared.fault.DebugFault.{DebugFault}
 use Rattle.aom_debug_names.specs.Names.{Names}

@@ -5,7 +5,7 @@ use Rattle.aom_text.specs.declared.number.Number.{Number}
 use Rattle.aom_semantics.specs.State.{Counters, State}
 use Rattle.aom_run.specs.Calls.{StandsFor}
 use Rattle.aom_run.specs.declared.machine.Machine.{Machine}
-use Rattle.aom_debug.specs.Runs.{after}
+use Rattle.aom_transcript.specs.Sinks.{after}
 use Rattle.aom_debug_words.specs.declared.command.Command.{Command}
 use Rattle.aom_debug_words.specs.declared.command.Command.TheVariants.{Step, Next, Finish, Turn, Go, Until, Break, Unbreak, Breaks, Clock, Frames}
 use Rattle.aom_debug_words.specs.declared.command.Command.TheVariants.{Help, Cells, Owners, Cleanup, Actives, Recent, Timers, Words, Queue}

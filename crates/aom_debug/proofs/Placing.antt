@@ -5,7 +5,7 @@ use Rattle.aom_semantics.specs.Places.{count_cells}
 use Rattle.aom_semantics.specs.State.{Counters, State}
 use Rattle.aom_transcript.specs.Text.{ended}
 use Rattle.aom_machine_state.specs.Stands.{Machine, StandsFor}
-use Rattle.aom_debug_moves.specs.Runs.{after}
+use Rattle.aom_transcript.specs.Sinks.{after}
 use Rattle.aom_debug.proofs.DebugMovesLemmas.{after_both, cut_next, cut_short}
 use Rattle.aom_debug_words.specs.declared.answer.Answer.{Answer}
 use Rattle.aom_debug_names.specs.Names.{Names}

@@ -3,7 +3,7 @@ use Rattle.std.proofs.Common.{◌≡◌, ◌∙◌, ◌<◌, ◌≤◌, ◌+◌,
 use Rattle.std.proofs.lemmas.List.{length-append}
 use Rattle.aom_semantics.specs.State.{State}
 use Rattle.aom_run.specs.Calls.{StandsFor}
-use Rattle.aom_debug.specs.Runs.{after}
+use Rattle.aom_transcript.specs.Sinks.{after}
 use Rattle.aom_debug.proofs.DebugMovesLemmas.{after_both, after_none}
 use Rattle.aom_debug_words.specs.Lines.{Kept, pending_of}
 use Rattle.aom_debug.specs.Movers.{outside_of}

@@ -3,7 +3,7 @@ use Rattle.std.proofs.Common.{arith, ◌≡◌, ◌∙◌, ℕ, List, [], Result
 use Rattle.std.specs.Prelude.{◌⊎◌}
 use Rattle.aom_image.specs.Image.{Image}
 use Rattle.aom_semantics.specs.World.{Environment, boot_state}
-use Rattle.aom_run.specs.declared.fault.BootFault.TheVariants as boots
+use Rattle.aom_natives.specs.declared.fault.BootFault.TheVariants as boots
 use Rattle.aom_debug.proofs.ScriptLemmas.{IsOfText, is_of_text}
 use Rattle.aom_script.specs.Script.{RefusesOrWants, Script, denoted}
 use Rattle.aom_script.specs.declared.fault.ScriptFault.{ScriptFault}

@@ -8,7 +8,7 @@ use Rattle.aom_image.specs.Image.{Image}
 use Rattle.aom_semantics.specs.State.{State}
 use Rattle.aom_semantics.specs.World.{Environment}
 use Rattle.aom_run.specs.Calls.{StandsFor}
-use Rattle.aom_debug.specs.Runs.{after}
+use Rattle.aom_transcript.specs.Sinks.{after}
 use Rattle.aom_debug.proofs.DebugMovesLemmas.{after_both, after_none, hears_as}
 use Rattle.aom_debug_names.specs.Commands.{command_by}
 use Rattle.aom_debug_words.specs.Lines.{Kept, pending_of}

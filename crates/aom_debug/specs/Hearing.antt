@@ -2,7 +2,7 @@
 use Rattle.std.specs.Prelude.{◌≡◌, ℕ, true, false, List, Option, Result, take}
 use Rattle.aom_semantics.specs.State.{State}
 use Rattle.aom_run.specs.Calls.{StandsFor}
-use Rattle.aom_debug.specs.Runs.{after}
+use Rattle.aom_transcript.specs.Sinks.{after}
 use Rattle.aom_debug_words.specs.declared.command.Command.{Command}
 use Rattle.aom_debug_words.specs.declared.fault.DebugFault.{DebugFault}
 use Rattle.aom_debug.specs.Movers.{outside_of}

@@ -10,5 +10,4 @@ pub mod Obeying
 pub use Rattle.aom_debug_moves.specs.Courses
 pub use Rattle.aom_debug_views.specs.Telling
 pub use Rattle.aom_debug_moves.specs.Movers
-pub use Rattle.aom_debug_moves.specs.Runs
 pub use Rattle.aom_debug_moves.specs.Turns

@@ -1,7 +1,7 @@
 //! Commands as they come, and what is answered.
 ghost use Rattle.std.specs.Prelude.{◌≡◌, ◌⊎◌, [], Some, false, Ok, IfErr, IfOk};
 ghost use Rattle.aom_natives.specs.Slots.{AllAgree};
-ghost use Rattle.aom_debug.specs.Runs.{after};
+ghost use Rattle.aom_transcript.specs.Sinks.{after};
 ghost use Rattle.aom_commands.specs.declared.faults.Fault.TheVariants.{File, Write};
 ghost use Rattle.aom_debug.specs.Movers.{IsReady, Keeps};
 ghost use Rattle.aom_debug.specs.Conversing.{BreaksDown, BreaksOff, Ends, GoesOn, HoldsAll, StopsShort};

@@ -28,7 +28,7 @@ mod unbreaking;
 pub use aom_debug_moves::{Awaited, Mover, Sink};
 pub use aom_debug_names::SourceNames;
 pub use aom_debug_views::{Holding, Owner, tell};
-pub use aom_run::Reader;
+pub use aom_transcript::Reader;
 pub use debugger::Debugger;
 pub use debugging::{debug_bytes, try_debug};
 pub use laws::paths_are_read_back;

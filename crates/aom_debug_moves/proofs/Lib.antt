@@ -16,3 +16,4 @@ pub use Rattle.aom_machine_instructions.proofs.MachineInstructionsLemmas
 pub use Rattle.aom_machine_state.proofs.MachineStateLemmas
 pub use Rattle.aom_run.proofs.RunLemmas
 pub use Rattle.aom_semantics.proofs.SemanticsLemmas
+pub use Rattle.aom_transcript.proofs.TranscriptLemmas

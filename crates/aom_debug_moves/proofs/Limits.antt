@@ -15,7 +15,7 @@ use Rattle.aom_machine.specs.Steps.{progress}
 use Rattle.aom_machine.specs.Turns.{TakesAll}
 use Rattle.aom_debug_moves.proofs.MachineLemmas.{is_as_far}
 use Rattle.aom_run.specs.Calls.{StandsFor}
-use Rattle.aom_run.specs.Runs.{after}
+use Rattle.aom_transcript.specs.Sinks.{after}
 use Rattle.aom_run.specs.Turns.{TakesTurns}
 use Rattle.aom_debug_moves.proofs.RunLemmas.{cut_so, limit_cuts, reaches_both}
 use Rattle.aom_debug_moves.specs.CourseLaws.{AreRuns}

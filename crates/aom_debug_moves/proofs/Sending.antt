@@ -16,10 +16,11 @@ use Rattle.aom_machine.specs.Steps.{IsAtHand, Steps, moves, rests, progress}
 use Rattle.aom_debug_moves.proofs.MachineLemmas.{between, is_as_far}
 use Rattle.aom_run.specs.Calls.{Stands, StandsFor, SteppedOnce}
 use Rattle.aom_run.specs.declared.machine.Machine.{Machine}
-use Rattle.aom_run.specs.Runs.{Moving, after, begins}
+use Rattle.aom_run.specs.Runs.{Moving, begins}
+use Rattle.aom_transcript.specs.Sinks.{after}
 use Rattle.aom_run.specs.Turns.{TakesTurns}
 use Rattle.aom_debug_moves.proofs.RunLemmas.{fewer_left, left, moving_both, reaches_both, steps_on}
-pub use Rattle.aom_debug_moves.proofs.RunLemmas.{after_both, after_none, cut_next, cut_short, text_of_both}
+pub use Rattle.aom_debug_moves.proofs.TranscriptLemmas.{after_both, after_none, cut_next, cut_short, text_of_both}
 use Rattle.aom_debug_moves.specs.Next.{pauses, root_is_due}
 use Rattle.aom_debug_moves.specs.Moves.{Arrives, StepsOnce, Strides, TurnsOnce, stays, turns}
 use Rattle.aom_debug_moves.specs.Sends.{Breaks, IfSo, Leads, Sends, Then, Where}

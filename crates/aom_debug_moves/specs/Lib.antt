@@ -9,5 +9,4 @@ pub mod CourseLaws
 -- what is said of the machine and of its runs, for those who say it of a debugger
 pub use Rattle.aom_machine.specs.Steps
 pub use Rattle.aom_run.specs.Calls
-pub use Rattle.aom_run.specs.Runs
 pub use Rattle.aom_run.specs.Turns

@@ -5,7 +5,7 @@ use Rattle.aom_transcript.specs.declared.line.Line.{Line}
 use Rattle.aom_transcript.specs.Text.{text_of}
 use Rattle.aom_run.specs.Calls.{StandsFor}
 pub use Rattle.aom_run.specs.declared.machine.Machine.{Machine}
-use Rattle.aom_run.specs.Runs.{after}
+use Rattle.aom_transcript.specs.Sinks.{after}
 
 -- what leads from a state to another, with its lines
 abbrev pub Leads : Type 1

@@ -14,7 +14,8 @@ use crate::Mover;
 use crate::stepping::send;
 use aom_machine::Progress;
 use aom_natives::Native;
-use aom_run::{Sink, take_turns};
+use aom_run::take_turns;
+use aom_transcript::Sink;
 
 /// Between dispatches: turns, until an object or a server is dispatched, an event is told by a line, or the run ends; the line goes out.
 pub fn turn_out<W: Sink>(mover: &mut Mover, out: &mut W) -> Option<Progress>

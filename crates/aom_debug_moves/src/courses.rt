@@ -11,7 +11,7 @@ use crate::{Awaited, Mover, arrive, stride};
 use aom_debug_words::{Breakpoints, Spot};
 use aom_machine::Progress;
 use aom_natives::Native;
-use aom_run::Sink;
+use aom_transcript::Sink;
 
 /// How far a debugger goes on, if the run does not end before.
 #[derive(Clone, Copy)]

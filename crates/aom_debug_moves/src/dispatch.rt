@@ -14,7 +14,7 @@ use crate::{Awaited, Mover, arrive};
 use aom_debug_words::Breakpoints;
 use aom_machine::Progress;
 use aom_natives::Native;
-use aom_run::Sink;
+use aom_transcript::Sink;
 
 /// How far to go in a dispatch, if it does not end before.
 #[derive(Clone, Copy)]

@@ -31,7 +31,8 @@ mod stepping;
 mod walking;
 
 pub use aom_machine::Progress;
-pub use aom_run::{Machine, Sink};
+pub use aom_run::Machine;
+pub use aom_transcript::Sink;
 pub use arriving::{arrive, turn_out};
 pub use courses::{Course, go};
 pub use ends::{is_due, pauses};

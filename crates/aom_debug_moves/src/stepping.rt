@@ -7,7 +7,8 @@ ghost use Rattle.aom_semantics.specs.State.{State};
 ghost use Rattle.aom_run.specs.Calls.{Stands, StandsFor};
 ghost use Rattle.aom_debug_moves.specs.Next.{next_of, pauses, root_is_due, spot_of};
 ghost use Rattle.aom_natives.specs.Slots.{AllAgree};
-ghost use Rattle.aom_run.specs.Runs.{Moving, after};
+ghost use Rattle.aom_run.specs.Runs.{Moving};
+ghost use Rattle.aom_transcript.specs.Sinks.{after};
 ghost use Rattle.aom_debug_moves.specs.Movers.{IsReady, Keeps, Went};
 ghost use Rattle.aom_debug_moves.specs.Moves.{StepsOnce, Strides, noted};
 ghost use Rattle.aom_debug_moves.specs.Sends.{IfSo};
@@ -17,8 +18,8 @@ use aom_debug_words::Recent;
 use aom_machine::Progress;
 use aom_machine_state::LineBuffer;
 use aom_natives::Native;
-use aom_run::{Machine, Sink, write_lines};
-use aom_transcript::Page;
+use aom_run::Machine;
+use aom_transcript::{Page, Sink, write_lines};
 
 /// Sends out the lines of the buffer, and clears it. Answers whether all is out.
 pub fn send<W: Sink>(lines: &mut LineBuffer, page: &mut Page, out: &mut W) -> bool

@@ -15,7 +15,8 @@ use crate::{Mover, is_due, spot_at, stride};
 use aom_debug_words::{Breakpoints, Spot};
 use aom_machine::Progress;
 use aom_natives::Native;
-use aom_run::{Machine, Sink};
+use aom_run::Machine;
+use aom_transcript::Sink;
 
 /// Where steps end, if not before.
 #[derive(Clone, Copy)]

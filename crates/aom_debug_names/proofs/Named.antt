@@ -4,7 +4,7 @@ use Rattle.std.proofs.lemmas.List.{length-map}
 use Rattle.std.specs.Borrow.{Bor}
 use Rattle.std.specs.List.{position, position_or_len}
 use Rattle.std.specs.Str.{bytes_eq}
-use Rattle.aom_run.specs.Naming.{lent}
+use Rattle.aom_transcript.specs.Naming.{lent}
 
 -- as many stand before it
 as_far : (name : List ℕ) (names : List (Bor (List ℕ))) →

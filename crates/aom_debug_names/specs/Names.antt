@@ -4,7 +4,7 @@ use Rattle.std.specs.List.{position}
 use Rattle.std.specs.Str.{bytes_eq}
 use Rattle.aom_text.specs.declared.text.Statement.{Statement}
 use Rattle.aom_explain.specs.Declarations.{class_names, instruction_statement, method_names}
-use Rattle.aom_run.specs.Naming.{class_word}
+use Rattle.aom_transcript.specs.Naming.{class_word}
 use Rattle.aom_debug_words.specs.declared.spot.Spot.{Spot}
 
 -- the names of classes and of methods, that of number 0 first, and the text in which they stand

@@ -6,9 +6,9 @@ ghost use Rattle.aom_debug_names.specs.Names.{class_by, method_by};
 ghost use Rattle.aom_debug_names.specs.Answers.{active_by, answer_by, content_by, head_by, place_by, server_by, hearer_by, shown_at, shown_spot as spot_shown, tells_class};
 
 use crate::SourceNames;
-use aom_buffers::Text;
 use aom_debug_words::{Answer, Content, Phase, Source, Spot};
 use aom_text::Statement;
+use aom_transcript::Text;
 
 /// No answer is longer with a name, its statement aside.
 const LONGEST: usize = 128;

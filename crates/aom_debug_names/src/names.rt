@@ -2,7 +2,7 @@
 ghost use Rattle.std.specs.Prelude.{◌≡◌, ◌≤◌, ◌^◌, IfSome, decimal, length, option_map, unwrap_or};
 ghost use Rattle.std.specs.List.{position};
 ghost use Rattle.std.specs.Str.{bytes_eq};
-ghost use Rattle.aom_run.specs.Naming.{class_word, lent};
+ghost use Rattle.aom_transcript.specs.Naming.{class_word, lent};
 ghost use Rattle.aom_debug_names.specs.Names.{class_by, method_by, method_named, statement_at, unnamed};
 ghost use Rattle.aom_debug_names.specs.Commands.{has_text};
 ghost use Rattle.aom_debug_names.specs.Lines.{spot_in};
@@ -26,7 +26,7 @@ pub struct SourceNames<'a> {
 
 impl<'a> Model for SourceNames<'a> {
     ghost use Rattle.std.specs.Prelude.{◌≤◌, ◌^◌, length};
-    ghost use Rattle.aom_run.specs.Naming.{lent};
+    ghost use Rattle.aom_transcript.specs.Naming.{lent};
     ghost use Rattle.aom_debug_names.specs.Names.{Names as NamesRecord};
 
     ghost Value = { NamesRecord };

@@ -13,7 +13,7 @@ use aom_clients::{QueueEntry, Taken};
 use aom_debug_views::tell_any;
 use aom_debug_words::{Answer, DebugFault};
 use aom_machine_state::Parts;
-use aom_run::Sink;
+use aom_transcript::Sink;
 
 /// What waits, as it is told.
 fn taken_answer(taken: Taken) -> Answer

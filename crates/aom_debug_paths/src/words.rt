@@ -16,7 +16,7 @@ use aom_debug_views::tell_any;
 use aom_debug_words::{Answer, DebugFault};
 use aom_linked::Linked;
 use aom_machine_state::Parts;
-use aom_run::Sink;
+use aom_transcript::Sink;
 
 /// How many words an object of a class has.
 fn word_count(linked: &Linked, class: u16) -> u8

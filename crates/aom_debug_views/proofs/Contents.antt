@@ -38,7 +38,7 @@ use Rattle.aom_debug_views.specs.Owners.{Shows, ShowsIf, is_frame, may_own, sour
 use Rattle.aom_debug_views.specs.Sights.{class_of}
 use Rattle.aom_debug_views.specs.Telling.{IsCut, Tells, TellsPart, answers_by, gathered, listed}
 use Rattle.aom_debug_words.specs.declared.fault.DebugFault.{DebugFault}
-use Rattle.aom_run.specs.Runs.{after}
+use Rattle.aom_transcript.specs.Sinks.{after}
 use Rattle.aom_rules.specs.Typing.{Typing, shape_at}
 use Rattle.aom_debug_views.proofs.Registers.{frame_method, frame_shown}
 use Rattle.aom_debug_views.proofs.Showing.{class_held}

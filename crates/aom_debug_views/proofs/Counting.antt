@@ -12,7 +12,7 @@ use Rattle.aom_semantics.specs.Places.{Cell, Tidy, count_cells, named}
 use Rattle.aom_semantics.specs.State.{State}
 use Rattle.aom_machine_state.specs.declared.parts.Parts.{Parts}
 use Rattle.aom_machine_state.specs.Stands.{StandsFor}
-use Rattle.aom_run.specs.Runs.{after}
+use Rattle.aom_transcript.specs.Sinks.{after}
 use Rattle.aom_transcript.specs.Text.{ended}
 use Rattle.aom_debug_words.specs.declared.fault.DebugFault.{DebugFault}
 use Rattle.aom_debug_names.specs.Names.{Names}

@@ -15,7 +15,7 @@ use Rattle.aom_semantics.specs.Places.{requested}
 use Rattle.aom_semantics.specs.State.{State}
 use Rattle.aom_machine_state.specs.declared.parts.Parts.{Parts}
 use Rattle.aom_machine_state.specs.Stands.{Machine, StandsFor}
-use Rattle.aom_run.specs.Runs.{after}
+use Rattle.aom_transcript.specs.Sinks.{after}
 use Rattle.aom_debug_words.specs.declared.fault.DebugFault.{DebugFault}
 use Rattle.aom_debug_words.specs.declared.answer.Answer.{Answer}
 use Rattle.aom_debug_words.specs.declared.answer.Answer.TheVariants.{Timer as Timer_answer}

@@ -33,7 +33,7 @@ use Rattle.aom_debug_names.specs.Names.{Names, class_by}
 use Rattle.aom_debug_names.specs.Answers.{hearer_by}
 use Rattle.aom_debug_words.specs.declared.answer.Source.{Source}
 use Rattle.aom_debug_views.proofs.MachineStateLemmas.{taken_sent}
-use Rattle.aom_run.specs.Runs.{after}
+use Rattle.aom_transcript.specs.Sinks.{after}
 use Rattle.aom_debug_words.specs.declared.fault.DebugFault.{DebugFault}
 use Rattle.aom_debug_views.specs.Sights.{class_in, class_of}
 use Rattle.aom_debug_views.specs.Owners.{Branch, By_field, By_session, In_register, Outer, Owned, Shows, ShowsNone, Way, branch_text}

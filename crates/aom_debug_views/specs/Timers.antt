@@ -5,7 +5,7 @@ use Rattle.aom_active.specs.Agrees.{IsSooner, due_in}
 use Rattle.aom_semantics.specs.Places.{Cell, named, requested}
 use Rattle.aom_semantics.specs.State.{State}
 use Rattle.aom_machine_state.specs.Stands.{Machine, StandsFor}
-use Rattle.aom_run.specs.Runs.{after}
+use Rattle.aom_transcript.specs.Sinks.{after}
 use Rattle.aom_debug_names.specs.Names.{Names}
 use Rattle.aom_debug_words.specs.declared.fault.DebugFault.{DebugFault}
 use Rattle.aom_debug_words.specs.declared.fault.DebugFault.TheVariants.{WriteFault}

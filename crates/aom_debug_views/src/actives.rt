@@ -12,8 +12,8 @@ use crate::sending::tell_any_by;
 use aom_debug_names::SourceNames;
 use aom_debug_words::{Answer, DebugFault, Phase};
 use aom_machine_state::Parts;
-use aom_run::Sink;
 use aom_scheduler::{ScheduleEntry, State};
+use aom_transcript::Sink;
 
 /// How far a request has come, as it is told.
 fn phase_of(state: State) -> Phase

@@ -13,7 +13,7 @@ use aom_debug_names::SourceNames;
 use aom_debug_words::{Answer, DebugFault};
 use aom_linked::Linked;
 use aom_machine_state::Parts;
-use aom_run::Sink;
+use aom_transcript::Sink;
 
 /// Whether an object of a class has that number.
 fn is_of_class(parts: &Parts, number: u32, class: u16) -> bool

@@ -14,7 +14,7 @@ use aom_debug_names::SourceNames;
 use aom_debug_words::{Answer, DebugFault};
 use aom_frames::Item;
 use aom_machine_state::Parts;
-use aom_run::Sink;
+use aom_transcript::Sink;
 
 /// The class of the cell of a number, if one lives.
 pub(crate) fn class_of(parts: &Parts, number: u32) -> Option<u16>

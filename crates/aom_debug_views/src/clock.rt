@@ -7,7 +7,7 @@ ghost use Rattle.aom_debug_views.specs.Telling.{Tells, TellsPart};
 use crate::sending::tell;
 use aom_debug_words::{Answer, DebugFault};
 use aom_machine_state::Parts;
-use aom_run::Sink;
+use aom_transcript::Sink;
 
 /// Tells what time it is.
 pub fn tell_clock<W: Sink>(parts: &Parts, out: &mut W) -> Result<(), DebugFault>

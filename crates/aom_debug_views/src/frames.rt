@@ -27,8 +27,8 @@ use aom_debug_names::SourceNames;
 use aom_debug_words::{Answer, Content, DebugFault, Spot};
 use aom_frames::{Frame, Task};
 use aom_machine_state::Parts;
-use aom_run::Sink;
 use aom_shape::{Kind, Shape};
+use aom_transcript::Sink;
 use aom_verify::Checked;
 
 /// The message of that number, if there is one.

@@ -23,8 +23,8 @@ use aom_debug_names::SourceNames;
 use aom_debug_words::DebugFault;
 use aom_frames::{Frame, Item, Task};
 use aom_machine_state::Parts;
-use aom_run::Sink;
 use aom_shape::{Kind, Shape};
+use aom_transcript::Sink;
 use aom_verify::Checked;
 
 /// Whether a register may own an object.

@@ -1,6 +1,6 @@
 //! The latest instructions.
 ghost use Rattle.std.specs.Prelude.{◌≡◌, IfErr, IfOk, option_map, slice_get};
-ghost use Rattle.aom_run.specs.Runs.{after};
+ghost use Rattle.aom_transcript.specs.Sinks.{after};
 ghost use Rattle.aom_debug_words.specs.declared.answer.Answer.TheVariants.{Ran};
 ghost use Rattle.aom_debug_views.specs.Sights.{recent_answers};
 ghost use Rattle.aom_debug_views.specs.Telling.{IsCut, answers_by};
@@ -8,7 +8,7 @@ ghost use Rattle.aom_debug_views.specs.Telling.{IsCut, answers_by};
 use crate::sending::tell_any_by;
 use aom_debug_names::SourceNames;
 use aom_debug_words::{Answer, DebugFault, Recent};
-use aom_run::Sink;
+use aom_transcript::Sink;
 
 /// The place at an index, from the oldest, as it is told.
 fn recent_answer(recent: &Recent, index: usize) -> Option<Answer>

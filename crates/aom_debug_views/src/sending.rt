@@ -1,17 +1,16 @@
 //! What an inspection writes.
 ghost use Rattle.std.specs.Prelude.{◌≡◌, IfErr, IfOk};
 ghost use Rattle.aom_transcript.specs.Text.{ended};
-ghost use Rattle.aom_run.specs.Runs.{after};
+ghost use Rattle.aom_transcript.specs.Sinks.{after};
 ghost use Rattle.aom_debug_words.specs.Answers.{answer_text};
 ghost use Rattle.aom_explain.specs.Sources.{spaced};
 ghost use Rattle.aom_debug_names.specs.Answers.{answer_by, behind, lead_text, statement_text};
 ghost use Rattle.aom_debug_views.specs.Telling.{IsCut, answers_by, answers_text, listed, tail_text};
 
-use aom_buffers::Text;
 use aom_debug_names::{SourceNames, named_line, shown_statement};
 use aom_debug_words::{Answer, DebugFault, line_of};
-use aom_run::{Sink, write_text};
 use aom_text::{Statement, WordCursor};
+use aom_transcript::{Sink, Text, write_text};
 
 /// What stands before the words of a statement.
 type Lead = Text<32>;

@@ -12,8 +12,8 @@ use crate::sending::tell_any_by;
 use aom_debug_names::SourceNames;
 use aom_debug_words::{Answer, DebugFault};
 use aom_machine_state::Parts;
-use aom_run::Sink;
 use aom_scheduler::Timer;
+use aom_transcript::Sink;
 
 /// A timer, as it is told.
 fn timer_answer(parts: &Parts, timer: Timer) -> Option<Answer>

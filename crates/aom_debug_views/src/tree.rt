@@ -6,7 +6,7 @@ ghost use Rattle.aom_image.specs.Image.{Image};
 ghost use Rattle.aom_machine_state.specs.Places.{session_with};
 ghost use Rattle.aom_machine_state.specs.Stands.{Stands};
 ghost use Rattle.aom_clients.specs.Lists.{IsIn};
-ghost use Rattle.aom_run.specs.Runs.{after};
+ghost use Rattle.aom_transcript.specs.Sinks.{after};
 ghost use Rattle.aom_semantics.specs.Places.{Place as PlaceOf, held};
 ghost use Rattle.aom_transcript.specs.Text.{ended};
 ghost use Rattle.aom_debug_names.specs.Names.{class_by};
@@ -21,7 +21,7 @@ use aom_clients::{Client, MessagePlace, NO_CELL};
 use aom_debug_names::SourceNames;
 use aom_debug_words::{DebugFault, Source};
 use aom_machine_state::Parts;
-use aom_run::Sink;
+use aom_transcript::Sink;
 
 /// How many generations may hang from a place: an object that another owns is of a lower class, and a message owns nothing.
 const GENERATIONS: usize = 257;

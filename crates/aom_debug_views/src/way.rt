@@ -6,9 +6,9 @@ ghost use Rattle.aom_debug_names.specs.Answers.{hearer_by};
 ghost use Rattle.aom_debug_views.specs.Owners.{branch_text, outer_text};
 ghost use Rattle.aom_debug_views.specs.Owners.{At_root, At_service, By_field, By_session, In_entry, In_going, In_register};
 
-use aom_buffers::Text;
 use aom_debug_names::{SourceNames, add_class_name};
 use aom_debug_words::Source;
+use aom_transcript::Text;
 
 /// An outer place takes at most 48 bytes, each of 257 fields or sessions at most 5, and what is there at most 40.
 const LONGEST: usize = 1536;

@@ -5,7 +5,7 @@ ghost use Rattle.aom_transcript.specs.Text.{ended};
 ghost use Rattle.aom_debug_words.specs.Answers.{active_text, answer_text, content_text, numbers_text, register_text, server_text, source_text, spot_text};
 
 use crate::{Answer, Content, Phase, Source, Spot};
-use aom_buffers::Text;
+use aom_transcript::Text;
 
 /// No answer's line is longer.
 const LONGEST: usize = 64;

@@ -11,8 +11,8 @@ use Rattle.aom_budget.specs.declared.fault.BudgetFault.{BudgetFault}
 use Rattle.aom_budget.specs.declared.fault.BudgetFault.TheVariants as budgets
 use Rattle.aom_script.specs.declared.fault.ScriptFaultKind.{ScriptFaultKind}
 use Rattle.aom_script.specs.declared.fault.ScriptFaultKind.TheVariants as scripts
-use Rattle.aom_run.specs.declared.fault.BootFault.{BootFault}
-use Rattle.aom_run.specs.declared.fault.BootFault.TheVariants as boots
+use Rattle.aom_natives.specs.declared.fault.BootFault.{BootFault}
+use Rattle.aom_natives.specs.declared.fault.BootFault.TheVariants as boots
 use Rattle.aom_explain.specs.Entries.{Texts, texts}
 use Rattle.aom_explain.specs.declared.word.Unnumbered.{Unnumbered}
 use Rattle.aom_explain.specs.declared.word.Unnumbered.TheVariants as words

@@ -6,7 +6,7 @@ use crate::{Explanation, Unnumbered, asm, boot, budget, link, load, script, veri
 use aom_budget::BudgetFault;
 use aom_classes::LinkFault;
 use aom_codec::LoadFault;
-use aom_run::BootFault;
+use aom_natives::BootFault;
 use aom_script::ScriptFaultKind;
 use aom_shape::Why;
 use aom_text::AsmFaultKind;

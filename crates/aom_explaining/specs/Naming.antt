@@ -8,7 +8,7 @@ use Rattle.aom_commands.specs.Headline.{Says, Sent, Tells}
 use Rattle.aom_commands.specs.declared.status.ExitStatus.{ExitStatus}
 use Rattle.aom_commands.specs.declared.status.ExitStatus.TheVariants.{CallRefused, Fault as Faulty}
 use Rattle.aom_commands.specs.declared.faults.Fault.TheVariants as faults
-use Rattle.aom_run.specs.Naming.{class_word, named_text}
+use Rattle.aom_transcript.specs.Naming.{class_word, named_text}
 use Rattle.aom_transcript.specs.Text.{ended, line_text}
 use Rattle.aom_transcript.specs.declared.line.Line.{Line}
 use Rattle.aom_explaining.specs.declared.beside.TextFault.{TextFault}

@@ -17,7 +17,7 @@ use crate::telling::answer_explained;
 use crate::telling_by_text::{answer_by_text, refuse_text};
 use aom_commands::{ExitStatus, Translation, try_check, try_run, try_translate};
 use aom_natives::Native;
-use aom_run::Sink;
+use aom_transcript::Sink;
 use std::alloc::Global;
 
 /// Tells whether an image is accepted, with its figures where they are asked, and explains why it is not.

@@ -13,7 +13,7 @@ use aom_commands::{ExitStatus, Fault, answer};
 use aom_debug::{Reader, SourceNames, try_debug};
 use aom_explain::{class_names, method_names};
 use aom_natives::Native;
-use aom_run::Sink;
+use aom_transcript::Sink;
 use std::alloc::Global;
 
 /// Debugs an image by the names and the lines of its text, and leaves its fault to be told. The names are looked up before anything is read.

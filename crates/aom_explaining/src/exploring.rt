@@ -9,7 +9,7 @@ use crate::naming::say_text;
 use aom_commands::{ExitStatus, explore_bytes};
 use aom_injection::Tries;
 use aom_natives::NativeKind;
-use aom_run::Sink;
+use aom_transcript::Sink;
 use std::alloc::Global;
 
 /// Runs an image again and again, as `explore_bytes` does, where its text denotes it. No line of that has a name of the text.

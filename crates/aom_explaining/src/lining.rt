@@ -20,7 +20,7 @@ use aom_explain::{
 };
 use aom_figures::FigureWriter;
 use aom_image::Image;
-use aom_run::{Sink, write_text};
+use aom_transcript::{Sink, write_text};
 use aom_verify::Refusal;
 use std::alloc::{AllocError, Global};
 

@@ -15,7 +15,7 @@ use aom_commands::{
 use aom_explain::{class_lines, class_names, image_line, method_lines, method_names};
 use aom_figures::{Names, Places};
 use aom_natives::Native;
-use aom_run::{Sink, write_text};
+use aom_transcript::{Sink, write_text};
 use std::alloc::Global;
 
 /// Runs an image as its text names its classes, and leaves its fault to be told.

@@ -11,7 +11,7 @@ use aom_explain::put_known;
 use aom_figures::FigureWriter;
 use aom_image::{Image, MethodNumber};
 use aom_linked::{Linked, link};
-use aom_rules::rule;
+use aom_ruling::rule;
 use aom_shape::{Shape, Why};
 use aom_verify::{Stop, stop_of};
 use std::alloc::{AllocError, Global};

@@ -7,7 +7,7 @@ ghost use Rattle.aom_explaining.specs.Explaining.{AnsweredOrExplained, ToldAndEx
 
 use crate::explaining::explanation;
 use aom_commands::{ExitStatus, Fault, tell};
-use aom_run::{Sink, write_text};
+use aom_transcript::{Sink, write_text};
 use std::alloc::{AllocError, Global};
 
 /// Says what explains a fault that has been told. That there was no memory for this is told.

@@ -12,7 +12,7 @@ use crate::beside::{ImageText, TextFault};
 use crate::explaining::{explanation_by_text, other_explanation};
 use crate::telling::{explain, tell_explained};
 use aom_commands::{ExitStatus, Fault, tell};
-use aom_run::{Sink, write_text};
+use aom_transcript::{Sink, write_text};
 use std::alloc::Global;
 
 /// Tells a fault, explains it by the text that the image is of, and answers its status.

@@ -9,7 +9,7 @@ use crate::telling::explain;
 use aom_commands::{ExitStatus, Fault, tell};
 use aom_explain::{Unnumbered, put_entry, word_entry};
 use aom_figures::FigureWriter;
-use aom_run::Sink;
+use aom_transcript::Sink;
 use std::alloc::{AllocError, Global};
 
 /// Writes why, to the end of the line.

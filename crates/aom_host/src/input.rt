@@ -1,5 +1,5 @@
 //! Standard input as a reader of commands.
-use aom_run::Reader;
+use aom_transcript::Reader;
 use std::io::Read;
 
 /// A reader over another. What that gives is not known, so nothing is said of what was given; but whether it has told its end, and whether

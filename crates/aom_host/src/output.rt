@@ -1,5 +1,5 @@
 //! The outputs as sinks.
-use aom_run::Sink;
+use aom_transcript::Sink;
 use std::io::Write;
 
 /// A sink over a writer. What a writer has sent on is not known, so nothing is said of what is out.

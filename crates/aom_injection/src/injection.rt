@@ -3,9 +3,8 @@ ghost use Rattle.std.specs.Prelude.{◌≡◌, ◌≤◌, ◌+◌, ◌++◌, len
 ghost use Rattle.aom_script.specs.Script.{IsTimely};
 ghost use Rattle.aom_injection.specs.Injections.{CanInject, injected, end_of, injection_text, victim_text};
 
-use aom_buffers::Text;
 use aom_script::Script;
-use aom_transcript::{ClientCommand, Event, TimedEvent};
+use aom_transcript::{ClientCommand, Event, Text, TimedEvent};
 use std::alloc::{AllocError, Global};
 
 /// No injection's words are longer.

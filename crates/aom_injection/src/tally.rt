@@ -3,8 +3,7 @@ ghost use Rattle.std.specs.Prelude.{◌≡◌, ◌+◌, ◌<◌, ◌≤◌, ◌-
 ghost use Rattle.aom_injection.specs.Tallies.{closing_text, counted, nothing_counted, summary_text};
 
 use crate::Injection;
-use aom_buffers::Text;
-use aom_transcript::Ending;
+use aom_transcript::{Ending, Text};
 use std::marker::Model;
 
 /// No closing is longer.

@@ -2,4 +2,5 @@
 
 pub use aom_machine::Progress;
 pub use aom_machine_state::LineBuffer;
-pub use aom_run::{BootFault, Machine};
+pub use aom_natives::BootFault;
+pub use aom_run::Machine;

@@ -1,3 +1,4 @@
 //! A whole run, into a sink.
 
-pub use aom_run::{Outcome, Sink, run, run_named, take_turns, write_lines, write_text};
+pub use aom_run::{Outcome, run, run_named, take_turns};
+pub use aom_transcript::{Sink, write_lines, write_text};

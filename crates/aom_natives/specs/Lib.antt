@@ -1,3 +1,4 @@
+pub mod Booting
 pub mod Delays
 pub mod Kinds
 pub mod Lines

@@ -1,14 +1,15 @@
 -- A flow has at most one entry more than the state from which it goes.
 use Rattle.std.proofs.lemmas.Bool.Decides.{nat_tests}
-use Rattle.std.proofs.Common.{◌≡◌, ℕ, zero, suc, ◌≤◌, List, [], ◌∷◌, length, Option, refl, ap, arith}
+use Rattle.std.proofs.Common.{◌≡◌, ℕ, zero, suc, ◌≤◌, List, [], ◌∷◌, length, Option, refl, ap, ◌∙◌, arith}
 use Rattle.aom_image.specs.Image.{Image}
 use Rattle.aom_instructions.specs.declared.instr.Instr.{Instr}
 use Rattle.aom_instructions.specs.declared.instr.Target.{Target}
 use Rattle.aom_image.specs.declared.method.Argument.{Argument}
+use Rattle.aom_image.specs.declared.method.Argument.TheVariants.{Word as A_word_argument, Own as An_own_argument}
 use Rattle.aom_image.specs.declared.method.Gives.{Gives}
-use Rattle.aom_site.specs.Calls.{brought, caught, while_called, worked_on}
+use Rattle.aom_rules.specs.Calls.{brought, caught, while_called, worked_on}
 use Rattle.aom_shape.specs.Entries.{readied_at, without_top}
-use Rattle.aom_shape.specs.Arguments.{arguments_moved}
+use Rattle.aom_shape.specs.Arguments.{argument_moved, arguments_moved}
 use Rattle.aom_rules.specs.Laws.{HaveAtMost}
 use Rattle.aom_rules.specs.Objects.{flow_jump_null, flow_jump_empty}
 use Rattle.aom_rules.specs.Rules.{flows, ways_of}
@@ -18,7 +19,15 @@ use Rattle.aom_rules.specs.Ways.{Ways, after, flowing}
 use Rattle.aom_shape.specs.declared.kind.CleanupEntry.{CleanupEntry}
 use Rattle.aom_shape.specs.declared.kind.Filling.{Filling}
 use Rattle.aom_shape.specs.declared.kind.Kind.{Kind}
-use Rattle.aom_rules.proofs.SiteLemmas.{arguments_leave}
+
+-- the arguments take no cleanup entry with them
+argument_leaves : (x : Argument) (r : ℕ) (sh : Shape) → (argument_moved x r sh).entries ≡ sh.entries
+argument_leaves A_word_argument r sh = refl
+argument_leaves (An_own_argument t) r sh = refl
+
+pub arguments_leave : (xs : List Argument) (first : ℕ) (sh : Shape) → (arguments_moved xs first sh).entries ≡ sh.entries
+arguments_leave [] first sh = refl
+arguments_leave (x ∷ xs) first sh = arguments_leave xs (suc first) (argument_moved x first sh) ∙ argument_leaves x first sh
 
 top_gone : (es : List CleanupEntry) → length (without_top es) ≤ suc (length es)
 top_gone [] = omega arith

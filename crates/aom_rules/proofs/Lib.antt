@@ -1,5 +1,3 @@
-mod Resting
-mod Callees
 mod Telling
 mod Ways
 mod Monotone
@@ -12,7 +10,4 @@ mod MessageExamples
 mod FamilyExamples
 mod ConstructExamples
 pub mod RulesLemmas
-pub use Rattle.aom_classes.proofs.ClassesLemmas
-pub use Rattle.aom_roles.proofs.RolesLemmas
 pub use Rattle.aom_shape.proofs.ShapeLemmas
-pub use Rattle.aom_site.proofs.SiteLemmas

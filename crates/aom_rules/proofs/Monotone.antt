@@ -19,10 +19,10 @@ use Rattle.aom_roles.specs.Tests.{AllTrue, only_if}
 use Rattle.aom_roles.specs.Roles.{is_cancel, is_construct, is_service}
 use Rattle.aom_roles.specs.States.{active, active_states, cancel_done, cancel_open, idle, issued, server_states, unlisted}
 use Rattle.aom_rules.specs.Requests.{flow_in, flow_narrowed, may_begin, once_cancelled, resting, unissued}
-use Rattle.aom_site.specs.Site.{leave_point}
-use Rattle.aom_site.specs.Calls.{rule_call, rule_trap, constructs_owned, empty_by, is_destructor, is_target, age_need, awaits, brought, caught, worked_on, while_called}
-use Rattle.aom_site.specs.Calls.{argument_needs, each_argument, rule_target, rule_arguments, rule_moved, rule_trapped, fields_done, rule_ended, rule_left}
-use Rattle.aom_site.specs.Calls.{rule_result, rule_return, result_moved, lasting}
+use Rattle.aom_rules.specs.Site.{leave_point}
+use Rattle.aom_rules.specs.Calls.{rule_call, rule_trap, constructs_owned, empty_by, is_destructor, is_target, age_need, awaits, brought, caught, worked_on, while_called}
+use Rattle.aom_rules.specs.Calls.{argument_needs, each_argument, rule_target, rule_arguments, rule_moved, rule_trapped, fields_done, rule_ended, rule_left}
+use Rattle.aom_rules.specs.Calls.{rule_result, rule_return, result_moved, lasting}
 use Rattle.aom_shape.specs.Entries.{without_top, with_entry, without_entry}
 use Rattle.aom_shape.specs.Arguments.{after_of, argument_moved, arguments_moved}
 use Rattle.aom_rules.specs.Cleanup.{owns_object, entry_of, top_kind}

@@ -3,4 +3,4 @@ pub use Rattle.aom_rules.proofs.Telling.{filled_more, none_from}
 pub use Rattle.aom_rules.proofs.Ways.{Leads, leads}
 pub use Rattle.aom_rules.proofs.Monotone.{flows_more, needs_more}
 pub use Rattle.aom_rules.proofs.Branching.{by_states}
-pub use Rattle.aom_rules.proofs.Growing.{at_most_one_more, lasting_has}
+pub use Rattle.aom_rules.proofs.Growing.{arguments_leave, at_most_one_more, lasting_has}

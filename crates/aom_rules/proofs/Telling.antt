@@ -4,7 +4,7 @@ use Rattle.std.proofs.Common.{Bool, ◌≡◌, ℕ, zero, suc, ◌<◌, true, Li
 use Rattle.std.proofs.lemmas.Bool.{false≢true, and_parts}
 use Rattle.aom_image.specs.Image.{Image}
 use Rattle.aom_image.specs.declared.method.Thing.{Thing}
-use Rattle.aom_site.specs.Calls.{empty_past}
+use Rattle.aom_rules.specs.Calls.{empty_past}
 use Rattle.aom_shape.specs.Kinds.{all_empty, is_own_for, is_word, is_unowning, is_object_or_null, may_be_destroyed, may_be, may_be_declared, is_fresh_kind}
 use Rattle.aom_shape.specs.Kinds.{is_ready_kind, readied, none_owns, is_empty, filled, filling_of}
 use Rattle.aom_shape.specs.Order.{Weaker, WeakerFilling}

@@ -8,7 +8,7 @@ use Rattle.aom_roles.specs.Things.{is_object}
 use Rattle.aom_shape.specs.Shape.{Shape}
 use Rattle.aom_shape.specs.Entries.{is_object_entry, with_entry, without_entry}
 use Rattle.aom_shape.specs.Kinds.{register, set_register, entry_kind, is_unowning, is_word, no_entry}
-use Rattle.aom_site.specs.Site.{leave_point}
+use Rattle.aom_rules.specs.Site.{leave_point}
 use Rattle.aom_shape.specs.Needs.{Need}
 use Rattle.aom_shape.specs.declared.kind.Age.{Age}
 use Rattle.aom_shape.specs.declared.kind.Kind.{Kind}

@@ -5,7 +5,7 @@ use Rattle.aom_shape.specs.Changes.{told}
 use Rattle.aom_shape.specs.Needs.{Need, judged}
 use Rattle.aom_shape.specs.declared.flow.Flow.{Flow as Answer}
 use Rattle.aom_shape.specs.declared.why.Why.{Why}
-use Rattle.aom_site.specs.Site.{Site}
+use Rattle.aom_rules.specs.Site.{Site}
 
 -- at that site these needs are asked, and a run may go on by these ways
 abbrev pub Finds : Site → List Need → Ways → Result Answer Why → Type 0

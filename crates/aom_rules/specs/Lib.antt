@@ -1,10 +1,12 @@
+pub mod Beginning
+pub mod Calls
+pub mod Site
 pub mod Words
 pub mod Objects
 pub mod Cleanup
 pub mod Requests
 pub mod Natives
 pub mod Messages
-pub use Rattle.aom_site.specs.Calls
 pub mod Ways
 pub mod Finding
 pub mod Rules

@@ -9,7 +9,7 @@ use Rattle.aom_roles.specs.States.{unlisted, idle, issued, active, cancel_open, 
 use Rattle.aom_shape.specs.Kinds.{register, is_unowning, is_word}
 use Rattle.aom_shape.specs.Needs.{Flow, Need}
 use Rattle.aom_shape.specs.Shape.{Shape}
-pub use Rattle.aom_site.specs.Requests.{begins_here, begins_there, may_begin, resting, unissued}
+pub use Rattle.aom_rules.specs.Beginning.{begins_here, begins_there, may_begin, resting, unissued}
 use Rattle.aom_shape.specs.declared.kind.Filling.TheVariants.{Perhaps}
 use Rattle.aom_shape.specs.declared.why.Why.TheVariants.{EntryState, NotAdded, NotIdle, NotIssued, RegisterKind}
 

@@ -8,10 +8,10 @@ use Rattle.aom_instructions.specs.declared.instr.Instr.TheVariants.{Const, Copy,
 use Rattle.aom_image.specs.declared.method.Thing.TheVariants.{Object}
 use Rattle.aom_shape.specs.Shape.{Shape}
 use Rattle.aom_shape.specs.Needs.{Need, Flow, judged}
-use Rattle.aom_site.specs.Site.{Site}
+use Rattle.aom_rules.specs.Site.{Site}
 use Rattle.aom_rules.specs.Words.{rule_const, rule_copy, rule_combine, rule_compare, rule_print, rule_load, rule_store}
 use Rattle.aom_rules.specs.Objects.{new_age, rule_move, rule_jump_null, rule_jump_empty, rule_take, rule_put, rule_new, rule_delete}
-use Rattle.aom_site.specs.Calls.{rule_call, rule_trap, rule_return}
+use Rattle.aom_rules.specs.Calls.{rule_call, rule_trap, rule_return}
 use Rattle.aom_rules.specs.Cleanup.{rule_new_or_leave, rule_push, rule_push_operation, rule_pop, rule_pop_operation, rule_pop_delete, rule_leave}
 use Rattle.aom_rules.specs.Requests.{rule_abort, rule_cancel, rule_enlist, rule_issue, rule_jump_active, rule_jump_added, rule_set_active, rule_status}
 use Rattle.aom_rules.specs.Natives.{rule_ask, rule_close, rule_connect}

@@ -6,7 +6,7 @@ use Rattle.aom_instructions.specs.declared.transfer.Condition.TheVariants.{IsAct
 use Rattle.aom_instructions.specs.declared.transfer.Transfer.{Transfer}
 use Rattle.aom_instructions.specs.declared.transfer.Transfer.TheVariants as transfer
 use Rattle.aom_roles.specs.States.{unlisted}
-use Rattle.aom_site.specs.Calls.{called, trapped}
+use Rattle.aom_rules.specs.Calls.{called, trapped}
 use Rattle.aom_rules.specs.Cleanup.{after_pop, after_push}
 use Rattle.aom_shape.specs.Entries.{with_entry, without_entry}
 use Rattle.aom_shape.specs.Kinds.{field, register, set_register}

@@ -6,8 +6,8 @@ use Rattle.aom_image.specs.Image.{Image}
 use Rattle.aom_natives.specs.Slots.{ids_at, living_at}
 use Rattle.aom_semantics.specs.World.{boot_state}
 use Rattle.aom_run.specs.Beside.{Serves}
-use Rattle.aom_run.specs.declared.fault.BootFault.{BootFault}
-use Rattle.aom_run.specs.declared.fault.BootFault.TheVariants.{OutOfMemory, TooFewNatives}
+use Rattle.aom_natives.specs.declared.fault.BootFault.{BootFault}
+use Rattle.aom_natives.specs.declared.fault.BootFault.TheVariants.{OutOfMemory, TooFewNatives}
 
 -- where memory is wanting, the natives are not too few
 pub memory_is_not_few : (fault : BootFault) (given named : ℕ) → fault ≡ OutOfMemory → named ≤ given → (fault ≡ TooFewNatives) ↔ (given < named)

@@ -6,7 +6,6 @@ mod Stepped
 mod Booted
 mod Ending
 mod Spared
-mod Prefix
 mod Reaching
 mod Gets
 mod Turnings
@@ -15,7 +14,6 @@ mod Keeping
 mod Between
 mod Resting
 mod Running
-mod Sending
 mod Underway
 pub mod RunLemmas
 pub use Rattle.aom_classes.proofs.ClassesLemmas
@@ -24,3 +22,4 @@ pub use Rattle.aom_image.proofs.ImageLemmas
 pub use Rattle.aom_machine.proofs.MachineLemmas
 pub use Rattle.aom_natives.proofs.NativesLemmas
 pub use Rattle.aom_safety.proofs.SafetyLemmas
+pub use Rattle.aom_transcript.proofs.TranscriptLemmas

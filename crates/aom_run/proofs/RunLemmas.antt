@@ -4,4 +4,3 @@ pub use Rattle.aom_run.proofs.Spared.{moving_spares}
 pub use Rattle.aom_run.proofs.Reaching.{moving_both, reaches_both, reaches_then, steps_on}
 pub use Rattle.aom_run.proofs.Resting.{limit_cuts}
 pub use Rattle.aom_run.proofs.Running.{fewer_left, left, lower}
-pub use Rattle.aom_run.proofs.Sending.{after_both, after_none, cut_next, cut_short, text_of_both}

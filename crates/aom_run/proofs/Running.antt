@@ -13,7 +13,7 @@ use Rattle.aom_transcript.specs.declared.line.Line.{Line}
 use Rattle.aom_transcript.specs.declared.line.Ending.{Ending}
 use Rattle.aom_machine_state.specs.LineBuffer.{LineBuffer}
 use Rattle.aom_transcript.specs.Text.{ended, end_text, line_text}
-use Rattle.aom_run.specs.Naming.{text_by, transcript_by}
+use Rattle.aom_transcript.specs.Naming.{text_by, transcript_by}
 use Rattle.aom_run.specs.declared.outcome.Outcome.{Outcome}
 use Rattle.aom_run.specs.declared.outcome.Outcome.TheVariants.{WriteFault}
 use Rattle.aom_machine_state.specs.declared.progress.Progress.{Progress}
@@ -26,13 +26,14 @@ use Rattle.aom_progress.specs.Payers.{payer}
 use Rattle.aom_machine_state.specs.Progress.{progress_by, progress_of}
 use Rattle.aom_run.specs.Outcomes.{outcome_of}
 use Rattle.aom_run.proofs.MachineLemmas.{is_as_far}
-use Rattle.aom_run.specs.Runs.{after, CutOff, Ended, Moving, Sent, Told, CutShort, Ran}
+use Rattle.aom_run.specs.Runs.{CutOff, Ended, Moving, Sent, Told, CutShort, Ran}
+use Rattle.aom_transcript.specs.Sinks.{after}
 use Rattle.aom_run.proofs.DeterminismLemmas.{runs_can_end}
 use Rattle.aom_determinism.specs.Endings.{CanEnd, one_where}
 use Rattle.aom_run.specs.Turns.{TakesTurns, hearing, to_come}
 use Rattle.aom_run.proofs.Spared.{idle_stays, moving_spares}
 use Rattle.aom_run.proofs.Reaching.{reaches_both, reaches_then}
-use Rattle.aom_run.proofs.Sending.{cut_short, after_both, after_none, text_by_both, cut_next}
+use Rattle.aom_run.proofs.TranscriptLemmas.{cut_short, after_both, after_none, text_by_both, cut_next}
 
 -- the beginning of the lines of a run is one of its transcript
 cut_of : (reads : Line → List ℕ) (p : Image) (outside : Environment) (before now : Option (List ℕ)) (lines : List Line) →

@@ -3,16 +3,17 @@ use Rattle.std.proofs.lemmas.Bool.Decides.{nat_tests}
 use Rattle.std.proofs.Common.{arith, ◌≡◌, ◌≢◌, ℕ, List, [], ◌++◌, Option, take, sym, ap, subst, ◌∙◌, append-nil, append_assoc}
 use Rattle.aom_semantics.specs.State.{State}
 use Rattle.aom_transcript.specs.declared.line.Line.{Line}
-use Rattle.aom_run.specs.Naming.{text_by}
+use Rattle.aom_transcript.specs.Naming.{text_by}
 use Rattle.aom_machine_state.specs.LineBuffer.{LineBuffer}
 use Rattle.aom_machine_state.specs.declared.progress.Progress.{Progress}
 use Rattle.aom_machine_state.specs.declared.progress.Progress.TheVariants.{Running}
 use Rattle.aom_machine_state.specs.Progress.{progress_of}
 use Rattle.aom_run.specs.Calls.{Stands, StandsFor}
 use Rattle.aom_run.specs.declared.machine.Machine.{Machine}
-use Rattle.aom_run.specs.Runs.{after, begins, CutOff, Filled, Moving, Sent}
+use Rattle.aom_run.specs.Runs.{begins, CutOff, Filled, Moving, Sent}
+use Rattle.aom_transcript.specs.Sinks.{after}
 use Rattle.aom_run.proofs.Reaching.{moving_both}
-use Rattle.aom_run.proofs.Sending.{after_both, after_none, cut_next, text_by_both}
+use Rattle.aom_run.proofs.TranscriptLemmas.{after_both, after_none, cut_next, text_by_both}
 
 -- of the lines so far, those that were told before among them, some are out, and the others are in the buffer
 abbrev pub Part : (Line → List ℕ) → LineBuffer → LineBuffer → Option (List ℕ) → Option (List ℕ) → List Line → Type 0

@@ -11,8 +11,6 @@ use Rattle.aom_semantics.specs.State.{State}
 use Rattle.aom_transcript.specs.declared.event.Event.{Event}
 use Rattle.aom_transcript.specs.declared.event.Event.TheVariants.{Client, Kill, Tell}
 use Rattle.aom_machine_state.specs.Stands.{Machine, StandsFor}
-use Rattle.aom_run.specs.declared.fault.BootFault.{BootFault}
-use Rattle.aom_run.specs.declared.fault.BootFault.TheVariants.{OutOfMemory, TooFewNatives}
 
 -- the slots of natives are as the state says: there are as many as the image names, at least; those live that are not killed; and what is
 -- kept as outstanding at each is what its cells have outstanding there
@@ -48,8 +46,3 @@ pub record StandsBeside {L : Type 0} (kept : L → List ℕ) (m : Machine) (slot
   pub stands : StandsFor m s
   pub serves : Serves kept m.image s slots
   pub countable : length slots < 18446744073709551616
-
--- the number by which a fault is printed
-abbrev pub fault_number : BootFault → ℕ
-fault_number TooFewNatives = 1
-fault_number OutOfMemory = 2

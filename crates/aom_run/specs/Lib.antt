@@ -3,5 +3,4 @@ pub mod Calls
 pub mod Beside
 pub mod Outcomes
 pub mod Runs
-pub mod Naming
 pub mod Turns

@@ -9,7 +9,8 @@ use Rattle.aom_transcript.specs.declared.line.Line.{Line}
 use Rattle.aom_transcript.specs.declared.line.Ending.{Ending}
 use Rattle.aom_transcript.specs.declared.line.Ending.TheVariants as endings
 use Rattle.aom_machine_state.specs.LineBuffer.{LineBuffer, step_lines}
-use Rattle.aom_run.specs.Naming.{text_by, transcript_by}
+use Rattle.aom_transcript.specs.Naming.{text_by, transcript_by}
+use Rattle.aom_transcript.specs.Sinks.{after}
 use Rattle.aom_run.specs.declared.outcome.Outcome.{Outcome}
 use Rattle.aom_run.specs.declared.outcome.Outcome.TheVariants.{Stopped, Waiting, MainLeft, Limit, Error, WriteFault}
 use Rattle.aom_machine_state.specs.declared.progress.Progress.{Progress}
@@ -17,10 +18,6 @@ use Rattle.aom_machine_state.specs.declared.progress.Progress.TheVariants.{Runni
 use Rattle.aom_machine_state.specs.Progress.{progress_of}
 use Rattle.aom_run.specs.Calls.{StandsFor, natives_of}
 use Rattle.aom_run.specs.declared.machine.Machine.{Machine}
-
--- what is out once a text is out too, where the sink tells it
-abbrev pub after : Option (List ℕ) → List ℕ → Option (List ℕ)
-after out text = option_map (λ t. t ++ text) out
 
 -- moves one after another at which something is at hand, with their lines, where those requests are refused
 pub data Moving (p : Image) (refused : List ℕ) (from : State) : List Line → State → Type 0 where

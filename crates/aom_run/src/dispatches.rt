@@ -1,19 +1,17 @@
 //! A dispatch, from where it begins until nothing is at hand, and its lines.
-ghost use Rattle.std.specs.Prelude.{ℕ, true, false, ◌≡◌, ◌<◌, take, IfNone, IfSome};
-ghost use Rattle.aom_transcript.specs.Text.{text_of};
-ghost use Rattle.aom_run.specs.Naming.{named_by};
-ghost use Rattle.aom_run.specs.Runs.{CutOff, Filled, HasRoom, KeepsImage, Sent, after};
+ghost use Rattle.std.specs.Prelude.{true, ◌≡◌, ◌<◌, IfNone, IfSome};
+ghost use Rattle.aom_transcript.specs.Naming.{named_by};
+ghost use Rattle.aom_run.specs.Runs.{CutOff, Filled, HasRoom, KeepsImage, Sent};
 ghost use Rattle.aom_machine.specs.Steps.{rank};
 ghost use Rattle.aom_run.specs.Beside.{KeepsUnnamed};
 ghost use Rattle.aom_run.specs.Calls.{Stands};
 ghost use Rattle.aom_natives.specs.Slots.{AllAgree};
 
-use crate::naming::put_lines;
-use crate::{Machine, Sink, write_text};
+use crate::Machine;
 use aom_machine::Progress;
 use aom_machine_state::LineBuffer;
 use aom_natives::Native;
-use aom_transcript::{Line, Page};
+use aom_transcript::{Page, Sink, put_lines};
 
 /// How many lines the machine writes, at least, before they are sent out. A buffer of lines has room for them and for one step more.
 const MANY_LINES: usize = 64;
@@ -71,23 +69,4 @@ fn fill(machine: &mut Machine, lines: &mut LineBuffer) -> Progress
             other => return other,
         }
     }
-}
-
-/// Writes lines out, as many at once as the page has room for, and stops where the sink fails.
-pub fn write_lines<W: Sink>(out: &mut W, page: &mut Page, lines: &[Line])
-    ensures prefix { (n : ℕ) × (W.out out.new ≡ after (W.out out.old) (take n (text_of lines.now))) }
-    ensures whole { W.failed out.new ≡ false → W.out out.new ≡ after (W.out out.old) (text_of lines.now) }
-{
-    page.clear();
-    for line in lines {
-        if !page.has_room() {
-            write_text(out, page.as_bytes());
-            if out.has_failed() {
-                return;
-            }
-            page.clear();
-        }
-        page.add_line(line);
-    }
-    write_text(out, page.as_bytes());
 }

@@ -11,11 +11,10 @@ ghost use Rattle.aom_natives.specs.Slots.{AllAgree};
 ghost use Rattle.aom_semantics.specs.State.{State};
 ghost use Rattle.aom_semantics.specs.World.{boot_state};
 
-use crate::BootFault;
 use aom_budget::Accepted;
 use aom_machine::{Progress, Wanted};
 use aom_machine_state::LineBuffer;
-use aom_natives::{Native, Natives};
+use aom_natives::{BootFault, Native, Natives};
 use aom_transcript::Event;
 use std::alloc::Global;
 

@@ -7,20 +7,21 @@ ghost use Rattle.aom_transcript.specs.Text.{ended, end_text, line_text};
 ghost use Rattle.aom_machine_state.specs.LineBuffer.{step_lines};
 ghost use Rattle.aom_run.specs.Outcomes.{outcome_of};
 ghost use Rattle.aom_run.specs.Turns.{hearing};
-ghost use Rattle.aom_run.specs.Naming.{named_by};
-ghost use Rattle.aom_run.specs.Runs.{IsFresh, Ran, Ended, CutShort, after};
+ghost use Rattle.aom_transcript.specs.Naming.{named_by};
+ghost use Rattle.aom_run.specs.Runs.{IsFresh, Ran, Ended, CutShort};
+ghost use Rattle.aom_transcript.specs.Sinks.{after};
 ghost use Rattle.aom_script.specs.Script.{IsTimely};
 ghost use Rattle.aom_run.specs.Calls.{EventInRange, StandsFor, natives_of};
 ghost use Rattle.aom_natives.specs.Slots.{AllAgree};
 
 use crate::dispatches::run_dispatch;
 use crate::turns::take_turns;
-use crate::{Machine, Outcome, Sink, write_text};
+use crate::{Machine, Outcome};
 use aom_machine::Progress;
 use aom_machine_state::LineBuffer;
 use aom_natives::Native;
 use aom_script::Script;
-use aom_transcript::{Ending, Page, TimedEvent};
+use aom_transcript::{Ending, Page, Sink, TimedEvent, write_text};
 
 /// Runs a fresh machine to its end and writes the transcript, one step after another. It stops where the sink fails.
 /// No other run of its image that hears the same of natives has another transcript.

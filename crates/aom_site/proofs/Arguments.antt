@@ -8,7 +8,7 @@ use Rattle.std.proofs.Math.ListN.{drop_of_length-le}
 use Rattle.std.specs.Prelude.{slice_index_or}
 use Rattle.aom_image.specs.Image.{Image}
 use Rattle.aom_image.specs.declared.method.Argument.{Argument}
-use Rattle.aom_site.specs.Calls.{argument_needs, each_argument, rule_arguments}
+use Rattle.aom_rules.specs.Calls.{argument_needs, each_argument, rule_arguments}
 use Rattle.aom_shape.specs.Kinds.{register}
 use Rattle.aom_shape.specs.Needs.{tested}
 use Rattle.aom_shape.specs.Shape.{Shape}

@@ -1,34 +1,25 @@
 -- What a call or a trap asks and leaves, by the declaration of the called method: its parts decide in turn.
-use Rattle.std.proofs.Common.{◌≡◌, ℕ, suc, true, false, not, cond, List, [], ◌∷◌, ◌++◌, length, Option, Some, Result, Ok, Err, refl, ap, sym, ◌∙◌}
+use Rattle.std.proofs.Common.{◌≡◌, ℕ, true, false, not, cond, List, [], ◌∷◌, ◌++◌, length, Option, Some, Result, Ok, Err, refl, ap, sym, ◌∙◌}
 use Rattle.std.proofs.lemmas.List.{append_assoc}
 use Rattle.aom_image.specs.Image.{Image}
 use Rattle.aom_image.specs.Views.{arguments_of, method_at, method_class, method_role, is_quiet}
 use Rattle.aom_instructions.specs.declared.instr.Target.{Target}
 use Rattle.aom_image.specs.declared.method.Argument.{Argument}
-use Rattle.aom_image.specs.declared.method.Argument.TheVariants.{Word as A_word_argument, Own as An_own_argument}
 use Rattle.aom_image.specs.declared.method.Method.{Method}
 use Rattle.aom_image.specs.declared.method.Role.{Role}
 use Rattle.aom_roles.specs.Roles.{is_construct}
-use Rattle.aom_site.specs.Calls.{brought, caught, while_called, rule_given, rule_target, rule_arguments}
-use Rattle.aom_site.specs.Calls.{rule_moved, flow_call, rule_trapped, rule_trap, flow_trap}
-use Rattle.aom_site.specs.Requests.{resting}
-use Rattle.aom_site.specs.Site.{Site, call_answer, trap_answer}
+use Rattle.aom_rules.specs.Calls.{brought, caught, while_called, rule_given, rule_target, rule_arguments}
+use Rattle.aom_rules.specs.Calls.{rule_moved, flow_call, rule_trapped, rule_trap, flow_trap}
+use Rattle.aom_rules.specs.Beginning.{resting}
+use Rattle.aom_rules.specs.Site.{Site, call_answer, trap_answer}
 use Rattle.aom_site.specs.declared.calls.Call.{Call}
-use Rattle.aom_shape.specs.Arguments.{argument_moved, arguments_moved}
+use Rattle.aom_shape.specs.Arguments.{arguments_moved}
 use Rattle.aom_shape.specs.Needs.{Need, Flow, judged, tested, to_next}
 use Rattle.aom_shape.specs.Shape.{Shape}
 use Rattle.aom_shape.specs.declared.why.Why.{Why}
 use Rattle.aom_shape.specs.declared.why.Why.TheVariants.{QuietBroken}
+use Rattle.aom_site.proofs.RulesLemmas.{arguments_leave}
 use Rattle.aom_site.proofs.ShapeLemmas.{after_there, all_failed, all_passed, arguments_there, class_there, failed_first, gives_there, passed_first, role_there}
-
--- the arguments take no cleanup entry with them
-argument_leaves : (x : Argument) (r : ℕ) (sh : Shape) → (argument_moved x r sh).entries ≡ sh.entries
-argument_leaves A_word_argument r sh = refl
-argument_leaves (An_own_argument t) r sh = refl
-
-pub arguments_leave : (xs : List Argument) (first : ℕ) (sh : Shape) → (arguments_moved xs first sh).entries ≡ sh.entries
-arguments_leave [] first sh = refl
-arguments_leave (x ∷ xs) first sh = arguments_leave xs (suc first) (argument_moved x first sh) ∙ argument_leaves x first sh
 
 -- what passes is what was to pass
 passed_is : {A : Type 0} (xs : List Need) (a z : A) → judged xs a ≡ Ok z → a ≡ z

@@ -2,5 +2,5 @@ mod Arguments
 mod Calling
 mod Past
 mod Returning
-pub mod SiteLemmas
+pub use Rattle.aom_rules.proofs.RulesLemmas
 pub use Rattle.aom_shape.proofs.ShapeLemmas

@@ -5,7 +5,7 @@ use Rattle.aom_shape.specs.Kinds.{is_empty}
 use Rattle.aom_roles.specs.Tables.{at}
 use Rattle.aom_shape.specs.declared.kind.Filling.{Filling}
 use Rattle.aom_shape.specs.declared.kind.Filling.TheVariants.{Perhaps}
-use Rattle.aom_site.specs.Calls.{empty_past}
+use Rattle.aom_rules.specs.Calls.{empty_past}
 
 pub past_step : (k : ℕ) (ts : List Thing) (xs : List Filling) → k < length ts → empty_past k ts xs ≡ (is_empty (at Perhaps xs k) && empty_past (suc k) ts xs)
 past_step zero (t ∷ ts) [] lt = refl

@@ -2,7 +2,7 @@
 use Rattle.std.proofs.Common.{◌≡◌, ℕ, List, [], ◌++◌, Ok, Err, ◌∙◌}
 use Rattle.aom_image.specs.Image.{Image}
 use Rattle.aom_image.specs.Views.{gives_of}
-use Rattle.aom_site.specs.Calls.{rule_ended, rule_left, rule_result, rule_return}
+use Rattle.aom_rules.specs.Calls.{rule_ended, rule_left, rule_result, rule_return}
 use Rattle.aom_shape.specs.Needs.{Flow, Need, judged, tested}
 use Rattle.aom_shape.specs.Shape.{Shape}
 use Rattle.aom_shape.specs.declared.why.Why.{Why}

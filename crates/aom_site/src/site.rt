@@ -7,7 +7,7 @@ ghost use Rattle.aom_shape.specs.Changes.{next_shape, ways_from};
 ghost use Rattle.aom_shape.specs.Kinds.{is_object_or_null, is_own_for, is_ready_kind, is_unowning, is_word, may_be_declared, no_entry, register};
 ghost use Rattle.aom_shape.specs.Needs.{to_next};
 ghost use Rattle.aom_roles.specs.Things.{field_thing, holder_of, word_count};
-ghost use Rattle.aom_site.specs.Site.{leave_point};
+ghost use Rattle.aom_rules.specs.Site.{leave_point};
 ghost use Rattle.aom_shape.specs.declared.kind.CleanupEntry.{CleanupEntry as EntryData};
 ghost use Rattle.aom_shape.specs.declared.why.Why.TheVariants.{PopEmpty, QuietBroken, RegisterKind, StillFresh};
 
@@ -33,7 +33,7 @@ pub struct Site<'a> {
 impl<'a> Model for Site<'a> {
     ghost use Rattle.std.specs.Prelude.{IsSome, suc, ◌<◌, ◌^◌};
     ghost use Rattle.aom_image.specs.Views.{method_at};
-    ghost use Rattle.aom_site.specs.Site.{Site as SiteRecord};
+    ghost use Rattle.aom_rules.specs.Site.{Site as SiteRecord};
 
     ghost Value = { SiteRecord };
 

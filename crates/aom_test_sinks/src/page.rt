@@ -1,7 +1,7 @@
 //! A sink with so much room.
 ghost use Rattle.std.specs.Prelude.{◌≡◌, [], false};
 
-use aom_run::Sink;
+use aom_transcript::Sink;
 use std::alloc::Global;
 
 /// A sink that takes so many bytes in all, and at most so many at a time.

@@ -2,7 +2,7 @@
 ghost use Rattle.std.specs.Prelude.{◌≡◌, ◌==◌, ◌&&◌, length, nat_eq, false};
 ghost use Rattle.std.specs.List.{starts_with};
 
-use aom_run::Sink;
+use aom_transcript::Sink;
 
 /// A sink for 256 bytes that takes no memory.
 #[derive(Drop)]

@@ -1,1 +1,3 @@
+pub mod Naming
+pub mod Sinks
 pub mod Text

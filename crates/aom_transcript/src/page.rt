@@ -3,8 +3,7 @@ ghost use Rattle.std.specs.Prelude.{◌≡◌, ◌<◌, ◌+◌, ◌≤◌, ◌�
 ghost use Rattle.std.specs.Fmt.{signed_decimal};
 ghost use Rattle.aom_transcript.specs.Text.{answer_text, asked_text, line_text, end_text, ending_text, ended, tried_text};
 
-use crate::{Asked, Ending, Line};
-use aom_buffers::Text;
+use crate::{Asked, Ending, Line, Text};
 use itoa::Integer;
 use std::marker::Model;
 
@@ -181,7 +180,7 @@ impl Page {
 }
 
 /// What a server is asked for, with the spaces round it.
-fn asked_words(asked: Asked) -> &'static [u8]
+pub fn asked_words(asked: Asked) -> &'static [u8]
     ensures text { result.now ≡ asked_text asked }
     ensures short { length result.now ≤ 9 }
 {

@@ -17,7 +17,7 @@ use crate::change::{StatesChange, Step};
 use crate::view::ShapeView;
 use aom_image::MethodNumber;
 use aom_linked::Linked;
-use aom_rules::rule;
+use aom_ruling::rule;
 use aom_shape::{
     Change as EntriesChange, Flow, Kept, Known, Pile, Piles, Shape, Way, Why, meet, weaker,
 };

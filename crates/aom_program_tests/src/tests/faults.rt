@@ -3,7 +3,7 @@ use super::pages::FIRST;
 use aom_budget::BudgetFault;
 use aom_commands::{ExitStatus, Fault, Translation, try_run, try_translate};
 use aom_debug_words::DebugFault;
-use aom_run::BootFault;
+use aom_natives::BootFault;
 use aom_test_sinks::Slip;
 use std::alloc::Global;
 use std::fmt::Display;

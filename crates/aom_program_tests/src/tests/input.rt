@@ -1,5 +1,5 @@
 use aom_host::Input;
-use aom_run::Reader;
+use aom_transcript::Reader;
 use std::io::{self, Read};
 use std::test::Fail;
 

@@ -1,5 +1,5 @@
 use aom_host::Output;
-use aom_run::{Sink, write_text};
+use aom_transcript::{Sink, write_text};
 use std::io::{self, BufWriter, Write};
 use std::test::Fail;
 

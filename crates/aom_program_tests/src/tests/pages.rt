@@ -5,8 +5,8 @@ use aom_commands::{
     ExitStatus, asm_bytes, check_bytes, dis_bytes, dot_bytes, prices_bytes, run_bytes,
 };
 use aom_natives::Native;
-use aom_run::Sink;
 use aom_test_sinks::BoundedPage;
+use aom_transcript::Sink;
 use std::alloc::Global;
 use std::process::Abort;
 use std::test::Fail;

@@ -4,8 +4,8 @@ ghost use Rattle.std.specs.Prelude.{◌≡◌, []};
 use super::pages::FIRST;
 use aom_budget::Accepted;
 use aom_commands::accept_bytes;
-use aom_natives::{Counter, Native};
-use aom_run::{BootFault, Machine};
+use aom_natives::{BootFault, Counter, Native};
+use aom_run::Machine;
 use std::alloc::{AllocError, Global};
 use std::process::Abort;
 

@@ -1,6 +1,6 @@
 -- The run is one of an accepted image under what the text denotes. A text that is no script has a fault, and so has want of memory.
 use Rattle.std.proofs.Common.{length, refl}
-use Rattle.aom_run.specs.Naming.{named_by}
+use Rattle.aom_transcript.specs.Naming.{named_by}
 use Rattle.aom_commands.proofs.Acceptance.{acceptable_of, accepts_of}
 use Rattle.aom_commands.proofs.Telling.{ended_so, unscripted}
 use Rattle.aom_commands.proofs.Untelling.{untold_weaker}

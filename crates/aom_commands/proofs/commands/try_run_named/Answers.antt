@@ -1,6 +1,6 @@
 -- The accepted image is the one that the bytes spell. Bytes that are none have a fault, and so has want of memory.
 use Rattle.std.proofs.Common.{length, refl}
-use Rattle.aom_run.specs.Naming.{named_by}
+use Rattle.aom_transcript.specs.Naming.{named_by}
 use Rattle.aom_commands.proofs.Telling.{accepted, unaccepted}
 use Rattle.aom_commands.proofs.Untelling.{untold_weaker}
 use Rattle.aom_commands.proofs.commands.try_run_named.Goals as goal

@@ -2,7 +2,7 @@
 use Rattle.std.proofs.Common.{◌≡◌, ◌∙◌, List, ℕ, length, subst, sym}
 use Rattle.std.specs.Prelude.{IfOk}
 use Rattle.std.proofs.lemmas.Result.{IfErr-weaker, IfOk-weaker, err_from_is_err_and}
-use Rattle.aom_run.specs.Runs.{after}
+use Rattle.aom_transcript.specs.Sinks.{after}
 use Rattle.aom_commands.specs.Explored.{IsLast, kept_text}
 use Rattle.aom_commands.specs.Headline.{HasNatives, RefusesBoot, outside_of}
 use Rattle.aom_commands.proofs.Boxes.{all_new, as_many, owe_nothing}

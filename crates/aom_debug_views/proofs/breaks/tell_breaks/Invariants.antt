@@ -1,7 +1,7 @@
 -- The lines of the breakpoints so far are out.
 use Rattle.std.proofs.Common.{◌≡◌}
 use Rattle.std.specs.Prelude.{option_map, slice_get}
-use Rattle.aom_run.specs.Runs.{after}
+use Rattle.aom_transcript.specs.Sinks.{after}
 use Rattle.aom_debug_words.specs.declared.answer.Answer.TheVariants.{Break}
 use Rattle.aom_debug_views.specs.Telling.{answers_by, gathered, listed}
 use Rattle.aom_debug_views.proofs.breaks.tell_breaks.Given as goal

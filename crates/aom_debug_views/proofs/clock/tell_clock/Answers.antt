@@ -3,7 +3,7 @@ use Rattle.std.proofs.Common.{◌∙◌, ap, take}
 use Rattle.std.proofs.lemmas.Result.{IfErr-weaker, IfOk-weaker}
 use Rattle.aom_transcript.specs.Text.{ended}
 use Rattle.aom_semantics.specs.State.{Counters}
-use Rattle.aom_run.specs.Runs.{after}
+use Rattle.aom_transcript.specs.Sinks.{after}
 use Rattle.aom_debug_words.specs.Answers.{answer_text}
 use Rattle.aom_debug_words.specs.declared.answer.Answer.TheVariants.{Clock}
 use Rattle.aom_debug_views.proofs.clock.tell_clock.Goals as goal

@@ -2,7 +2,7 @@
 use Rattle.std.proofs.Common.{◌∙◌, ap, sym}
 use Rattle.std.proofs.lemmas.Result.{IfErr-weaker, IfOk-weaker}
 use Rattle.std.specs.Prelude.{is_some}
-use Rattle.aom_run.specs.Runs.{after}
+use Rattle.aom_transcript.specs.Sinks.{after}
 use Rattle.aom_semantics.specs.Owned.{over}
 use Rattle.aom_debug_views.specs.Frames.{frame_answers, kinds_of}
 use Rattle.aom_debug_views.specs.Telling.{answers_by}

@@ -1,6 +1,6 @@
 -- What is out, and then the words that are left, is all.
 use Rattle.std.proofs.Common.{◌≡◌, ◌++◌, ℕ, List, length}
-use Rattle.aom_run.specs.Runs.{after}
+use Rattle.aom_transcript.specs.Sinks.{after}
 use Rattle.aom_explain.specs.Sources.{spaced}
 use Rattle.aom_debug_views.proofs.sending.send_words.Given as goal
 

@@ -4,7 +4,7 @@ use Rattle.aom_debug.specs.Answers.{DebugAnswersBy}
 use Rattle.aom_debug_names.specs.Names.{Names, names_of}
 use Rattle.aom_explain.specs.Declarations.{class_names, method_names}
 use Rattle.aom_commands.specs.Untold.{Untold}
-use Rattle.aom_run.specs.Naming.{lent}
+use Rattle.aom_transcript.specs.Naming.{lent}
 use Rattle.aom_explaining.proofs.debugging.try_debug_by_names.Goals as goal
 
 abbrev made : (classes methods : List (List ℕ)) → (text : List ℕ) → Names

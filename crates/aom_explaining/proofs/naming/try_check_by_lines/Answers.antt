@@ -4,7 +4,7 @@ use Rattle.aom_explain.specs.Declarations.{class_names, method_names}
 use Rattle.aom_explain.specs.Lines.{class_lines, image_line, method_lines}
 use Rattle.aom_commands.specs.Prices.{ChecksBy}
 use Rattle.aom_commands.specs.Untold.{Untold}
-use Rattle.aom_run.specs.Naming.{lent}
+use Rattle.aom_transcript.specs.Naming.{lent}
 use Rattle.aom_explaining.specs.Naming.{placed_names, text_places}
 use Rattle.aom_explaining.proofs.Placing.{same_names, same_places}
 use Rattle.aom_explaining.proofs.naming.try_check_by_lines.Goals as goal

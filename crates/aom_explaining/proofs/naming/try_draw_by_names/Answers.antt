@@ -5,7 +5,7 @@ use Rattle.aom_explain.specs.Declarations.{class_names, method_names}
 use Rattle.aom_figures.specs.Names.{Names}
 use Rattle.aom_commands.specs.Translations.{DrawsBy}
 use Rattle.aom_commands.specs.Untold.{Untold}
-use Rattle.aom_run.specs.Naming.{lent}
+use Rattle.aom_transcript.specs.Naming.{lent}
 use Rattle.aom_explaining.specs.Naming.{text_names}
 use Rattle.aom_explaining.proofs.naming.try_draw_by_names.Goals as goal
 

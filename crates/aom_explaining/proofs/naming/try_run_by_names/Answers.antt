@@ -2,7 +2,7 @@
 use Rattle.std.proofs.Common.{◌≡◌, ◌∙◌, ℕ, List, ap, length, map, subst}
 use Rattle.std.specs.Borrow.{Bor}
 use Rattle.aom_explain.specs.Declarations.{class_names}
-use Rattle.aom_run.specs.Naming.{class_word, lent, named_text}
+use Rattle.aom_transcript.specs.Naming.{class_word, lent, named_text}
 use Rattle.aom_commands.specs.Headline.{RunAnswersBy}
 use Rattle.aom_commands.specs.Untold.{Untold}
 use Rattle.aom_explaining.proofs.naming.try_run_by_names.Goals as goal

@@ -1,8 +1,8 @@
 use Rattle.std.proofs.Common.{ap, arith, length, refl, subst, sym, take, ◌+◌, ◌∙◌, ◌≤◌}
 use Rattle.aom_image.specs.Image.{Image}
 use Rattle.aom_machine_state.specs.LineBuffer.{LineBuffer, step_lines}
-use Rattle.aom_run.specs.Naming.{named_by, text_by}
-use Rattle.aom_run.specs.Runs.{after}
+use Rattle.aom_transcript.specs.Naming.{named_by, text_by}
+use Rattle.aom_transcript.specs.Sinks.{after}
 use Rattle.aom_run.specs.Beside.{KeepsUnnamed}
 use Rattle.aom_run.proofs.Asked.{unnamed_all, unnamed_on}
 use Rattle.aom_run.proofs.Keeping.{image_all, image_on}

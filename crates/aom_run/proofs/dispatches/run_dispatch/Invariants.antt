@@ -4,7 +4,7 @@ use Rattle.aom_run.specs.Beside.{KeepsUnnamed}
 use Rattle.aom_run.specs.Calls.{Stands}
 use Rattle.aom_natives.specs.Slots.{AllAgree}
 use Rattle.aom_run.specs.Runs.{KeepsImage}
-use Rattle.aom_run.specs.Naming.{named_by}
+use Rattle.aom_transcript.specs.Naming.{named_by}
 use Rattle.aom_run.proofs.Underway.{Underway}
 use Rattle.aom_run.proofs.dispatches.run_dispatch.Given as goal
 

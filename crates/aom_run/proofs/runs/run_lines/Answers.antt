@@ -3,7 +3,7 @@ use Rattle.aom_image.specs.Image.{Image}
 use Rattle.aom_machine_state.specs.LineBuffer.{LineBuffer}
 use Rattle.aom_semantics.specs.World.{boot_state}
 use Rattle.aom_run.specs.Calls.{Stands, natives_of}
-use Rattle.aom_run.specs.Naming.{named_by}
+use Rattle.aom_transcript.specs.Naming.{named_by}
 use Rattle.aom_run.specs.Turns.{hearing}
 use Rattle.aom_run.proofs.Running.{after_turns, cut, ends, fewer_left_by, given_up, sent_far, sent_on, sent_rests, sent_buffer, starts, turned_end, turned_few}
 use Rattle.aom_run.proofs.Running.{turned_now, turned_same, turned_stands, turns_as}

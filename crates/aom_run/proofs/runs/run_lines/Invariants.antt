@@ -1,7 +1,7 @@
 use Rattle.std.proofs.Common.{◌≡◌, ◌≢◌, []}
 use Rattle.aom_run.specs.Calls.{natives_of}
 use Rattle.aom_natives.specs.Slots.{AllAgree}
-use Rattle.aom_run.specs.Naming.{named_by}
+use Rattle.aom_transcript.specs.Naming.{named_by}
 use Rattle.aom_run.specs.Turns.{hearing}
 use Rattle.aom_machine.specs.Steps.{progress}
 use Rattle.aom_machine_state.specs.declared.progress.Progress.TheVariants.{Running}

@@ -3,7 +3,7 @@ use Rattle.std.specs.Prelude.{All}
 use Rattle.aom_run.specs.Calls.{EventInRange, natives_of}
 use Rattle.aom_transcript.specs.declared.event.TimedEvent.{TimedEvent}
 use Rattle.aom_run.specs.Runs.{CutShort, Ended}
-use Rattle.aom_run.specs.Naming.{named_by}
+use Rattle.aom_transcript.specs.Naming.{named_by}
 use Rattle.aom_run.specs.Turns.{hearing}
 use Rattle.aom_run.proofs.Gets.{ranged}
 use Rattle.aom_run.proofs.Running.{ran}

@@ -1,6 +1,6 @@
 use Rattle.std.proofs.Common.{sym, ap, ◌∙◌, ◌+◌, ◌≤◌, ◌≡◌, ℕ, length, arith}
 use Rattle.std.proofs.lemmas.Result.{err_from_is_err_and}
-use Rattle.aom_site.specs.Calls.{each_argument}
+use Rattle.aom_rules.specs.Calls.{each_argument}
 use Rattle.aom_shape.specs.Needs.{tested}
 use Rattle.aom_site.proofs.Arguments.{rule_within, rule_past, needs_passed, needs_failed, needs_done}
 use Rattle.aom_site.proofs.calls.judge_arguments.Goals as goal

@@ -1,5 +1,5 @@
 use Rattle.std.proofs.Common.{◌≡◌, ◌+◌, drop}
-use Rattle.aom_site.specs.Calls.{each_argument}
+use Rattle.aom_rules.specs.Calls.{each_argument}
 use Rattle.aom_shape.specs.Needs.{tested}
 use Rattle.aom_site.proofs.calls.judge_arguments.Given as goal
 

@@ -1,5 +1,5 @@
 use Rattle.std.proofs.Common.{◌≡◌, ◌∙◌, ◌&&◌, ◌+◌, suc, sym, ap, arith}
-use Rattle.aom_site.specs.Calls.{empty_past}
+use Rattle.aom_rules.specs.Calls.{empty_past}
 use Rattle.aom_site.proofs.Past.{past_over, past_step}
 use Rattle.aom_site.proofs.requests.empty_past.Goals as goal
 

@@ -1,5 +1,5 @@
 use Rattle.std.proofs.Common.{◌≡◌}
-use Rattle.aom_site.specs.Calls.{empty_past}
+use Rattle.aom_rules.specs.Calls.{empty_past}
 use Rattle.aom_site.proofs.requests.empty_past.Given as goal
 
 abbrev pub invariant-loop-index : goal.invariant-loop-index

@@ -1,7 +1,7 @@
 use Rattle.std.proofs.Common.{◌≡◌, ap, sym, ◌∙◌}
 use Rattle.std.proofs.lemmas.Result.{err_from_is_err_and}
-use Rattle.aom_site.specs.Calls.{rule_arguments}
-use Rattle.aom_site.specs.Site.{Site}
+use Rattle.aom_rules.specs.Calls.{rule_arguments}
+use Rattle.aom_rules.specs.Site.{Site}
 use Rattle.aom_shape.specs.Arguments.{arguments_moved}
 use Rattle.aom_shape.specs.Needs.{tested}
 use Rattle.aom_site.proofs.Calling.{target_refused, arguments_refused, both_met}

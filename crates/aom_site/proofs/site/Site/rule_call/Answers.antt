@@ -1,7 +1,7 @@
 use Rattle.std.proofs.Common.{◌≡◌, Some, sym, ◌∙◌}
 use Rattle.std.proofs.lemmas.Result.{err_from_is_err_and}
 use Rattle.aom_image.specs.Views.{method_at}
-use Rattle.aom_site.specs.Calls.{while_called}
+use Rattle.aom_rules.specs.Calls.{while_called}
 use Rattle.aom_site.proofs.Calling.{call_decides, entries_kept}
 use Rattle.aom_shape.specs.Changes.{next_shape}
 use Rattle.aom_site.proofs.site.Site.rule_call.Goals as goal

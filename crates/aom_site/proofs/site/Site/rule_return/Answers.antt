@@ -1,6 +1,6 @@
 use Rattle.std.proofs.Common.{◌≡◌, sym, ◌∙◌}
 use Rattle.std.proofs.lemmas.Result.{err_from_is_err_and}
-use Rattle.aom_site.specs.Calls.{rule_left}
+use Rattle.aom_rules.specs.Calls.{rule_left}
 use Rattle.aom_shape.specs.Needs.{tested}
 use Rattle.aom_site.proofs.Returning.{left_refused, refused, returned}
 use Rattle.aom_site.proofs.site.Site.rule_return.Goals as goal

@@ -1,8 +1,8 @@
 use Rattle.std.proofs.Common.{◌≡◌, false, Some, sym, ◌∙◌, rules}
 use Rattle.std.proofs.lemmas.Result.{err_from_is_err_and}
 use Rattle.aom_image.specs.Views.{is_quiet, method_at}
-use Rattle.aom_site.specs.Calls.{while_called}
-use Rattle.aom_site.specs.Requests.{resting}
+use Rattle.aom_rules.specs.Calls.{while_called}
+use Rattle.aom_rules.specs.Beginning.{resting}
 use Rattle.aom_site.proofs.Calling.{entries_kept, trap_decides}
 use Rattle.aom_shape.specs.Changes.{next_shape}
 use Rattle.aom_site.proofs.site.Site.rule_trap.Goals as goal

@@ -1,8 +1,0 @@
--- The lines so far are out.
-use Rattle.std.proofs.Common.{[], take}
-use Rattle.aom_run.specs.Naming.{class_word, lent, named_text}
-use Rattle.aom_run.proofs.Sending.{Paged}
-use Rattle.aom_run.proofs.naming.write_named.Given as goal
-
-abbrev pub invariant-loop-line : goal.invariant-loop-line
-invariant-loop-line g l = Paged (named_text (class_word (lent l.names))) (g.W.Sink.out l.initial.out) (g.W.Sink.out l.out) [] (take l.line-index l.lines)

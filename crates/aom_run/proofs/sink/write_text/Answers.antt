@@ -1,6 +1,0 @@
-use Rattle.std.proofs.Common.{arith}
-use Rattle.aom_run.proofs.Prefix.{sent_more}
-use Rattle.aom_run.proofs.sink.write_text.Goals as goal
-
-pub loop-at-preserved : goal.loop-at-preserved
-loop-at-preserved g c = record { within = omega arith; sent = sent_more _ _ _ _ _ _ c.loop-at.invariant.sent c.put-at.ensures.sent }

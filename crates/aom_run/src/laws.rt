@@ -1,7 +1,0 @@
-//! The law, as the contract of a function that does nothing.
-ghost use Rattle.aom_run.specs.Naming.{NumbersAreTranscripts};
-
-/// Where lines are read with the numbers of classes, what is written is the transcript.
-pub fn numbers_are_transcripts()
-    ensures { NumbersAreTranscripts }
-{}

@@ -1,0 +1,3 @@
+mod Prefix
+mod Sending
+pub mod TranscriptLemmas
