@@ -1,20 +1,18 @@
 -- What a call of a debugger answers, by what was told.
-use Rattle.std.proofs.Common.{◌≡◌, ◌≢◌, ◌∙◌, ◌⊎◌, ℕ, Bool, true, false, List, Option, Result, Ok, Err, IfErr}
-use Rattle.std.proofs.Common.{IfNone, IfOk, IfSome, Some, None, take, refl, sym, ap, subst, inl, inr}
+use Rattle.std.proofs.Common.{◌≡◌, ◌∙◌, ℕ, Bool, true, false, List, Option, Ok, Err, IfErr}
+use Rattle.std.proofs.Common.{IfNone, IfOk, IfSome, Some, None, sym, ap, subst}
 use Rattle.aom_semantics.specs.State.{State}
 use Rattle.aom_semantics.specs.World.{Reaches}
 use Rattle.aom_transcript.specs.declared.line.Line.{Line}
 use Rattle.aom_debug_moves.specs.Calls.{StandsFor}
 use Rattle.aom_debug_moves.specs.Movers.{Went, outside_of}
-use Rattle.aom_transcript.specs.Sinks.{after}
-use Rattle.aom_debug_words.specs.declared.fault.DebugFault.{DebugFault}
 use Rattle.aom_debug_words.specs.declared.fault.DebugFault.TheVariants.{WriteFault}
 use Rattle.aom_debug_views.specs.Telling.{Tells, TellsPart}
 use Rattle.aom_debug.specs.Commands.{place_text}
 use Rattle.aom_debug_moves.specs.Sends.{Breaks, Machine, Sends}
 use Rattle.aom_debug_moves.specs.Courses.{Courses}
 use Rattle.aom_machine_state.specs.declared.progress.Progress.{Progress}
-use Rattle.aom_debug.specs.Debugging.{Answer, Cut, Declined, Goes, GivesUp, Looks, MayGo, Outgoing, Seen, SeenPart, Shows, has_ended}
+use Rattle.aom_debug.specs.Debugging.{Answer, Cut, Goes, GivesUp, Looks, MayGo, Outgoing, Seen, SeenPart, Shows}
 use Rattle.aom_debug.proofs.Moving.{all_out, cut_out, part_out}
 use Rattle.aom_debug.specs.declared.debugger.Debugger.{Debugger}
 

@@ -1,13 +1,12 @@
 -- What a debugger answers that declines: by cases of what is asked.
 use Rattle.std.proofs.Common.{◌≡◌, ◌<◌, ◌≤◌, ◌||◌, ◌++◌, ◌∷◌, [], ℕ, Bool, true, false, List, Option, Some, None}
-use Rattle.std.proofs.Common.{Result, Ok, Err, arith, rules, ap, codes, cond, inl, inr, length, nat_lt, refl, subst, sym}
+use Rattle.std.proofs.Common.{Result, Ok, Err, arith, ap, codes, cond, inl, inr, length, nat_lt, refl, subst, sym}
 use Rattle.std.specs.Prelude.{IfErr, IfOk}
 use Rattle.std.proofs.lemmas.Bool.Decides.{nat_tests}
 use Rattle.std.specs.Str.{bytes_eq}
 use Rattle.aom_debug_words.specs.Commands.{command_said, known, line_says, words_say}
 use Rattle.aom_debug_words.specs.declared.command.Command.{Command}
-use Rattle.aom_debug_words.specs.declared.command.Command.TheVariants.{Step, Next, Finish, Turn, Go, Until, Break, Unbreak, Breaks, Clock}
-use Rattle.aom_debug_words.specs.declared.command.Command.TheVariants.{Frames, Help, Cells, Owners, Cleanup, Actives, Recent}
+use Rattle.aom_debug_words.specs.declared.command.Command.TheVariants.{Step, Next, Finish, Turn, Go, Until, Break, Unbreak}
 use Rattle.aom_debug_words.specs.declared.fault.DebugFault.{DebugFault}
 use Rattle.aom_debug_words.specs.declared.fault.DebugFault.TheVariants.{BadCommand, Ended, NoSuch}
 use Rattle.aom_debug_words.specs.declared.fault.DebugFault.TheVariants as faults

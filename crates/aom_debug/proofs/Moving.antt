@@ -1,8 +1,7 @@
 -- Moves and then where they lead: what is out is the text of both, or a beginning of it.
-use Rattle.std.proofs.Common.{◌≡◌, ◌∙◌, ◌+◌, ℕ, min, Bool, List, [], ◌++◌, Option, length, take, refl, sym, ap}
+use Rattle.std.proofs.Common.{◌≡◌, ◌∙◌, ◌+◌, ℕ, min, Bool, List, Option, length, take, ap}
 use Rattle.aom_image.specs.Image.{Image}
 use Rattle.aom_semantics.specs.State.{State}
-use Rattle.aom_semantics.specs.World.{Environment, Reaches}
 use Rattle.aom_transcript.specs.declared.line.Line.{Line}
 use Rattle.aom_transcript.specs.Text.{text_of}
 use Rattle.aom_debug_moves.specs.Calls.{StandsFor}

@@ -1,5 +1,5 @@
 -- Where a run stands is what each state says that the machine stands for.
-use Rattle.std.proofs.Common.{◌≡◌, ◌∙◌, ◌+◌, ℕ, min, Bool, List, ◌++◌, Option, length, take, refl, sym, ap}
+use Rattle.std.proofs.Common.{◌≡◌, ◌∙◌, ◌+◌, ℕ, min, Bool, List, ◌++◌, Option, length, take, ap}
 use Rattle.aom_cells.specs.Heap.{count}
 use Rattle.aom_semantics.specs.Places.{count_cells}
 use Rattle.aom_semantics.specs.State.{Counters, State}

@@ -1,5 +1,5 @@
 -- A look at the object that is owned at a path is what each state shows of it, or there is none.
-use Rattle.std.proofs.Common.{◌≡◌, ℕ, Bool, List, Option, Some, None, Result, Ok, Err, refl}
+use Rattle.std.proofs.Common.{ℕ, Bool, List, Option, Some, None, Ok, Err, refl}
 use Rattle.std.specs.Prelude.{IfErr, IfOk}
 use Rattle.aom_roles.specs.Things.{words_of}
 use Rattle.aom_semantics.specs.Places.{service_of}

@@ -1,6 +1,6 @@
 -- A path that the map of owners tells is read back: no blank and no dot stands within a number, so the words and the parts between dots are those that were put
 -- together.
-use Rattle.std.proofs.Common.{◌≡◌, ◌∙◌, ◌<◌, ◌≤◌, ◌^◌, ◌==◌, ◌||◌, ◌&&◌, ℕ, Bool, true, false, List, [], ◌∷◌}
+use Rattle.std.proofs.Common.{◌≡◌, ◌∙◌, ◌<◌, ◌^◌, ◌==◌, ◌||◌, ◌&&◌, ℕ, Bool, true, false, List, [], ◌∷◌}
 use Rattle.std.proofs.Common.{◌++◌, Option, Some, length, refl, sym, ap, append_assoc, get_or, arith}
 use Rattle.std.specs.Prelude.{codes, decimal, filter, map, nat_le}
 use Rattle.std.specs.List.{All, flat_map, list_all, slice_split}
@@ -13,7 +13,7 @@ use Rattle.std.proofs.lemmas.List.Sums.{AllPass-from_list_all, list_all-from_All
 use Rattle.aom_debug.proofs.MeaningLemmas.{all_digits, number_of_decimal, within}
 use Rattle.aom_text.specs.Numbers.{is_digit, number_of}
 use Rattle.aom_text.specs.Words.{has_bytes, is_blank, words}
-use Rattle.aom_debug_words.specs.Ways.{AreBranches, IsBranch, IsOuter, PathsReadBack, Way, before, branch_said, branch_text, branches_said}
+use Rattle.aom_debug_words.specs.Ways.{AreBranches, IsBranch, IsOuter, PathsReadBack, before, branch_said, branch_text, branches_said}
 use Rattle.aom_debug_words.specs.Ways.{entry_by, field_said, fitting, going_by, is_dot, numbered_outer, outer_text, path_by, path_from}
 use Rattle.aom_debug_words.specs.Ways.{path_said, plain_outer, register_by, register_outer, session_said, up_to, way_text}
 use Rattle.aom_debug_words.specs.declared.way.Branch.{Branch}

@@ -1,5 +1,5 @@
 -- What commands do to a state of the checked machine, and what they tell.
-use Rattle.std.specs.Prelude.{◌≡◌, ◌⊎◌, ℕ, Bool, true, false, not, ◌&&◌, nat_le, nat_lt, if◌then◌else◌, List, [], ◌++◌, length, slice_get, Option, Some, None, is_some}
+use Rattle.std.specs.Prelude.{◌≡◌, ◌⊎◌, ℕ, Bool, false, ◌&&◌, nat_le, nat_lt, if◌then◌else◌, List, [], ◌++◌, length, slice_get, Option, Some, None}
 use Rattle.aom_text.specs.Numbers.{number_within}
 use Rattle.aom_text.specs.declared.number.Number.{Number}
 use Rattle.aom_image.specs.Image.{Image}

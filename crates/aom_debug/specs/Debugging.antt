@@ -1,5 +1,5 @@
 -- What each call of a debugger does, from each state that its machine stands for.
-use Rattle.std.specs.Prelude.{◌≡◌, ◌⊎◌, ℕ, Bool, true, false, cond, List, [], Option, Some, None, is_some, take, codes, Result, Ok, Err}
+use Rattle.std.specs.Prelude.{◌≡◌, ◌⊎◌, ℕ, Bool, true, false, cond, List, Option, Some, None, is_some, take, Result, Ok, Err}
 use Rattle.aom_text.specs.declared.number.Number.{Number}
 use Rattle.aom_semantics.specs.State.{State}
 use Rattle.aom_semantics.specs.World.{Reaches}
@@ -9,7 +9,7 @@ use Rattle.aom_debug_moves.specs.Calls.{StandsFor}
 use Rattle.aom_transcript.specs.Sinks.{after}
 use Rattle.aom_debug_moves.specs.Movers.{outside_of}
 use Rattle.aom_debug_words.specs.declared.fault.DebugFault.{DebugFault}
-use Rattle.aom_debug_words.specs.declared.fault.DebugFault.TheVariants.{BadCommand, NoSuch, Ended, OutOfMemory, WriteFault}
+use Rattle.aom_debug_words.specs.declared.fault.DebugFault.TheVariants.{BadCommand, NoSuch, Ended, WriteFault}
 use Rattle.aom_debug_words.specs.Marks.{has_spot, is_set, with_spot, without_spot}
 use Rattle.aom_debug_words.specs.declared.spot.Spot.{Spot}
 use Rattle.aom_debug_words.specs.declared.answer.Answer.TheVariants.{Done}

@@ -2,7 +2,7 @@
 -- one stands.
 use Rattle.std.proofs.lemmas.Bool.Decides.{nat_tests}
 use Rattle.std.proofs.Common.{◌≡◌, ◌∙◌, ◌+◌, ◌==◌, ◌&&◌, ◌<◌, ◌≤◌, ℕ, zero, suc, Bool, true, false, cond, length, nat_le, nat_lt, IsSome, List}
-use Rattle.std.proofs.Common.{[], ◌∷◌, Option, Some, None, add-one, ap, arith, refl, slice_get, slice_index_or, subst, sym}
+use Rattle.std.proofs.Common.{[], ◌∷◌, Option, Some, None, ap, arith, refl, slice_get, slice_index_or, sym}
 use Rattle.std.specs.Prelude.{option_map}
 use Rattle.std.proofs.lemmas.Bool.{eq-eqb, eqb-true}
 use Rattle.std.proofs.lemmas.List.Splits.{slice_split-cons_yes}

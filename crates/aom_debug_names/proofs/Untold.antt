@@ -1,10 +1,8 @@
 -- Without a text nothing is told by names: there is none to be found in it.
-use Rattle.std.proofs.Common.{◌≡◌, ◌∙◌, ◌+◌, ℕ, zero, suc, Bool, true, false, cond, nat_lt, List, [], ◌∷◌, ◌++◌, Option}
-use Rattle.std.proofs.Common.{Some, None, Result, Ok, Err, add-one, ap, codes, decimal, length, refl, slice_get, sym}
-use Rattle.std.specs.List.{slice_split, slice_index_or}
+use Rattle.std.proofs.Common.{◌≡◌, ◌+◌, ℕ, suc, Bool, true, false, cond, nat_lt, List, [], ◌++◌, Option}
+use Rattle.std.proofs.Common.{None, Result, Ok, Err, add-one, ap, codes, decimal, length, refl, slice_get}
 use Rattle.aom_syntax.specs.declared.keyword.Keyword.TheVariants as k
-use Rattle.aom_text.specs.declared.text.Statement.{Statement}
-use Rattle.aom_explain.specs.Declarations.{begins, instruction_statement, part}
+use Rattle.aom_explain.specs.Declarations.{begins, part}
 use Rattle.aom_debug_words.specs.Answers.{answer_text, content_text}
 use Rattle.aom_debug_words.specs.Commands.{command_said}
 use Rattle.aom_debug_words.specs.declared.command.Command.{Command}

@@ -1,5 +1,5 @@
 -- How the answers of a debugger are spelled with the names and the lines of a text.
-use Rattle.std.specs.Prelude.{ℕ, ℤ, Bool, true, false, List, [], ◌++◌, Option, Some, None, codes, decimal}
+use Rattle.std.specs.Prelude.{ℕ, ℤ, Bool, true, false, List, ◌++◌, Option, Some, None, codes, decimal}
 use Rattle.std.specs.Fmt.{signed_decimal}
 use Rattle.aom_explain.specs.Sources.{spaced}
 use Rattle.aom_text.specs.declared.text.Statement.{Statement}

@@ -1,5 +1,5 @@
 -- That nothing is told by names where there is no text, and that an instruction that is found by a line stands in it, and one is found where one stands.
-use Rattle.std.specs.Prelude.{ℕ, ◌≡◌, ◌<◌, ◌≤◌, IsSome, List, Option, Some, codes, length, option_map}
+use Rattle.std.specs.Prelude.{ℕ, ◌≡◌, ◌≤◌, IsSome, List, Some, length, option_map}
 use Rattle.aom_text.specs.Text.{statements}
 use Rattle.aom_debug_words.specs.Answers.{answer_text}
 use Rattle.aom_debug_words.specs.Commands.{command_said}

@@ -12,8 +12,7 @@ use Rattle.aom_machine_state.specs.Stands.{StandsFor}
 use Rattle.aom_machine_state.specs.declared.parts.Parts.{Parts}
 use Rattle.aom_semantics.specs.Places.{Cell, Object, word_field}
 use Rattle.aom_semantics.specs.State.{State}
-use Rattle.aom_debug_words.specs.declared.answer.Answer.{Answer}
-use Rattle.aom_debug_views.specs.Sights.{class_in, class_of}
+use Rattle.aom_debug_views.specs.Sights.{class_in}
 use Rattle.aom_debug_paths.specs.declared.following.Found.{Found}
 use Rattle.aom_debug_paths.specs.Paths.{IsFound, object_words, word_lines, words_in}
 

@@ -4,7 +4,7 @@ use Rattle.std.specs.Prelude.{IfErr, IfOk}
 use Rattle.aom_commands.specs.declared.status.ExitStatus.{ExitStatus}
 use Rattle.aom_commands.specs.declared.faults.Fault.{Fault}
 use Rattle.aom_commands.specs.declared.faults.Fault.TheVariants.{Memory}
-use Rattle.aom_commands.specs.Headline.{Says, Sent, Tells, Told}
+use Rattle.aom_commands.specs.Headline.{Says, Sent, Tells}
 use Rattle.aom_commands.specs.Status.{status_of}
 use Rattle.aom_commands.specs.Untold.{Untold}
 use Rattle.aom_explaining.specs.Explaining.{AnsweredOrExplained, Explaining, ToldAndExplained}

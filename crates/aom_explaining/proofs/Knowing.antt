@@ -1,6 +1,6 @@
 -- What is known at the place of a refusal, by where work on the method ends: there for that reason, elsewhere, or nowhere.
-use Rattle.std.proofs.Common.{ℕ, ◌≡◌, ◌∙◌, ◌++◌, ◌&&◌, ◌<◌, ◌≤◌, Bool, true, false, List, [], ◌∷◌, Option, Some}
-use Rattle.std.proofs.Common.{None, IsSome, Result, Ok, Err, ap, length, nat_lt, refl, slice_get, subst, sym}
+use Rattle.std.proofs.Common.{ℕ, ◌≡◌, ◌∙◌, ◌++◌, ◌&&◌, ◌<◌, ◌≤◌, true, false, List, [], ◌∷◌, Option, Some}
+use Rattle.std.proofs.Common.{None, IsSome, Result, ap, length, refl, slice_get, subst, sym}
 use Rattle.std.specs.Prelude.{IfSome, not}
 use Rattle.std.proofs.lemmas.Bool.{false≢true, le-ltb, lt-ltb}
 use Rattle.std.proofs.lemmas.Option.{none-some, same_Some, slice_get_past}

@@ -1,6 +1,6 @@
 -- Which methods others override, by one method after the other.
 use Rattle.std.proofs.Common.{Bool, List, None, Option, Some, ap, arith, false, length, refl, slice_get, slice_index_or, subst, sym, true, ℕ, ◌+◌, ◌<◌, ◌≡◌}
-use Rattle.std.proofs.Common.{◌≢◌, ◌≤◌, ◌∙◌}
+use Rattle.std.proofs.Common.{◌≢◌, ◌∙◌}
 use Rattle.std.specs.Prelude.{nat_eq}
 use Rattle.std.proofs.lemmas.Bool.{eq-eqb, eqb-true, false≢true}
 use Rattle.std.proofs.lemmas.Option.{same_Some, slice_get-get_or, slice_get_read, slice_get_within}

@@ -1,5 +1,5 @@
 -- What a class has, where a body is kept for another or for itself.
-use Rattle.std.proofs.Common.{Bool, List, Option, Some, None, ap, ap₂, arith, cond, false, length, refl, subst, sym, true, ℕ, ◌&&◌, ◌<◌, ◌∙◌, ◌≡◌, ◌≤◌}
+use Rattle.std.proofs.Common.{Bool, List, Option, Some, None, ap, ap₂, arith, cond, false, length, refl, sym, true, ℕ, ◌&&◌, ◌<◌, ◌∙◌, ◌≡◌, ◌≤◌}
 use Rattle.std.specs.Prelude.{nat_eq, not, slice_get, slice_index_or}
 use Rattle.std.specs.Option.{is_some}
 use Rattle.std.proofs.Math.ListN.{set}

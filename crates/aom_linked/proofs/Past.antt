@@ -1,5 +1,5 @@
 -- A call on a class that is not there runs the method named.
-use Rattle.std.proofs.Common.{All, Bool, List, None, Option, Some, ap, arith, false, length, refl, slice_get, suc, sym, true, zero, ℕ, ◌&&◌, ◌≡◌, ◌≤◌, ◌<◌, ◌∙◌}
+use Rattle.std.proofs.Common.{All, None, Some, ap, false, length, refl, slice_get, suc, zero, ℕ, ◌&&◌, ◌≡◌, ◌≤◌, ◌∙◌}
 use Rattle.std.proofs.lemmas.List.Elements.{All-get_or}
 use Rattle.std.proofs.lemmas.Option.{get_or_from_slice_get, slice_get_past, slice_get_within}
 use Rattle.aom_image.specs.Image.{Image}

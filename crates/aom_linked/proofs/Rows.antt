@@ -1,5 +1,5 @@
 -- What the table of roles answers.
-use Rattle.std.proofs.Common.{◌≡◌, ◌<◌, ◌≤◌, ◌∙◌, ℕ, zero, suc, false, List, [], ◌∷◌, ◌++◌, length, Option}
+use Rattle.std.proofs.Common.{◌≡◌, ◌<◌, ◌≤◌, ◌∙◌, ℕ, false, List, [], ◌∷◌, length, Option}
 use Rattle.std.proofs.Common.{Some, None, IfSome, slice_get, get_or, position, refl, sym, ap, arith}
 use Rattle.std.proofs.lemmas.Option.{slice_get_read, get_or_from_slice_get}
 use Rattle.aom_image.specs.Image.{Image}

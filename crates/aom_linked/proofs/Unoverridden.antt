@@ -1,13 +1,12 @@
 -- A method that nothing overrides is run by each call of it.
-use Rattle.std.proofs.Common.{Bool, List, Option, Some, None, [], ap, ap₂, arith, cond, false, length, refl, sym, true, suc, zero, ℕ, ◌∷◌, ◌&&◌, ◌||◌, ◌==◌}
-use Rattle.std.proofs.Common.{◌∙◌, ◌<◌, ◌≡◌, ◌≢◌}
+use Rattle.std.proofs.Common.{Bool, List, Option, Some, None, [], ap, ap₂, arith, cond, false, length, refl, true, suc, zero, ℕ, ◌∷◌, ◌&&◌, ◌||◌}
+use Rattle.std.proofs.Common.{◌∙◌, ◌≡◌, ◌≢◌}
 use Rattle.std.specs.Prelude.{nat_lt, position, slice_index_or, slice_get}
 use Rattle.std.proofs.lemmas.Bool.{le-ltb, ne_eqb}
 use Rattle.std.proofs.lemmas.List.Sums.{position_or_len_is}
 use Rattle.std.proofs.lemmas.Option.{slice_get-get_or}
 use Rattle.aom_image.specs.Image.{Image}
 use Rattle.aom_image.specs.Views.{method_at}
-use Rattle.aom_image.specs.declared.method.Method.{Method}
 use Rattle.aom_roles.specs.Families.{parent_of}
 use Rattle.aom_classes.specs.Roles.{is_class, or_else}
 use Rattle.aom_classes.specs.Overriding.{body_by, body_of, found_in, leads_in, leads_to, over_in, over_of, overrider_of, replaces}

@@ -1,7 +1,6 @@
 -- What calls run, in tables.
 use Rattle.std.specs.Prelude.{◌≡◌, ◌≤◌, ℕ, Bool, true, List, length, slice_get, Option, Some, None, IfSome}
 use Rattle.aom_image.specs.Image.{Image}
-use Rattle.aom_image.specs.Views.{method_at}
 use Rattle.aom_roles.specs.Families.{parent_of}
 use Rattle.aom_classes.specs.Overriding.{body_of, over_of, overrider_of}
 

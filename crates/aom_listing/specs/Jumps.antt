@@ -1,5 +1,5 @@
 -- The places to which a method's instructions jump.
-use Rattle.std.specs.Prelude.{◌≡◌, ◌<◌, ℕ, Bool, false, List, Option, Some, None, slice_index_or}
+use Rattle.std.specs.Prelude.{◌≡◌, ◌<◌, ℕ, Bool, false, List, Option, slice_index_or}
 use Rattle.std.specs.List.{list_any}
 use Rattle.aom_instructions.specs.Operands.{place_said}
 use Rattle.aom_instructions.specs.Table.{operands}

@@ -7,7 +7,7 @@ use Rattle.std.proofs.lemmas.Grind.{replicate_next}
 use Rattle.std.proofs.lemmas.List.{get_or_past, get_or-replicate, length-append, length-replicate, map-append}
 use Rattle.std.proofs.Math.ListN.{get_or-append}
 use Rattle.std.proofs.Math.Seq.{get_or-append_seam}
-use Rattle.aom_natives.specs.Owed.{Agrees, OweNothing}
+use Rattle.aom_natives.specs.Owed.{Agrees}
 use Rattle.aom_natives.specs.Slots.{living_at, ids_at, ids_of, AllAgree}
 use Rattle.aom_natives.proofs.Ids.{agrees-nothing}
 use Rattle.aom_natives.proofs.Lines.{take-full}

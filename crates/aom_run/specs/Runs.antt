@@ -1,5 +1,5 @@
 -- What a run of the machine tells of the checked machine. `reads` says how a line is written.
-use Rattle.std.specs.Prelude.{◌≡◌, ◌≢◌, ◌<◌, ◌≤◌, ◌+◌, ℕ, length, Bool, true, List, [], ◌++◌, Option, take, option_map}
+use Rattle.std.specs.Prelude.{◌≡◌, ◌≢◌, ◌<◌, ◌≤◌, ◌+◌, ℕ, length, Bool, true, List, [], ◌++◌, Option, take}
 use Rattle.aom_image.specs.Image.{Image}
 use Rattle.aom_semantics.specs.Places.{count_cells}
 use Rattle.aom_semantics.specs.Moves.{IsOpen, step, written}

@@ -1,5 +1,5 @@
 -- Needs: tests in the order in which they are looked at, each with the name of its failure.
-use Rattle.std.specs.Prelude.{ℕ, suc, Bool, true, false, cond, ◌≡◌, List, [], ◌∷◌, Result, Ok, Err}
+use Rattle.std.specs.Prelude.{ℕ, suc, Bool, cond, List, [], ◌∷◌, Result, Ok, Err}
 use Rattle.aom_shape.specs.Shape.{Shape}
 use Rattle.aom_shape.specs.declared.why.Why.{Why}
 

@@ -129,18 +129,9 @@ pub fn all_tell(rt: &impl Abort, alloc: Global, status: ExitStatus, cases: &[Cas
     }
 }
 
-/// The parts of a text, one behind the other.
-pub fn joined(alloc: Global, parts: &[&str]) -> Result<String, Fail> {
-    let mut text = String::new(alloc);
-    for part in parts {
-        text.push_str(part)?;
-    }
-    Ok(text)
-}
-
 /// The bytes of the image that a text in parts denotes.
 pub fn assembled(rt: &impl Abort, alloc: Global, parts: &[&str]) -> Result<Vec<u8>, Fail> {
-    let text = joined(alloc, parts)?;
+    let text = parts.concat(alloc)?;
     let mut image = BoundedPage::new(alloc, 1 << 12);
     let mut errors = BoundedPage::new(alloc, 100);
     let status = answer(

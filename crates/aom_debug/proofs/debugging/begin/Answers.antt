@@ -1,5 +1,5 @@
 -- The debugger is of as many natives as there are boxes; memory is wanting where the machine has booted.
-use Rattle.std.proofs.Common.{◌≡◌, length, subst, sym}
+use Rattle.std.proofs.Common.{◌≡◌, length, subst}
 use Rattle.std.proofs.lemmas.Result.{IfErr-weaker, IfOk-weaker}
 use Rattle.std.specs.Prelude.{IfOk}
 use Rattle.aom_run.specs.Calls.{natives_of}

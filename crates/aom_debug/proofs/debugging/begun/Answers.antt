@@ -1,6 +1,5 @@
 -- A machine that has booted is as fresh as its debugger.
 use Rattle.std.proofs.Common.{arith, ap, refl, ◌+◌}
-use Rattle.std.proofs.lemmas.Result.{IfOk-weaker}
 use Rattle.aom_image.specs.Image.{Image}
 use Rattle.aom_machine_state.specs.LineBuffer.{step_lines}
 use Rattle.aom_run.specs.Calls.{natives_of}

@@ -1,8 +1,5 @@
 -- One place after another from the bottom, until the one over so many others.
-use Rattle.std.proofs.Common.{◌∙◌, ◌≡◌, ℕ, Bool, add-one, ap, arith, cond, false, suc, sym, true, Some, None}
-use Rattle.aom_image.specs.Image.{Image}
-use Rattle.aom_machine_state.specs.Stands.{StandsFor}
-use Rattle.aom_semantics.specs.State.{State}
+use Rattle.std.proofs.Common.{◌∙◌, ◌≡◌, add-one, ap, arith, false, suc, sym, true}
 use Rattle.aom_debug_paths.proofs.DebugViewsLemmas.{counted_next}
 use Rattle.aom_debug_paths.specs.Paths.{is_such, length_of, numbered}
 use Rattle.aom_debug_paths.proofs.Numbering.{as_many, numbered_more, numbered_told}

@@ -4,7 +4,6 @@ use Rattle.std.proofs.lemmas.Result.{err_from_is_err_and}
 use Rattle.aom_clients.specs.Clients.{queue_at}
 use Rattle.aom_transcript.specs.Text.{ended}
 use Rattle.aom_semantics.specs.Places.{service_of}
-use Rattle.aom_semantics.specs.State.{State}
 use Rattle.aom_debug_words.specs.Answers.{answer_text}
 use Rattle.aom_debug_words.specs.declared.answer.Answer.{Answer}
 use Rattle.aom_debug_views.specs.Telling.{answers_text, gathered, listed}

@@ -1,6 +1,5 @@
 -- The names that are lent are those of the text.
-use Rattle.std.proofs.Common.{◌≡◌, ◌∙◌, ℕ, List, None, ap, ap₂, map, subst}
-use Rattle.std.specs.Borrow.{Bor}
+use Rattle.std.proofs.Common.{◌≡◌, ◌∙◌, ℕ, List, None, ap, ap₂, subst}
 use Rattle.aom_explain.specs.Declarations.{class_names, method_names}
 use Rattle.aom_figures.specs.Names.{Names}
 use Rattle.aom_commands.specs.Translations.{DrawsBy}

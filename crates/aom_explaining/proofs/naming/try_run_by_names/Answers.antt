@@ -1,6 +1,5 @@
 -- The names that are lent are those of the text.
-use Rattle.std.proofs.Common.{◌≡◌, ◌∙◌, ℕ, List, ap, length, map, subst}
-use Rattle.std.specs.Borrow.{Bor}
+use Rattle.std.proofs.Common.{◌≡◌, ◌∙◌, ap, length, subst}
 use Rattle.aom_explain.specs.Declarations.{class_names}
 use Rattle.aom_transcript.specs.Naming.{class_word, lent, named_text}
 use Rattle.aom_commands.specs.Headline.{RunAnswersBy}

@@ -1,5 +1,5 @@
 -- The rule is asked where there is an instruction and room, and answers as its clause says.
-use Rattle.std.proofs.Common.{◌≡◌, ◌∙◌, ◌<◌, Ok, Err, ap, arith, length}
+use Rattle.std.proofs.Common.{◌∙◌, Ok, Err, ap, arith}
 use Rattle.std.specs.Prelude.{not}
 use Rattle.aom_explaining.proofs.Knowing.{has_instr, has_no_instr, none_needs, rule_differs, too_many}
 use Rattle.aom_explaining.proofs.stopping.ways_differ.Goals as goal
