@@ -1,11 +1,12 @@
 -- Entries that are kept as nodes: what stands stays as nodes are added, and one node more is one entry more.
-use Rattle.std.proofs.Common.{◌≡◌, ℕ, zero, suc, ◌<◌, ◌-◌, ◌&&◌, List, [], ◌∷◌, ◌++◌, length, length-append, slice_get, Some, refl, ap, ◌∙◌, arith}
+use Rattle.std.proofs.Common.{◌≡◌, ℕ, zero, suc, ◌<◌, ◌-◌, ◌&&◌, true, List, [], ◌∷◌, ◌++◌, length, length-append, slice_get, Some, refl, ap, ◌∙◌, arith}
 use Rattle.aom_shape.specs.Entries.{readied_at, readied_entry, without_top}
 use Rattle.aom_shape.specs.Piles.{AllThere, Extends, Stands, entries_of, listed, node_at}
 use Rattle.aom_shape.specs.Tests.{same_entries, same_entry}
 use Rattle.aom_shape.specs.declared.kind.CleanupEntry.{CleanupEntry}
 use Rattle.aom_shape.specs.declared.piles.Node.{Node}
 use Rattle.aom_shape.specs.declared.piles.Pile.{Pile}
+use Rattle.aom_shape.proofs.Ordering.{entries_self}
 
 before_last : (nodes : List Node) (x : Node) (i : ℕ) → i < length nodes → node_at (nodes ++ x ∷ []) i ≡ node_at nodes i
 before_last [] x i h = absurd (omega arith)
@@ -78,6 +79,10 @@ pub same_below : (a b : List Node) (x y h : ℕ) → 0 < h → same_entries (lis
     ≡ (same_entry (node_at a x).entry (node_at b y).entry && same_entries (listed (h - 1) a (node_at a x).below) (listed (h - 1) b (node_at b y).below))
 same_below a b x y zero some = absurd (omega arith)
 same_below a b x y (suc h) some = let e : suc h - 1 ≡ h = omega arith in rw e refl
+
+-- from one node on all is the same
+pub same_from : (n : ℕ) (a b : List Node) (x y : ℕ) → a ≡ b → x ≡ y → same_entries (listed n a x) (listed n b y) ≡ true
+same_from n a b x y e f = rw (e, f) (entries_self (listed n b y))
 
 pub none_below : (nodes : List Node) (top h : ℕ) → 0 < h → listed (h - 1) nodes (node_at nodes top).below ≡ without_top (listed h nodes top)
 none_below nodes top zero some = absurd (omega arith)

@@ -20,7 +20,7 @@ pub use flow::{Change, Flow, Last, Next, Way, judge, judge_all, only_if};
 pub use kind::{Age, CleanupEntry, Delivery, Filling, Kind};
 pub use known::Known;
 pub use laws::order_is_one;
-pub use order::{meet, weaker};
+pub use order::{meet, meet_kept, weaker, weaker_kept};
 pub use piles::{Pile, Piles};
 pub use shape::{Kept, Shape};
 pub use things::{is_object, same_thing};

@@ -1,13 +1,14 @@
 //! The order between abstract states.
 ghost use Rattle.std.specs.Prelude.{◌≡◌, ◌<◌, ◌&&◌, ◌↔◌, List, IsTrue, IfOk, IfErr, IfSome, None};
 ghost use Rattle.aom_image.specs.Views.{has};
-ghost use Rattle.aom_shape.specs.Changes.{known_with};
+ghost use Rattle.aom_shape.specs.Changes.{kept_shape, known_with};
+ghost use Rattle.aom_shape.specs.Piles.{entries_of};
 ghost use Rattle.aom_shape.specs.Meet.{Met, Unmet, MetFillings, IsMeet, NoMeet, WhyNoMeet};
 ghost use Rattle.aom_shape.specs.Order.{SaysNoMore};
 ghost use Rattle.aom_shape.specs.Tests.{all_no_more, all_no_more_fillings, same_delivery};
 ghost use Rattle.aom_shape.specs.declared.kind.CleanupEntry.{CleanupEntry};
 
-use crate::{Filling, Kind, Known, Shape, Why};
+use crate::{Filling, Kept, Kind, Known, Piles, Shape, Why};
 use bitflags::Flags;
 
 fn kinds_say_no_more(a: &[Kind], b: &[Kind]) -> bool
@@ -48,14 +49,25 @@ fn known_says_no_more(a: &Known, b: &Known) -> bool
     kinds_say_no_more(&a.registers, &b.registers) && fillings_say_no_more(&a.fields, &b.fields)
 }
 
+/// Whether a state says no more than another, by whether their cleanup entries are the same.
+fn weaker_if(has_same_entries: bool, a: &Known, b: &Known) -> bool
+    ensures { (xs ys : List CleanupEntry) → (IsTrue has_same_entries ↔ (xs ≡ ys)) → IsTrue result ↔ SaysNoMore (known_with a.now xs) (known_with b.now ys) }
+{
+    has_same_entries && known_says_no_more(a, b)
+}
+
 /// Whether the first state says no more than the second.
 pub fn weaker(a: &Shape<'_>, b: &Shape<'_>) -> bool
     ensures { IsTrue result ↔ SaysNoMore a.now b.now }
 {
-    if !a.has_same_entries(b) {
-        return false;
-    }
-    known_says_no_more(&a.known, &b.known)
+    weaker_if(a.has_same_entries(b), &a.known, &b.known)
+}
+
+/// The same of two states whose cleanup entries stand in one place.
+pub fn weaker_kept(piles: &Piles, a: &Kept, b: &Kept) -> bool
+    ensures { IsTrue result ↔ SaysNoMore (kept_shape piles.now a.now) (kept_shape piles.now b.now) }
+{
+    weaker_if(piles.are_same(a.pile, b.pile), &a.known, &b.known)
 }
 
 fn meet_kinds(a: &[Kind; 16], b: &[Kind; 16]) -> Option<[Kind; 16]>
@@ -98,6 +110,24 @@ fn meet_known(a: &Known, b: &Known) -> Option<Known>
     })
 }
 
+/// What is known in the strongest state that says no more than either, by whether their cleanup entries are the same.
+fn meet_if(has_same_entries: bool, a: &Known, b: &Known) -> Result<Known, Why>
+    ensures ok { (xs ys : List CleanupEntry) → (IsTrue has_same_entries ↔ (xs ≡ ys)) → IfOk result (λ m. IsMeet (known_with m xs) (known_with a.now xs) (known_with b.now ys)) }
+    ensures byte { IfOk result (λ m. m.states < 256) }
+    ensures err { (xs ys : List CleanupEntry) → (IsTrue has_same_entries ↔ (xs ≡ ys)) → IfErr result (λ why. NoMeet (known_with a.now xs) (known_with b.now ys) × WhyNoMeet (known_with a.now xs) (known_with b.now ys) why) }
+{
+    let Some(known) = meet_known(a, b) else {
+        return Err(Why::RegisterKind);
+    };
+    if !has_same_entries {
+        return Err(Why::CleanupAtReturn);
+    }
+    if !a.delivery.is_same(b.delivery) {
+        return Err(Why::MessageAtReturn);
+    }
+    Ok(known)
+}
+
 /// The strongest state that says no more than either. A Why where nothing says no more than both: `RegisterKind` where
 /// two registers have nothing in common, else `CleanupAtReturn` where the cleanup entries differ, and else `MessageAtReturn`,
 /// where the message is here in one and gone in the other.
@@ -106,14 +136,17 @@ pub fn meet<'a>(a: &Shape<'a>, b: &Shape<'_>) -> Result<Shape<'a>, Why>
     ensures byte { IfOk result (λ m. m.states < 256) }
     ensures err { IfErr result (λ why. NoMeet a.now b.now × WhyNoMeet a.now b.now why) }
 {
-    let Some(known) = meet_known(&a.known, &b.known) else {
-        return Err(Why::RegisterKind);
-    };
-    if !a.has_same_entries(b) {
-        return Err(Why::CleanupAtReturn);
+    match meet_if(a.has_same_entries(b), &a.known, &b.known) {
+        Ok(known) => Ok(a.with_known(known)),
+        Err(why) => Err(why),
     }
-    if !a.delivery().is_same(b.delivery()) {
-        return Err(Why::MessageAtReturn);
-    }
-    Ok(a.with_known(known))
+}
+
+/// The same of two states whose cleanup entries stand in one place: what is known in the meet. Its entries are those of the first.
+pub fn meet_kept(piles: &Piles, a: &Kept, b: &Kept) -> Result<Known, Why>
+    ensures ok { IfOk result (λ m. IsMeet (known_with m (entries_of piles.now a.now.pile)) (kept_shape piles.now a.now) (kept_shape piles.now b.now)) }
+    ensures byte { IfOk result (λ m. m.states < 256) }
+    ensures err { IfErr result (λ why. NoMeet (kept_shape piles.now a.now) (kept_shape piles.now b.now) × WhyNoMeet (kept_shape piles.now a.now) (kept_shape piles.now b.now) why) }
+{
+    meet_if(piles.are_same(a.pile, b.pile), &a.known, &b.known)
 }

@@ -70,6 +70,13 @@ impl Piles {
         self.nodes.as_slice()
     }
 
+    /// Whether two piles have the same entries.
+    pub fn are_same(&self, one: Pile, other: Pile) -> bool
+        ensures { IsTrue result ↔ (entries_of self.now one ≡ entries_of self.now other) }
+    {
+        are_same(&self.nodes, one, &self.nodes, other, true)
+    }
+
     /// The pile with one more entry.
     fn push(&mut self, pile: Pile, entry: CleanupEntry) -> Result<Pile, AllocError>
         requires stands { Stands self.old pile }
@@ -194,15 +201,20 @@ pub fn entry_at(nodes: &[Node], pile: Pile, number: usize) -> Option<CleanupEntr
     entry_at(nodes, below, number - 1)
 }
 
-/// Whether two piles of one height have the same entries.
-fn are_same_down(a: &[Node], one: Pile, b: &[Node], other: Pile) -> bool
-    requires { one.height ≡ other.height }
+/// Whether two piles of one height have the same entries. Where they share their nodes, they have the same ones from a node
+/// on that is in both.
+fn are_same_down(a: &[Node], one: Pile, b: &[Node], other: Pile, is_shared: bool) -> bool
+    requires height { one.height ≡ other.height }
+    requires shared { IsTrue is_shared → a.now ≡ b.now }
     ensures { result ≡ same_entries (entries_of a.now one) (entries_of b.now other) }
 {
     let mut first = one.top;
     let mut second = other.top;
     let mut left = one.height;
     while left > 0 {
+        if is_shared && first == second {
+            return true;
+        }
         let upper = node_at(a, first);
         let lower = node_at(b, second);
         if !upper.entry.is_same(lower.entry) {
@@ -215,11 +227,13 @@ fn are_same_down(a: &[Node], one: Pile, b: &[Node], other: Pile) -> bool
     true
 }
 
-pub fn are_same(a: &[Node], one: Pile, b: &[Node], other: Pile) -> bool
+/// Whether two piles have the same entries. They may share their nodes.
+pub fn are_same(a: &[Node], one: Pile, b: &[Node], other: Pile, is_shared: bool) -> bool
+    requires { IsTrue is_shared → a.now ≡ b.now }
     ensures { IsTrue result ↔ (entries_of a.now one ≡ entries_of b.now other) }
 {
     if one.height != other.height {
         return false;
     }
-    are_same_down(a, one, b, other)
+    are_same_down(a, one, b, other, is_shared)
 }

@@ -219,6 +219,6 @@ impl<'a> Shape<'a> {
     pub fn has_same_entries(&self, other: &Shape<'_>) -> bool
         ensures { IsTrue result ↔ (self.now.entries ≡ other.now.entries) }
     {
-        are_same(self.nodes, self.pile, other.nodes, other.pile)
+        are_same(self.nodes, self.pile, other.nodes, other.pile, false)
     }
 }

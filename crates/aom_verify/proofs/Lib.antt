@@ -7,6 +7,7 @@ mod Keeping
 mod Following
 mod Ways
 mod Visiting
+mod Working
 mod Sweeping
 mod Stopping
 mod Places

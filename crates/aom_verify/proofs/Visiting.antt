@@ -84,7 +84,7 @@ pub told_join : (p : Image) (m : ℕ) (s new : Shapes) (pc place : ℕ) (sh : Sh
     Flows p m pc sh ways → JoinFails s new ways place why → StatesFail p m s new place why
 told_join p m s new pc place sh ways why e h fails = λ all. fails p m all (ways_arrive p m s pc sh ways e h all)
 
-applies_after : (p : Image) (m : ℕ) (s new : Shapes) (pc : ℕ) (sh : Shape) (ways : List Flow) → at None s pc ≡ Some sh →
+pub applies_after : (p : Image) (m : ℕ) (s new : Shapes) (pc : ℕ) (sh : Shape) (ways : List Flow) → at None s pc ≡ Some sh →
     Flows p m pc sh ways → AllMet new ways → at None new pc ≡ at None s pc → AppliesAt p m new pc
 applies_after p m s new pc sh ways e h met same = λ x f.
     let alike : sh ≡ x = let g = rw same at f in cc in

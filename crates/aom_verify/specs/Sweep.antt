@@ -76,6 +76,14 @@ pub record Keeps (p : Image) (m : ℕ) (old new : Shapes) : Type 0 where
 abbrev pub AppliesAt : Image → ℕ → Shapes → ℕ → Type 0
 AppliesAt p m s pc = (sh : Shape) → at None s pc ≡ Some sh → Applies p m s pc sh
 
+-- the rule applies at each place that is not stale
+pub record AreWorked (p : Image) (m : ℕ) (s : Shapes) (stale : List Bool) : Type 0 where
+  pub each : (pc : ℕ) → at true stale pc ≡ false → AppliesAt p m s pc
+
+-- a place that is not stale after a step was not before, and its state is as it was
+pub record Marks (old new : Shapes) (before after : List Bool) : Type 0 where
+  pub each : (pc : ℕ) → at true after pc ≡ false → (at true before pc ≡ false) × (at None new pc ≡ at None old pc)
+
 -- all states but that of a place are as they were
 abbrev pub SameBut : ℕ → Shapes → Shapes → Type 0
 SameBut to old new = (pc : ℕ) → pc ≢ to → at None new pc ≡ at None old pc

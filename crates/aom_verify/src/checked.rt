@@ -114,7 +114,7 @@ fn sheet_of(alloc: Global, linked: &Linked, method: MethodNumber) -> Result<Shee
 {
     let entry = Known::entry(linked, method);
     let mut sheet = Sheet::new(alloc, place_count(linked, method), entry)?;
-    match sheet.settle(linked, method) {
+    match sheet.settle(alloc, linked, method) {
         Ok(()) => Ok(sheet),
         Err(fault) => Err(fault.refusal(method)),
     }

@@ -10,6 +10,7 @@ mod change;
 mod checked;
 mod refusal;
 mod sheet;
+mod stale;
 mod states;
 mod stop;
 mod view;

@@ -60,11 +60,16 @@ impl Sheet {
     }
 
     /// Sweeps until one changes nothing.
-    pub(crate) fn settle(&mut self, linked: &Linked, method: MethodNumber) -> Result<(), SweepFault>
+    pub(crate) fn settle(
+        &mut self,
+        alloc: Global,
+        linked: &Linked,
+        method: MethodNumber,
+    ) -> Result<(), SweepFault>
         requires { Spans linked.now method self.old }
         ensures ok { IfOk result (λ _. Settles linked.now method self.old self.new) }
         ensures err { IfErr result (λ fault. Stops linked.now method self.old self.new fault) }
     {
-        self.states.settle(linked, method)
+        self.states.settle(alloc, linked, method)
     }
 }

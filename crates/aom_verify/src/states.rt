@@ -10,16 +10,18 @@ ghost use Rattle.aom_roles.specs.Tables.{at};
 ghost use Rattle.aom_verify.specs.Entries.{IsFew, AllFew, HasRoom};
 ghost use Rattle.aom_verify.specs.Faults.{JoinStops, Stops, refusal_of};
 ghost use Rattle.aom_verify.specs.States.{Lowers, shape_of, shapes};
-ghost use Rattle.aom_verify.specs.Sweep.{Spans, AllWithin, Joins, Flows, Fails, IsAhead, SameBut, WithinMethod, Visits, Sweeps, SweepsOn, Settles};
+ghost use Rattle.aom_verify.specs.Sweep.{AreWorked, Marks, Spans, AllWithin, Joins, Flows, Fails, IsAhead, SameBut, WithinMethod, Visits, Sweeps, SweepsOn, Settles};
 
 use crate::Refusal;
 use crate::change::{StatesChange, Step};
+use crate::stale::Stale;
 use crate::view::ShapeView;
 use aom_image::MethodNumber;
 use aom_linked::Linked;
 use aom_ruling::rule;
 use aom_shape::{
-    Change as EntriesChange, Flow, Kept, Known, Pile, Piles, Shape, Way, Why, meet, weaker,
+    Change as EntriesChange, Flow, Kept, Known, Pile, Piles, Shape, Way, Why, meet_kept,
+    weaker_kept,
 };
 use std::alloc::{AllocError, Global};
 use std::marker::Model;
@@ -158,8 +160,10 @@ impl PlaceStates {
     }
 
     /// The same of a way, if there is one, by a sweep that has come to that place.
+    #[inline(always)]
     fn join_perhaps(
         &mut self,
+        stale: &mut Stale,
         way: &Option<Way>,
         pile: Pile,
         seen: usize,
@@ -168,7 +172,7 @@ impl PlaceStates {
         requires few { AllFew (shapes self.old) (leads_to (entries_of self.old.nodes pile) way.now) }
         requires stands { Stands self.old.nodes pile }
         ensures nodes { self.new.nodes ≡ self.old.nodes }
-        ensures ok { IfOk result (λ step. Joins (shapes self.old) (shapes self.new) (leads_to (entries_of self.old.nodes pile) way.now) step.change × IsAhead seen (shapes self.old) (shapes self.new) step) }
+        ensures ok { IfOk result (λ step. Joins (shapes self.old) (shapes self.new) (leads_to (entries_of self.old.nodes pile) way.now) step.change × IsAhead seen (shapes self.old) (shapes self.new) step × Marks (shapes self.old) (shapes self.new) stale.old stale.new) }
         ensures err { IfErr result (λ fault. JoinStops (shapes self.old) (shapes self.new) (leads_to (entries_of self.old.nodes pile) way.now) fault) }
     {
         match way {
@@ -176,54 +180,74 @@ impl PlaceStates {
             Some(way) => {
                 let known = way.known;
                 let change = self.join(way.to, Kept { known, pile })?;
+                stale.mark(way.to, change);
                 Ok(Step::at(way.to, seen, change))
             }
         }
     }
 
-    fn join_all(&mut self, flow: &Flow, pile: Pile, seen: usize) -> Result<Step, SweepFault>
+    fn join_all(
+        &mut self,
+        stale: &mut Stale,
+        flow: &Flow,
+        pile: Pile,
+        seen: usize,
+    ) -> Result<Step, SweepFault>
         requires within { AllWithin (length (shapes self.old)) (leads_both (entries_of self.old.nodes pile) flow.now) }
         requires few { AllFew (shapes self.old) (leads_both (entries_of self.old.nodes pile) flow.now) }
         requires stands { Stands self.old.nodes pile }
-        ensures ok { IfOk result (λ step. Joins (shapes self.old) (shapes self.new) (leads_both (entries_of self.old.nodes pile) flow.now) step.change × IsAhead seen (shapes self.old) (shapes self.new) step) }
+        ensures ok { IfOk result (λ step. Joins (shapes self.old) (shapes self.new) (leads_both (entries_of self.old.nodes pile) flow.now) step.change × IsAhead seen (shapes self.old) (shapes self.new) step × Marks (shapes self.old) (shapes self.new) stale.old stale.new) }
         ensures err { IfErr result (λ fault. JoinStops (shapes self.old) (shapes self.new) (leads_both (entries_of self.old.nodes pile) flow.now) fault) }
     {
-        let first = self.join_perhaps(&flow.first, pile, seen)?;
-        let second = self.join_perhaps(&flow.second, pile, seen)?;
+        let first = self.join_perhaps(stale, &flow.first, pile, seen)?;
+        let second = self.join_perhaps(stale, &flow.second, pile, seen)?;
         Ok(first.then(second))
     }
 
     /// Meets the flows of a state with these entries into their targets, the lower target first.
-    fn follow(&mut self, pile: Pile, flow: &Flow, seen: usize) -> Result<Step, SweepFault>
+    fn follow(
+        &mut self,
+        stale: &mut Stale,
+        pile: Pile,
+        flow: &Flow,
+        seen: usize,
+    ) -> Result<Step, SweepFault>
         requires within { AllWithin (length (shapes self.old)) (ways_from (entries_of self.old.nodes pile) flow.now) }
         requires few { AllFew (shapes self.old) (ways_from (entries_of self.old.nodes pile) flow.now) }
         requires stands { Stands self.old.nodes pile }
         requires room { length (entries_of self.old.nodes pile) < 1024 }
-        ensures ok { IfOk result (λ step. Joins (shapes self.old) (shapes self.new) (ways_from (entries_of self.old.nodes pile) flow.now) step.change × IsAhead seen (shapes self.old) (shapes self.new) step) }
+        ensures ok { IfOk result (λ step. Joins (shapes self.old) (shapes self.new) (ways_from (entries_of self.old.nodes pile) flow.now) step.change × IsAhead seen (shapes self.old) (shapes self.new) step × Marks (shapes self.old) (shapes self.new) stale.old stale.new) }
         ensures err { IfErr result (λ fault. JoinStops (shapes self.old) (shapes self.new) (ways_from (entries_of self.old.nodes pile) flow.now) fault) }
     {
         let after = self.changed(pile, flow.change)?;
-        self.join_all(flow, after, seen)
+        self.join_all(stale, flow, after, seen)
     }
 
-    /// Applies the rule at a place, if it is reached, and meets its flows into their targets, the lower target first.
+    /// Applies the rule at a place, if it is reached, and meets its flows into their targets, the lower target first. Nothing is
+    /// to be done at a place whose state has not changed since.
     fn visit(
         &mut self,
+        stale: &mut Stale,
         linked: &Linked,
         method: MethodNumber,
         place: usize,
     ) -> Result<Step, SweepFault>
         requires spans { Spans linked.now method (shapes self.old) }
         requires place { place < length (shapes self.old) }
+        requires worked { AreWorked linked.now method (shapes self.old) stale.old }
         ensures ok { IfOk result (λ step. Visits linked.now method (shapes self.old) (shapes self.new) place step) }
+        ensures worked { IfOk result (λ _. AreWorked linked.now method (shapes self.new) stale.new) }
         ensures err { IfErr result (λ fault. Stops linked.now method (shapes self.old) (shapes self.new) fault) }
     {
+        if !stale.take(place) {
+            return Ok(Step::nothing());
+        }
         match self.kept_at(place) {
             None => Ok(Step::nothing()),
             Some(kept) => {
                 let ruled = flow_of(linked, method, place, &kept.shape(&self.piles));
                 match &ruled {
-                    Ok(flow) => self.follow(kept.pile, flow, place),
+                    Ok(flow) => self.follow(stale, kept.pile, flow, place),
                     Err(why) => Err(SweepFault::At { place, why: *why }),
                 }
             }
@@ -240,26 +264,40 @@ impl PlaceStates {
     }
 
     /// Visits each place in order.
-    fn sweep(&mut self, linked: &Linked, method: MethodNumber) -> Result<Step, SweepFault>
-        requires { Spans linked.now method (shapes self.old) }
+    fn sweep(
+        &mut self,
+        stale: &mut Stale,
+        linked: &Linked,
+        method: MethodNumber,
+    ) -> Result<Step, SweepFault>
+        requires spans { Spans linked.now method (shapes self.old) }
+        requires worked { AreWorked linked.now method (shapes self.old) stale.old }
         ensures ok { IfOk result (λ step. Sweeps linked.now method (shapes self.old) (shapes self.new) (length (shapes self.old)) step) }
+        ensures worked { IfOk result (λ _. AreWorked linked.now method (shapes self.new) stale.new) }
         ensures err { IfErr result (λ fault. Stops linked.now method (shapes self.old) (shapes self.new) fault) }
     {
         let mut step = Step::nothing();
         for place in 0..self.len() {
-            step = step.then(self.visit(linked, method, place)?);
+            step = step.then(self.visit(stale, linked, method, place)?);
         }
         Ok(step)
     }
 
     /// Sweeps until one reaches a place, or changes nothing at a place that it has come to. Whether another has to follow.
-    fn sweep_on(&mut self, linked: &Linked, method: MethodNumber) -> Result<bool, SweepFault>
-        requires { Spans linked.now method (shapes self.old) }
+    fn sweep_on(
+        &mut self,
+        stale: &mut Stale,
+        linked: &Linked,
+        method: MethodNumber,
+    ) -> Result<bool, SweepFault>
+        requires spans { Spans linked.now method (shapes self.old) }
+        requires worked { AreWorked linked.now method (shapes self.old) stale.old }
         ensures ok { IfOk result (λ reached. SweepsOn linked.now method (shapes self.old) (shapes self.new) reached) }
+        ensures worked { IfOk result (λ _. AreWorked linked.now method (shapes self.new) stale.new) }
         ensures err { IfErr result (λ fault. Stops linked.now method (shapes self.old) (shapes self.new) fault) }
     {
         loop {
-            let step = self.sweep(linked, method)?;
+            let step = self.sweep(stale, linked, method)?;
             if !step.is_behind {
                 return Ok(false);
             }
@@ -272,12 +310,18 @@ impl PlaceStates {
     }
 
     /// Sweeps until one leaves nothing to do.
-    pub(crate) fn settle(&mut self, linked: &Linked, method: MethodNumber) -> Result<(), SweepFault>
+    pub(crate) fn settle(
+        &mut self,
+        alloc: Global,
+        linked: &Linked,
+        method: MethodNumber,
+    ) -> Result<(), SweepFault>
         requires { Spans linked.now method (shapes self.old) }
         ensures ok { IfOk result (λ _. Settles linked.now method (shapes self.old) (shapes self.new)) }
         ensures err { IfErr result (λ fault. Stops linked.now method (shapes self.old) (shapes self.new) fault) }
     {
-        while self.sweep_on(linked, method)? {}
+        let mut stale = Stale::all(alloc, self.len())?;
+        while self.sweep_on(&mut stale, linked, method)? {}
         Ok(())
     }
 }
@@ -307,13 +351,11 @@ fn lowered(piles: &Piles, there: &Kept, new: &Kept) -> Result<Option<Known>, Why
     ensures ok { IfOk result (λ less. Lowers piles.now there.now new.now less) }
     ensures err { IfErr result (λ why. NoMeet (kept_shape piles.now there.now) (kept_shape piles.now new.now) × WhyNoMeet (kept_shape piles.now there.now) (kept_shape piles.now new.now) why) }
 {
-    let before = there.shape(piles);
-    let after = new.shape(piles);
-    if weaker(&before, &after) {
+    if weaker_kept(piles, there, new) {
         return Ok(None);
     }
-    match meet(&before, &after) {
-        Ok(less) => Ok(Some(less.known())),
+    match meet_kept(piles, there, new) {
+        Ok(less) => Ok(Some(less)),
         Err(why) => Err(why),
     }
 }

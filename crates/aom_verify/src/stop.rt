@@ -32,7 +32,7 @@ pub fn stop_of(
 {
     let entry = Known::entry(linked, method);
     let mut sheet = Sheet::new(alloc, place_count(linked, method), entry)?;
-    match sheet.settle(linked, method) {
+    match sheet.settle(alloc, linked, method) {
         Ok(()) => Ok(None),
         Err(SweepFault::OutOfMemory) => Err(AllocError),
         Err(SweepFault::At { place, why }) => Ok(Some(Stop { sheet, place, why })),

@@ -5,6 +5,7 @@ use Rattle.aom_verify.proofs.Ahead.{then_ahead}
 use Rattle.aom_verify.proofs.Joining.{joins_add, within_first}
 use Rattle.aom_verify.proofs.Stopping.{stops_first, stops_last}
 use Rattle.aom_verify.proofs.Few.{few_ways_first}
+use Rattle.aom_verify.proofs.Working.{marks_along}
 use Rattle.aom_verify.proofs.states.PlaceStates.join_all.Goals as goal
 
 pub returns-in_err-first-clause-err : goal.returns-in_err-first-clause-err
@@ -23,7 +24,7 @@ pub returns-clause-ok : goal.returns-clause-ok
 returns-clause-ok c =
     let first = rw c.in_ok-first.ensures.nodes at c.in_ok-first.ensures.ok.0 in
     let second = rw c.in_ok-first.ensures.nodes at c.in_ok-second.ensures.ok.0 in
-    rw c.then.ensures (joins_add _ _ _ _ _ _ _ first second, then_ahead _ _ _ _ _ _ c.in_ok-first.ensures.ok.1 c.in_ok-second.ensures.ok.1)
+    rw c.then.ensures (joins_add _ _ _ _ _ _ _ first second, then_ahead _ _ _ _ _ _ c.in_ok-first.ensures.ok.1 c.in_ok-second.ensures.ok.1, marks_along _ _ _ _ _ _ c.in_ok-first.ensures.ok.2 c.in_ok-second.ensures.ok.2)
 
 pub join_perhaps-requires-clause-within : goal.join_perhaps-requires-clause-within
 join_perhaps-requires-clause-within c = within_first _ _ _ c.requires.within

@@ -1,11 +1,12 @@
 -- Where there is no way nothing changes, and else no other place does.
 use Rattle.aom_verify.proofs.Ahead.{nothing_ahead, joined_at}
 use Rattle.aom_verify.proofs.Joining.{joins_self}
+use Rattle.aom_verify.proofs.Working.{marks_one, marks_self}
 use Rattle.std.proofs.lemmas.Result.{err_from_is_err_and}
 use Rattle.aom_verify.proofs.states.PlaceStates.join_perhaps.Goals as goal
 
 pub returns-in-None-clause-ok : goal.returns-in-None-clause-ok
-returns-in-None-clause-ok c = rw (c.in-None.is, c.nothing.ensures) (joins_self _, nothing_ahead c.args.seen _)
+returns-in-None-clause-ok c = rw (c.in-None.is, c.nothing.ensures) (joins_self _, nothing_ahead c.args.seen _, marks_self _ _)
 
 pub join-requires-clause-within : goal.join-requires-clause-within
 join-requires-clause-within c = (rw c.in-Some.is at c.requires.within).0
@@ -30,4 +31,5 @@ returns-in_ok-change-in-Some-clause-nodes c = c.in_ok-change-in-Some.ensures.nod
 pub returns-in_ok-change-in-Some-clause-ok : goal.returns-in_ok-change-in-Some-clause-ok
 returns-in_ok-change-in-Some-clause-ok c =
     let now = c.in_ok-change-in-Some.ensures in
-    rw c.in-Some.is (joined_at _ _ _ _ _ _ _ now.ok now.others c.at.ensures.change c.at.ensures.ahead c.at.ensures.nothing)
+    let joined = joined_at _ _ _ _ _ _ _ now.ok now.others c.at.ensures.change c.at.ensures.ahead c.at.ensures.nothing in
+    rw c.in-Some.is (joined.0, joined.1, marks_one _ _ _ _ _ _ now.ok.changed now.others c.mark.ensures)

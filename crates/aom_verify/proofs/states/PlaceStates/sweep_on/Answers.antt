@@ -7,12 +7,16 @@ use Rattle.aom_verify.proofs.Sweeping.{keeps_self, keeps_along, spans_kept}
 use Rattle.aom_verify.proofs.states.PlaceStates.sweep_on.Goals as goal
 
 pub loop-step-init : goal.loop-step-init
-loop-step-init c = record { keeps = keeps_self _ _ _; same = refl }
+loop-step-init c = record { keeps = keeps_self _ _ _; worked = c.requires.worked; same = refl }
 
 pub loop-step-preserved : goal.loop-step-preserved
 loop-step-preserved c =
     let swept = rw c.in-Fell.is at c.in_ok-step.ensures.ok in
-    record { keeps = keeps_along _ _ _ _ _ c.loop-step.invariant.keeps swept.keeps; same = swept.changed.0 ∙ c.loop-step.invariant.same }
+    record {
+      keeps = keeps_along _ _ _ _ _ c.loop-step.invariant.keeps swept.keeps;
+      worked = c.in_ok-step.ensures.worked;
+      same = swept.changed.0 ∙ c.loop-step.invariant.same;
+    }
 
 pub returns-in-Reached-clause-ok : goal.returns-in-Reached-clause-ok
 returns-in-Reached-clause-ok c =
@@ -33,8 +37,8 @@ returns-in_err-step-clause-err c =
     let p = err_from_is_err_and c.from_residual.result c.from_residual.ensures.1 in
     rw (p.1, p.2) (stops_before _ _ _ _ _ _ c.loop-step.invariant.keeps c.in_err-step.ensures.err)
 
-pub sweep-requires : goal.sweep-requires
-sweep-requires c = spans_kept _ _ _ _ c.requires c.loop-step.invariant.keeps.size
+pub sweep-requires-clause-spans : goal.sweep-requires-clause-spans
+sweep-requires-clause-spans c = spans_kept _ _ _ _ c.requires.spans c.loop-step.invariant.keeps.size
 
 pub loop-step-smaller : goal.loop-step-smaller
 loop-step-smaller c = (rw c.in-Fell.is at c.in_ok-step.ensures.ok).changed.1

@@ -1,12 +1,13 @@
 -- A place that is not reached, a rule that fails, and flows that are joined.
-use Rattle.std.proofs.Common.{◌≡◌, sym}
+use Rattle.std.proofs.Common.{◌≡◌, sym, rules}
 use Rattle.std.proofs.lemmas.Result.{IfOk-weaker, IfErr-weaker}
 use Rattle.aom_shape.specs.Changes.{kept_shape}
 use Rattle.aom_verify.specs.Entries.{HasFewEntries}
 use Rattle.aom_verify.specs.States.{shapes}
 use Rattle.aom_verify.proofs.Few.{room, ways_few}
 use Rattle.aom_verify.proofs.Stopping.{stops_rule, stops_visit}
-use Rattle.aom_verify.proofs.Visiting.{has_instr, visited, visited_none, within_shapes}
+use Rattle.aom_verify.proofs.Visiting.{applies_after, has_instr, visited, visited_none, within_shapes}
+use Rattle.aom_verify.proofs.Working.{passed_over, worked_before, worked_more, worked_none}
 use Rattle.aom_verify.proofs.states.PlaceStates.visit.Goals as goal
 
 pub flow_of-ruled-requires-clause-instr : goal.flow_of-ruled-requires-clause-instr
@@ -30,7 +31,7 @@ pub follow-requires-clause-stands : goal.follow-requires-clause-stands
 follow-requires-clause-stands c = rw c.in-Some.is at c.kept_at.ensures.stands
 
 pub returns-in-None-clause-ok : goal.returns-in-None-clause-ok
-returns-in-None-clause-ok c = rw c.nothing.ensures (visited_none _ _ _ _ (sym (rw c.in-None.is at c.kept_at.ensures.shape)))
+returns-in-None-clause-ok c = rw c.nothing-in-None.ensures (visited_none _ _ _ _ (sym (rw c.in-None.is at c.kept_at.ensures.shape)))
 
 pub returns-in-Ok-clause-ok : goal.returns-in-Ok-clause-ok
 returns-in-Ok-clause-ok c =
@@ -58,3 +59,20 @@ follow-requires-clause-within c = within_shapes _ _ _ _ c.requires.spans (rw (�
 
 pub follow-requires-clause-room : goal.follow-requires-clause-room
 follow-requires-clause-room c = rw (← c.self.view_is) (rw c.shape.ensures at c.flow_of-ruled.ensures.room)
+
+pub returns-then-not-take-clause-ok : goal.returns-then-not-take-clause-ok
+returns-then-not-take-clause-ok c = rw c.nothing.ensures (passed_over _ _ _ _ _ _ c.requires.worked c.take.ensures.was (search rules))
+
+pub returns-then-not-take-clause-worked : goal.returns-then-not-take-clause-worked
+returns-then-not-take-clause-worked c = worked_before _ _ _ _ _ _ _ c.requires.worked c.take.ensures.was (search rules) c.take.ensures.others
+
+pub returns-in-None-clause-worked : goal.returns-in-None-clause-worked
+returns-in-None-clause-worked c = worked_none _ _ _ _ _ _ c.requires.worked (sym (rw c.in-None.is at c.kept_at.ensures.shape)) c.take.ensures.others
+
+pub returns-in-Ok-clause-worked : goal.returns-in-Ok-clause-worked
+returns-in-Ok-clause-worked c =
+    let here = sym (rw c.in-Some.is at c.kept_at.ensures.shape) in
+    let shown : c.shape.result ≡ kept_shape c.args.self.now.nodes c.in-Some.kept = rw (← c.self.view_is) c.shape.ensures in
+    let flows = rw (c.in-Ok.is, shown) at c.flow_of-ruled.ensures.ok in
+    IfOk-weaker c.follow.result _ _ (λ step h. worked_more _ _ _ _ _ _ _ _ c.requires.worked c.take.ensures.others h.2 h.0.below_old
+    (applies_after _ _ _ _ _ _ _ here flows h.0.met)) c.follow.ensures.ok
